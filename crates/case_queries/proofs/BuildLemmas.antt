@@ -30,10 +30,10 @@ use Rattle.seen_memory.specs.Parts.{IsPartOf}
 use Rattle.seen_memory.specs.declared.part.Part as seen
 use Rattle.case_queries.specs.Asking.{for_builds}
 use Rattle.case_queries.specs.Finding.{ShowsFound, found_reply}
-use Rattle.case_queries.specs.FrontIds.{FindsIds, GathersOn, HasEarlier, ReadsId}
+use Rattle.case_queries.specs.FrontIds.{FindsIds, GathersOn, ReadsId}
 use Rattle.case_queries.specs.Fronts.{HasSize, IsSoundFront, ReadsFront}
 use Rattle.case_queries.specs.PieceWords.{lent_view}
-use Rattle.case_queries.specs.Pieces.{BeginsWith, SeesMore, SeesPieces, piece_view}
+use Rattle.case_queries.specs.Pieces.{BeginsWith, HasMore, SeesMore, SeesPieces, piece_view}
 use Rattle.case_queries.specs.declared.walk.CaseImage.{CaseImage}
 use Rattle.case_queries.specs.declared.walk.WalkFault.{WalkFault}
 use Rattle.case_queries.specs.declared.walk.WalkFault.TheVariants.{OutOfMemory, Unread}
@@ -51,8 +51,17 @@ gathers_on o ps qs start count old new (Err (gather_fault.Unread u)) is (stays, 
 gathers_on o ps qs start count old new (Err gather_fault.OutOfMemory) is gathers = tt
 
 -- what was read of a core stays there once more is read
-pub begins_still : (o : CaseImage) (ps qs : List Part) (image : List ℕ) → HasEarlier ps qs → BeginsWith o qs image → BeginsWith o ps image
-begins_still o ps qs image earlier begins = (begins.0, earlier image begins.1)
+pub begins_still : (o : CaseImage) (ps qs : List Part) (image : List ℕ) → HasMore o ps qs → BeginsWith o qs image → BeginsWith o ps image
+begins_still o ps qs image more begins = (begins.0, more.fewer image begins.1)
+
+pub same_pieces : (o : CaseImage) (ps : List Part) → HasMore o ps ps
+same_pieces o ps = record { fewer = λ image are. are; some = λ image begins. (image, begins) }
+
+pub more_then : (o : CaseImage) (ps qs rs : List Part) → HasMore o ps qs → HasMore o qs rs → HasMore o ps rs
+more_then o ps qs rs first next = record {
+  fewer = λ image are. first.fewer image (next.fewer image are);
+  some = λ image begins. let other = first.some image begins in next.some other.0 other.1;
+}
 
 -- the bytes that are gathered are the first of what the image has there
 pub front_begins : (image bytes : List ℕ) (size start count : ℕ) → length image ≡ size → start + count ≤ size → length bytes ≤ count → IsPartOf image start bytes → ids.BeginsWith bytes count (part image start count)
@@ -67,7 +76,7 @@ sees_kept g before now o ps P (Ok x) sees told = sees
 sees_kept {A = A} g before now o ps P (Err f) sees told = subst (λ e. SeesMore {A = A} g before o ps (Err e) now) (sym told) (sees.0, sees.1, sees.2.0)
 
 -- the build ID is found of what is gathered
-pub id_found : (o : CaseImage) (ps qs : List Part) (p : FrontPlace) (bytes : List ℕ) (id : Option (Bor (List ℕ))) (r : Result FrontId WalkFault) → HasEarlier ps qs → ((image : List ℕ) → BeginsWith o qs image → IsPartOf image p.start bytes) → length bytes ≤ p.count → p.start + p.count ≤ o.size
+pub id_found : (o : CaseImage) (ps qs : List Part) (p : FrontPlace) (bytes : List ℕ) (id : Option (Bor (List ℕ))) (r : Result FrontId WalkFault) → HasMore o ps qs → ((image : List ℕ) → BeginsWith o qs image → IsPartOf image p.start bytes) → length bytes ≤ p.count → p.start + p.count ≤ o.size
     → ids.TellsId bytes p.count (Ok id) → MatchResult r (λ f. id_view f ≡ (p.path.now, option_map (λ (x : Bor (List ℕ)). x.now) id)) (λ f. f ≡ OutOfMemory) → ReadsId o ps p r qs
 id_found o ps qs p bytes id (Ok f) earlier gathered few within tells told =
     (earlier, λ image begins. told ∙ ap (λ (x : Option (List ℕ)). (p.path.now, x)) (tells (part image p.start p.count) (front_begins image bytes o.size p.start p.count begins.0.0 within few (gathered image begins))))

@@ -12,23 +12,31 @@ use Rattle.elf_view.specs.declared.faults.Want.TheVariants.{Core}
 use Rattle.core_notes.specs.Typed.{all_descs}
 use Rattle.address_space.specs.Source.{ExecutableView}
 use Rattle.address_space.specs.Whole.{IsFrontOf}
+use Rattle.build_replies.specs.Choosing.{Choice, choice_for, core_fronts}
+use Rattle.build_replies.specs.ChoosingLaws.{chosen_same, places_same}
+use Rattle.build_replies.specs.ChoosingWords.{ArePlacesOf, choice_view}
+use Rattle.build_replies.specs.PlacesWords.{fronts_in}
+use Rattle.build_replies.specs.declared.choosing.ChosenExecutables.{ChosenExecutables}
+use Rattle.build_replies.specs.declared.places.FrontPlaces.{FrontPlaces}
 use Rattle.frame_replies.specs.Processes.{state_of as thread_state}
 use Rattle.frame_replies.specs.Walking.{BeginsAt, IsProcessOf, IsWalkOf}
 use Rattle.frame_replies.specs.WalkLaws.{frame_missing, unwind_missing, walk_begins}
 use Rattle.frame_replies.specs.declared.process.UnwoundProcess.{UnwoundProcess}
 use Rattle.frame_replies.specs.declared.walk.Walk as frames
 use Rattle.intake.specs.Parts.{Parts, state_of}
-use Rattle.memory_replies.specs.Answers.{AnswersWith, is_done}
+use Rattle.memory_replies.specs.Answers.{AnswersWith, is_done, memory_reply}
 use Rattle.memory_replies.specs.declared.outcome.Outcome.{Outcome}
 use Rattle.script_streams.specs.Replies.{Telling, TellsOutcome, TellsReply, no_reply, reply_of}
 use Rattle.unwind.specs.declared.faults.Stop.{Stop}
-use Rattle.case_queries.specs.Asking.{for_frames, frames_answer}
+use Rattle.case_queries.specs.Asking.{Asking, for_frames, frames_answer}
 use Rattle.case_queries.specs.Finding.{ShowsFound, found_reply}
+use Rattle.case_queries.specs.FrontIds.{IsChoiceAt}
 use Rattle.case_queries.specs.Fronts.{HasSize, IsSoundFront, ReadsFront}
-use Rattle.case_queries.specs.Pieces.{FindsFrames, SeesPieces}
+use Rattle.case_queries.specs.Pieces.{BeginsWith, FindsFrames, SeesMore, SeesPieces}
 use Rattle.case_queries.specs.declared.walk.CaseImage.{CaseImage}
 use Rattle.case_queries.specs.declared.walk.WalkFault.{WalkFault}
 use Rattle.case_queries.specs.declared.walk.WalkFault.TheVariants.{OutOfMemory, Unread}
+use Rattle.case_queries.specs.declared.window.Part.{Part}
 use Rattle.case_queries.proofs.FindAskLemmas.{FilesLaw}
 use Rattle.case_queries.proofs.FindLemmas.{at_start, some_seen}
 use Rattle.case_queries.proofs.ShowLemmas.{answered, enough_shows, outcome_with}
@@ -50,10 +58,18 @@ module _ (notes : NotesLaw) (o : CaseImage) (sound : IsSoundFront Core o.front.n
   state_same image front =
       enough_shows (λ b. thread_state b t) (λ b n whole fine. ap (λ (ns : List NoteView). slice_get (all_descs 1 ns) t) (notes Core b n whole fine)) o.front.now image (inr (front.1, sound))
 
+  -- what is chosen by the places of the fronts is what is chosen for the core
+  choice_same : (xs : List ExecutableView) (ps : List Part) (places : FrontPlaces) (c : ChosenExecutables) → ArePlacesOf o.front.now o.size places → IsChoiceAt o ps places xs c → (image : List ℕ) → BeginsWith o ps image → choice_view c ≡ choice_for image xs
+  choice_same xs ps places c are is image begins =
+      let same = enough_shows (notes_of Core) (λ b n whole fine. notes Core b n whole fine) o.front.now image (inr (begins.0.1, sound)) in
+      is image begins ∙ chosen_same image xs (fronts_in image places) (places_same o.front.now image o.size places begins.0 same are)
+
   -- a walk that begins
-  pub begins_of : FilesLaw → (xs : List ExecutableView) (p : UnwoundProcess) (w : frames.Walk) → IsProcessOf o.front.now xs p → BeginsAt (thread_state o.front.now t) w → (image : List ℕ) → IsFrontOf o.front.now o.size image → IsWalkOf image xs t p w
-  begins_of law xs p w is begins image front =
-      walk_begins o.front.now image xs t p w is (enough_shows _ law o.front.now image (inr (front.1, sound))) (state_same image front) begins
+  pub begins_of : FilesLaw → (xs : List ExecutableView) (ps : List Part) (places : FrontPlaces) (c : ChosenExecutables) (w : frames.Walk) → ArePlacesOf o.front.now o.size places → IsChoiceAt o ps places xs c → BeginsAt (thread_state o.front.now t) w
+      → (image : List ℕ) (p : UnwoundProcess) → BeginsWith o ps image → IsProcessOf o.front.now (choice_view c) p → IsWalkOf image xs t p w
+  begins_of law xs ps places c w are is begins image p has own =
+      let front = has.0 in
+      walk_begins o.front.now image xs (choice_view c) t p w own (choice_same xs ps places c are is image has) (enough_shows _ law o.front.now image (inr (front.1, sound))) (state_same image front) begins
 
   no_thread : (image : List ℕ) (xs : List ExecutableView) (frame : Option ℕ) → thread_state image t ≡ None → no_reply (codes "NoThread") ≡ reply_of (frames_answer image xs t frame)
   no_thread image xs None none = ap reply_of (unwind_missing image xs t none)
@@ -77,6 +93,14 @@ module _ {D : Type 0} (g : disk.Ghosts D) (before new : Parts D) (o : CaseImage)
   pub stop_shown : (f : WalkFault) → FindsFrames g before o xs t p (Err f) w new → ShowsFound g before o xs (for_frames t frame) (found_reply (Err f)) new
   stop_shown (Unread f) finds = (Err f, finds, refl)
   stop_shown OutOfMemory finds = (Ok finds.0, finds.1, (finds.2, inr refl))
+
+-- there is no memory once the image is seen; or it can't be read
+pub memory_shown : {D : Type 0} (g : disk.Ghosts D) (before now : Parts D) (o : CaseImage) (ps : List Part) (xs : List ExecutableView) (asking : Asking) → SeesPieces g before o ps now → ShowsFound g before o xs asking memory_reply now
+memory_shown g before now o ps xs asking sees = (Ok sees.0, sees.1, (sees.2.0, inr refl))
+
+pub fault_shown : {D A : Type 0} (g : disk.Ghosts D) (before now : Parts D) (o : CaseImage) (ps : List Part) (xs : List ExecutableView) (asking : Asking) (f : WalkFault) → SeesMore {A = A} g before o ps (Err f) now → ShowsFound g before o xs asking (found_reply (Err f)) now
+fault_shown g before now o ps xs asking (Unread f) sees = (Err f, sees, refl)
+fault_shown g before now o ps xs asking OutOfMemory sees = (Ok sees.0, sees.1, (sees.2, inr refl))
 
 -- nothing but the first bytes is read
 pub no_pieces : {D : Type 0} (g : disk.Ghosts D) (before now : Parts D) (o : CaseImage) → HasSize (state_of now) o.seq o.size → length o.front.now ≤ o.size → ReadsFront g before o.seq o.front.now now → SeesPieces g before o [] now

@@ -3,17 +3,23 @@ use Rattle.std.specs.Prelude.{◌≡◌, ◌≤◌, ◌<◌, ⊤, ℕ, ◌+◌, 
 use Rattle.std.specs.Global.{Global}
 use Rattle.disk_model.specs.declared.disk.Disk as disk
 use Rattle.elf_view.specs.Field.{part}
+use Rattle.address_space.specs.Source.{ExecutableView}
 use Rattle.address_space.specs.Whole.{IsFrontOf}
 use Rattle.build_ids.specs.BuildId.{build_id_of}
+use Rattle.build_replies.specs.Choosing.{choice_of}
+use Rattle.build_replies.specs.ChoosingWords.{choice_view}
 use Rattle.build_replies.specs.Compared.{AreIdsOf, id_view}
+use Rattle.build_replies.specs.PlacesWords.{fronts_in}
+use Rattle.build_replies.specs.declared.choosing.ChosenExecutables.{ChosenExecutables}
 use Rattle.build_replies.specs.declared.compared.ComparedFiles.{ComparedFiles}
 use Rattle.build_replies.specs.declared.ids.FrontId.{FrontId}
 use Rattle.build_replies.specs.declared.places.FrontPlace.{FrontPlace}
+use Rattle.build_replies.specs.declared.places.FrontPlaces.{FrontPlaces}
 use Rattle.intake.specs.Parts.{Parts}
 use Rattle.seen_bytes.specs.declared.gathered.GatherFault.{GatherFault}
 use Rattle.seen_bytes.specs.declared.gathered.GatherFault.TheVariants as gather_fault
 use Rattle.seen_memory.specs.Parts.{IsPartOf}
-use Rattle.case_queries.specs.Pieces.{AreBeside, ArePieces, BeginsWith}
+use Rattle.case_queries.specs.Pieces.{AreBeside, BeginsWith, HasMore}
 use Rattle.case_queries.specs.Seeing.{LooksAt, SeesImage}
 use Rattle.case_queries.specs.declared.walk.CaseImage.{CaseImage}
 use Rattle.case_queries.specs.declared.walk.WalkFault.{WalkFault}
@@ -31,13 +37,9 @@ GathersOn o ps start count old (Err (gather_fault.Unread u)) new =
     StaysGathered o ps start old new × (length new < count) × (length o.front.now ≤ u.place) × AreBeside u.place ps × (u.place < start + count)
 GathersOn o ps start count old (Err gather_fault.OutOfMemory) new = ⊤
 
--- an image that has the later pieces has the earlier ones
-abbrev pub HasEarlier : List Part → List Part → Type 0
-HasEarlier old new = (image : List ℕ) → ArePieces image new → ArePieces image old
-
 -- they are gathered once more pieces are read
 abbrev pub GathersRead : CaseImage → List Part → ℕ → ℕ → List ℕ → Result (Unit {0}) WalkFault → List Part → List ℕ → Type 0
-GathersRead o ps start count old (Ok u) qs new = HasEarlier ps qs × StaysGathered o qs start old new × (length new ≡ count)
+GathersRead o ps start count old (Ok u) qs new = HasMore o ps qs × StaysGathered o qs start old new × (length new ≡ count)
 GathersRead o ps start count old (Err f) qs new = ⊤
 
 -- it is the name, and the build ID of what each image that has these pieces has there
@@ -46,8 +48,17 @@ IsIdAt o ps p f = (image : List ℕ) → BeginsWith o ps image → id_view f ≡
 
 -- the build ID is found once more pieces are read
 abbrev pub ReadsId : CaseImage → List Part → FrontPlace → Result FrontId WalkFault → List Part → Type 0
-ReadsId o ps p (Ok f) qs = HasEarlier ps qs × IsIdAt o qs p f
+ReadsId o ps p (Ok f) qs = HasMore o ps qs × IsIdAt o qs p f
 ReadsId o ps p (Err f) qs = ⊤
+
+-- it is what is chosen of the stored executables by what each image that has these pieces has there of the fronts
+abbrev pub IsChoiceAt : CaseImage → List Part → FrontPlaces → List ExecutableView → ChosenExecutables → Type 0
+IsChoiceAt o ps fronts stored c = (image : List ℕ) → BeginsWith o ps image → choice_view c ≡ choice_of (fronts_in image fronts) stored
+
+-- it is found once more pieces are read
+abbrev pub ReadsChoice : CaseImage → List Part → FrontPlaces → List ExecutableView → Result ChosenExecutables WalkFault → List Part → Type 0
+ReadsChoice o ps fronts stored (Ok c) qs = HasMore o ps qs × IsChoiceAt o qs fronts stored c
+ReadsChoice o ps fronts stored (Err f) qs = ⊤
 
 -- all are found of the image that is seen; or why they are not
 abbrev pub FindsIds : {D : Type 0} → disk.Ghosts D → Parts D → CaseImage → ComparedFiles → Result (Vec FrontId Global) WalkFault → Parts D → Type 0

@@ -1,10 +1,11 @@
 // The answers to `unwind` and `frame` of a core that is read piece by piece.
-ghost use Rattle.std.specs.Prelude.{◌≡◌, ◌≤◌, ℕ, List, None, Some, OnOk, length, map};
+ghost use Rattle.std.specs.Prelude.{◌≡◌, ◌≤◌, ℕ, List, length, map};
 ghost use Rattle.address_space.specs.Source.{ExecutableView};
 ghost use Rattle.address_space.specs.SpaceWords.{core_of};
-ghost use Rattle.address_space.specs.Whole.{IsFrontOf};
+ghost use Rattle.build_replies.specs.ChoosingWords.{choice_view};
 ghost use Rattle.elf_view.specs.declared.faults.Want.TheVariants.{Core};
-ghost use Rattle.frame_replies.specs.Walking.{HasFound, IsWalkOf, WalksOn, process_by};
+ghost use Rattle.frame_replies.specs.Walking.{HasFound, IsProcessOf, IsWalkOf, WalksOn, process_by};
+ghost use Rattle.frame_replies.specs.declared.process.UnwoundProcess as processes;
 ghost use Rattle.image_replies.specs.CoreWords.{core_bytes};
 ghost use Rattle.intake.specs.Parts.{Parts, state_of};
 ghost use Rattle.memory_replies.specs.Answers.{AnswersWith, is_done};
@@ -13,14 +14,16 @@ ghost use Rattle.script_streams.specs.Replies.{TellsOutcome, TellsReply, telling
 ghost use Rattle.case_queries.specs.Asking.{for_frames, frames_answer};
 ghost use Rattle.case_queries.specs.Finding.{ShowsFound};
 ghost use Rattle.case_queries.specs.Fronts.{HasSize, IsSoundFront, ReadsFront};
-ghost use Rattle.case_queries.specs.Pieces.{BeginsWith, FindsFrames, WalkedTo};
+ghost use Rattle.case_queries.specs.Pieces.{BeginsWith, FindsFrames, SeesPieces, WalkedTo};
 
+use crate::chosen::choose;
 use crate::find::tell_no_memory;
 use crate::found::tell_found;
 use crate::pieces::{MOST, lent_pieces, read_more};
 use crate::walk::{CaseImage, WalkFault};
 use crate::window::Part;
 use address_space::Attached;
+use build_replies::{ChosenExecutables, FrontPlaces};
 use disk_model::Disk;
 use elf_view::a_sound_front_is_enough;
 use frame_replies::{UnwoundProcess, Walk, tell_walked, tell_walked_frame};
@@ -47,29 +50,29 @@ fn go_on(
     walk.go_on(alloc, process, image.front, image.size as u64, &parts)
 }
 
-// Goes on until no other frame comes, and says why. The bytes of the image that are wanted are read, each once.
+// Goes on until no other frame comes, and says why. These pieces of the image are read. The other bytes of it that are wanted are read too,
+// each once.
 fn walk_frames<D: Disk>(
     alloc: Global,
     image: CaseImage<'_>,
     process: &UnwoundProcess<'_>,
     walk: &mut Walk,
+    pieces: &mut Vec<Part>,
     archive: &mut Archive<D>,
 ) -> Result<Stop, WalkFault>
     requires has { HasSize (state_of archive.old) image.seq image.size }
-    requires short { length image.front.now ≤ image.size }
     requires own { image.front.now ≡ core_of process.now.space }
-    requires some { (b : List ℕ) × IsFrontOf image.front.now image.size b }
-    ensures { (before : Parts D) (executables : List ExecutableView) (thread : ℕ) → ReadsFront D.Disk before image.entry.seq image.entry.front.now archive.old
-        → ((b : List ℕ) → IsFrontOf image.entry.front.now image.entry.size b → IsWalkOf b executables thread process.now walk.old)
-        → FindsFrames D.Disk before image.entry executables thread process.now result walk.new archive.new }
+    requires some { (b : List ℕ) × BeginsWith image pieces.old.items b }
+    ensures { (before : Parts D) (stored : List ExecutableView) (thread : ℕ) → SeesPieces D.Disk before image.entry pieces.old.items archive.old
+        → ((b : List ℕ) → BeginsWith image.entry pieces.old.items b → IsWalkOf b stored thread process.now walk.old)
+        → FindsFrames D.Disk before image.entry stored thread process.now result walk.new archive.new }
 {
-    let mut pieces = Vec::new(alloc);
     for _count in 0..MOST {
-        match go_on(alloc, image, process, &pieces, walk) {
+        match go_on(alloc, image, process, pieces, walk) {
             Ok(stop) => return Ok(stop),
             Err(frame_replies::WalkFault::OutOfMemory) => return Err(WalkFault::OutOfMemory),
             Err(frame_replies::WalkFault::Unread(unread)) => {
-                read_more(alloc, image, unread.place, &mut pieces, archive)?;
+                read_more(alloc, image, unread.place, pieces, archive)?;
             }
         }
     }
@@ -93,13 +96,43 @@ fn tell_frames<O: Output>(
     }
 }
 
-// Tells the frames of a thread of a core of which the first bytes are at hand, or the registers of the frame of that number. The image is
-// read piece by piece, and all that is wanted before the first line.
-pub(crate) fn frames_in_core<O: Output, D: Disk>(
+// Walks through the frames of a thread with the executables that are chosen, and tells them, or the registers of the one of that number.
+// These pieces of the core's image are read.
+fn tell_chosen<'a, O: Output, D: Disk>(
     alloc: Global,
     image: CaseImage<'_>,
-    core: &CoreImage<'_>,
-    attached: &[Attached<'_>],
+    core: &CoreImage<'a>,
+    chosen: ChosenExecutables<'a>,
+    begun: Walk,
+    frame: Option<u64>,
+    pieces: &mut Vec<Part>,
+    reply: &mut Reply<'_, O>,
+    archive: &mut Archive<D>,
+) -> Outcome
+    requires has { HasSize (state_of archive.old) image.seq image.size }
+    requires front { core_bytes core.now ≡ image.front.now }
+    requires some { (b : List ℕ) × BeginsWith image pieces.old.items b }
+    ensures { (before : Parts D) (stored : List ExecutableView) (thread : ℕ) → SeesPieces D.Disk before image.entry pieces.old.items archive.old
+        → ((b : List ℕ) (process : processes.UnwoundProcess) → BeginsWith image.entry pieces.old.items b → IsProcessOf image.entry.front.now (choice_view chosen.entry) process → IsWalkOf b stored thread process begun)
+        → TellsOutcome (telling O.Output reply.old reply.new) (λ text. ShowsFound D.Disk before image.entry stored (for_frames thread frame) text archive.new) (is_done result) }
+{
+    let Ok(process) = UnwoundProcess::of(alloc, core, chosen) else {
+        return tell_no_memory(reply);
+    };
+    let mut walk = begun;
+    match walk_frames(alloc, image, &process, &mut walk, pieces, archive) {
+        Ok(stop) => tell_frames(reply, &process, &walk, stop, frame),
+        Err(fault) => tell_found(reply, Err(fault)),
+    }
+}
+
+// Tells the frames of a thread of a core of which the first bytes are at hand, or the registers of the frame of that number. The image is
+// read piece by piece, and all that is wanted before the first line. First it is read which of the executables are used.
+pub(crate) fn frames_in_core<'a, O: Output, D: Disk>(
+    alloc: Global,
+    image: CaseImage<'_>,
+    core: &CoreImage<'a>,
+    attached: &[Attached<'a>],
     thread: u64,
     frame: Option<u64>,
     reply: &mut Reply<'_, O>,
@@ -114,16 +147,26 @@ pub(crate) fn frames_in_core<O: Output, D: Disk>(
 {
     a_sound_front_names_the_files();
     a_sound_front_is_enough();
-    let Ok(process) = UnwoundProcess::of(alloc, core, attached) else {
+    let Ok(fronts) = FrontPlaces::of_core(alloc, core, image.size as u64) else {
         return tell_no_memory(reply);
     };
     let Some(begun) = Walk::begin(alloc, core, thread) else {
         tell_no(reply, b"NoThread");
         return Outcome::Refused;
     };
-    let mut walk = begun;
-    match walk_frames(alloc, image, &process, &mut walk, archive) {
-        Ok(stop) => tell_frames(reply, &process, &walk, stop, frame),
+    let mut pieces = Vec::new(alloc);
+    match choose(alloc, image, &fronts, attached, &mut pieces, archive) {
+        Ok(chosen) => tell_chosen(
+            alloc,
+            image,
+            core,
+            chosen,
+            begun,
+            frame,
+            &mut pieces,
+            reply,
+            archive,
+        ),
         Err(fault) => tell_found(reply, Err(fault)),
     }
 }

@@ -4,6 +4,7 @@
 mod asked;
 mod builds;
 mod by_front;
+mod chosen;
 mod collect_executables;
 mod find;
 mod found;

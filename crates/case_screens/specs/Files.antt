@@ -1,5 +1,5 @@
 -- The files that a core had mapped, and which of them are stored.
-use Rattle.std.specs.Prelude.{ℕ, ◌-◌, Bool, true, false, if◌then◌else◌, List, [], ◌∷◌, ◌++◌, length, find, filter, Option, None, Some, codes, decimal}
+use Rattle.std.specs.Prelude.{ℕ, ◌-◌, ◌&&◌, not, Bool, true, false, if◌then◌else◌, List, [], ◌∷◌, ◌++◌, length, find, filter, Option, None, Some, codes, decimal}
 use Rattle.std.specs.Str.{bytes_eq}
 use Rattle.journal_layout.specs.Case.{Case}
 use Rattle.journal_layout.specs.declared.entry.Kind.TheVariants.{Exec}
@@ -23,19 +23,23 @@ case_of_text cases (Some text) = find (has_name text) cases
 abbrev pub stored_number : List Case → List ℕ → Option ℕ
 stored_number cases word = exec_number (case_of_text cases (text_in word))
 
--- whether the build IDs say that another file ran
-abbrev pub build_text : List ℕ → List ℕ
-build_text verdict = if bytes_eq verdict (codes "differs") then codes ", another build" else []
+-- what is stored has no build ID, and the core tells one
+abbrev pub lacks_id : List ℕ → Bool
+lacks_id line = not (bytes_eq (word_at line 1) (codes "-")) && bytes_eq (word_at line 2) (codes "-")
 
-abbrev pub stored_text : Option ℕ → List ℕ → List ℕ → List ℕ
-stored_text (Some seq) name verdict = codes "stored as case " ++ (decimal seq ++ build_text verdict)
-stored_text None name verdict = codes "not stored: corekeep store ARCHIVE FILE --exec " ++ name
+-- whether the build IDs say that another file ran, by a line of the reply to `builds`
+abbrev pub build_text : List ℕ → List ℕ
+build_text line = if bytes_eq (word_at line 3) (codes "differs") then codes ", another build" else (if lacks_id line then codes ", no build ID" else [])
+
+abbrev pub stored_text : Option ℕ → List ℕ → List ℕ
+stored_text (Some seq) line = codes "stored as case " ++ (decimal seq ++ build_text line)
+stored_text None line = codes "not stored: corekeep store ARCHIVE FILE --exec " ++ word_at line 0
 
 -- a mapped file, by its line in the reply to `builds`
 abbrev pub file_row : List Case → List (List ℕ) → ℕ → List ℕ
 file_row cases lines k =
     label_at (codes "files     ") k ++ (left_text 34 (word_at (line_at lines k) 0)
-    ++ (stored_text (stored_number cases (word_at (line_at lines k) 0)) (word_at (line_at lines k) 0) (word_at (line_at lines k) 3) ++ 10 ∷ []))
+    ++ (stored_text (stored_number cases (word_at (line_at lines k) 0)) (line_at lines k) ++ 10 ∷ []))
 
 abbrev pub files_text : List Case → Bool → List (List ℕ) → List ℕ
 files_text cases true lines = rows_to (file_row cases lines) (row_count lines)

@@ -2,7 +2,7 @@
 ghost use Rattle.std.specs.Prelude.{◌≡◌, true, map, option_map};
 ghost use Rattle.journal_layout.specs.Case.{case_of};
 ghost use Rattle.script_streams.specs.Replies.{TellsText, telling};
-ghost use Rattle.case_screens.specs.Files.{build_text, exec_number, file_row, files_text, stored_number, stored_text};
+ghost use Rattle.case_screens.specs.Files.{build_text, exec_number, file_row, files_text, lacks_id, stored_number, stored_text};
 ghost use Rattle.case_screens.specs.Lines.{texts};
 
 use crate::answer::Answer;
@@ -38,38 +38,42 @@ fn tell_row<O: Output>(reply: &mut Reply<'_, O>, cases: &[Entry], lines: &[&[u8]
     let name = word_at(line, 0);
     tell_label(reply, b"files     ", row);
     tell_left(reply, 34, name);
-    tell_stored(reply, stored_number(cases, name), name, word_at(line, 3));
+    tell_stored(reply, stored_number(cases, name), line);
     reply.tell(b"\n");
 }
 
-fn tell_stored<O: Output>(
-    reply: &mut Reply<'_, O>,
-    number: Option<u32>,
-    name: &[u8],
-    verdict: &[u8],
-)
-    ensures { TellsText (telling O.Output reply.old reply.new) (stored_text number name.now verdict.now) }
+fn tell_stored<O: Output>(reply: &mut Reply<'_, O>, number: Option<u32>, line: &[u8])
+    ensures { TellsText (telling O.Output reply.old reply.new) (stored_text number line.now) }
 {
     match number {
         Some(number) => {
             reply.tell(b"stored as case ");
             reply.tell_decimal(u128::from(number));
-            tell_build(reply, verdict);
+            tell_build(reply, line);
         }
         None => {
             reply.tell(b"not stored: corekeep store ARCHIVE FILE --exec ");
-            reply.tell(name);
+            reply.tell(word_at(line, 0));
         }
     }
 }
 
-// Tells it if the build IDs say that another file ran.
-fn tell_build<O: Output>(reply: &mut Reply<'_, O>, verdict: &[u8])
-    ensures { TellsText (telling O.Output reply.old reply.new) (build_text verdict.now) }
+// Tells it if the build IDs say that another file ran: such a file is not used.
+fn tell_build<O: Output>(reply: &mut Reply<'_, O>, line: &[u8])
+    ensures { TellsText (telling O.Output reply.old reply.new) (build_text line.now) }
 {
-    if verdict == b"differs".as_slice() {
+    if word_at(line, 3) == b"differs".as_slice() {
         reply.tell(b", another build");
+    } else if lacks_id(line) {
+        reply.tell(b", no build ID");
     }
+}
+
+// Whether what is stored has no build ID, and the core tells one.
+fn lacks_id(line: &[u8]) -> bool
+    ensures { result ≡ lacks_id line.now }
+{
+    word_at(line, 1) != b"-".as_slice() && word_at(line, 2) == b"-".as_slice()
 }
 
 // The number of the executable that is stored under the name that a word of a reply prints.

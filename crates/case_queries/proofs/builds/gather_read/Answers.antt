@@ -3,7 +3,17 @@ use Rattle.std.proofs.lemmas.Result.{err_from_is_err_and}
 use Rattle.seen_bytes.specs.declared.gathered.GatherFault.TheVariants.{Unread}
 use Rattle.case_queries.specs.FrontIds.{GathersOn}
 use Rattle.case_queries.specs.Pieces.{ArePieces}
+use Rattle.case_queries.proofs.BuildLemmas.{more_then, same_pieces}
 use Rattle.case_queries.proofs.builds.gather_read.Goals as goal
+
+pub loop-count-init : goal.loop-count-init
+loop-count-init g c = record {
+  has = c.requires.has;
+  few = c.requires.few;
+  more = same_pieces c.args.image c.args.pieces.now.items;
+  sees = λ before sees. sees;
+  stays = λ image begins is. is;
+}
 
 pub returns-in-Err-OutOfMemory-clause-sees : goal.returns-in-Err-OutOfMemory-clause-sees
 returns-in-Err-OutOfMemory-clause-sees g c before sees = let now = c.loop-count.invariant.sees before sees in (now.0, now.1, now.2.0)
@@ -23,7 +33,7 @@ loop-count-preserved g c =
     let read = c.in_ok-read_more-in-Err-Unread.ensures in record {
       has = read.has;
       few = (let few = gathered.1 in omega (arith, few));
-      earlier = λ image are. so_far.earlier image (read.read.fewer image are);
+      more = more_then c.args.image c.args.pieces.now.items c.loop-count.pieces.items c.read_more.new.pieces.items so_far.more read.read;
       sees = λ before sees. read.sees before (so_far.sees before sees);
       stays = λ image begins is.
           let fewer = read.read.fewer image begins.1 in

@@ -1,9 +1,8 @@
 use Rattle.std.proofs.Common.{◌≤◌, ◌-◌, ℕ, List, length}
 use Rattle.intake.specs.Parts.{Parts, state_of}
 use Rattle.seen_memory.specs.Parts.{IsPartOf}
-use Rattle.case_queries.specs.FrontIds.{HasEarlier}
 use Rattle.case_queries.specs.Fronts.{HasSize}
-use Rattle.case_queries.specs.Pieces.{BeginsWith, SeesPieces}
+use Rattle.case_queries.specs.Pieces.{BeginsWith, HasMore, SeesPieces}
 use Rattle.case_queries.proofs.builds.read_id.Given as goal
 
 -- these pieces are read, and the first bytes of the front are gathered
@@ -11,7 +10,7 @@ abbrev pub invariant-loop-id : goal.invariant-loop-id
 invariant-loop-id g l = record {
   has : HasSize (state_of l.archive) l.image.seq l.image.size;
   few : length l.bytes.items ≤ l.front.count;
-  earlier : HasEarlier l.initial.pieces.items l.pieces.items;
+  more : HasMore l.image l.initial.pieces.items l.pieces.items;
   sees : (before : Parts g.row.D.Denot) → SeesPieces g.D.Disk before l.image l.initial.pieces.items l.initial.archive → SeesPieces g.D.Disk before l.image l.pieces.items l.archive;
   gathered : (b : List ℕ) → BeginsWith l.image l.pieces.items b → IsPartOf b l.front.start l.bytes.items;
 }

@@ -1,11 +1,13 @@
-use Rattle.std.proofs.Common.{◌≡◌, Err, None, map, refl, subst}
+use Rattle.std.proofs.Common.{◌≡◌, Err, None, map, refl, sym, subst}
 use Rattle.std.specs.Prelude.{codes}
+use Rattle.build_replies.specs.ChoosingWords.{ArePlacesOf}
 use Rattle.frame_replies.specs.Processes.{state_of}
-use Rattle.frame_replies.specs.Walking.{BeginsAt, IsProcessOf}
+use Rattle.frame_replies.specs.Walking.{BeginsAt}
 use Rattle.memory_replies.specs.Memory.{attached_view}
 use Rattle.case_queries.specs.Asking.{for_frames}
+use Rattle.case_queries.specs.Pieces.{BeginsWith, SeesPieces}
 use Rattle.case_queries.proofs.FindLemmas.{found_outcome, memory_outcome, none_shown}
-use Rattle.case_queries.proofs.FramesLemmas.{begins_of, frames_shown, missing_shown, some_front, stop_shown}
+use Rattle.case_queries.proofs.FramesLemmas.{begins_of, fault_shown, missing_shown, no_pieces, some_front}
 use Rattle.case_queries.proofs.frames.frames_in_core.Goals as goal
 
 pub returns-in_default : goal.returns-in_default
@@ -23,25 +25,27 @@ returns-in_default-begin g c before reads =
       c.tell_no.ensures,
     )
 
-pub walk_frames-requires-clause-some : goal.walk_frames-requires-clause-some
-walk_frames-requires-clause-some g c = some_front c.args.image.front.now c.args.image.size c.requires.short
+pub tell_chosen-requires-clause-some : goal.tell_chosen-requires-clause-some
+tell_chosen-requires-clause-some g c =
+    let image = c.args.image in
+    let first = some_front image.front.now image.size c.requires.short in
+    c.in-Ok-choose.ensures.chosen.0.some first.0 (subst (λ ps. BeginsWith image ps first.0) (sym c.new-pieces.ensures.items) (first.1, tt))
 
-pub returns-in-Ok-walk_frames : goal.returns-in-Ok-walk_frames
-returns-in-Ok-walk_frames g c before reads =
+pub returns-in-Ok-choose : goal.returns-in-Ok-choose
+returns-in-Ok-choose g c before reads =
     let image = c.args.image in
     let xs = map attached_view c.args.attached.now in
-    let p = c.in-Ok.process in
-    let own = subst (λ b. IsProcessOf b xs p) c.requires.front c.in-Ok.ensures in
+    let fronts = c.in-Ok.fronts in
+    let chosen = c.in-Ok-choose.chosen in
+    let are = subst (λ b. ArePlacesOf b image.size fronts) c.requires.front c.in-Ok.ensures in
     let begins = subst (λ b. BeginsAt (state_of b c.args.thread) c.in-Some.begun) c.requires.front c.in-Some.ensures in
-    let finds = c.in-Ok-walk_frames.ensures before xs c.args.thread reads (begins_of c.a_sound_front_is_enough.ensures.notes image c.requires.sound c.args.thread c.a_sound_front_names_the_files.ensures xs p c.in-Some.begun own begins) in
-    frames_shown g.D.Disk before c.walk_frames.new.archive image xs c.args.thread c.args.frame p c.walk_frames.new.walk c.in-Ok-walk_frames.stop c.tell_frames.result _ finds (c.tell_frames.ensures finds.0 xs c.args.thread finds.3 finds.4)
+    let none = subst (λ ps. SeesPieces g.D.Disk before image ps c.args.archive.now) (sym c.new-pieces.ensures.items) (no_pieces g.D.Disk before c.args.archive.now image c.requires.has c.requires.short reads) in
+    c.tell_chosen.ensures before xs c.args.thread (c.in-Ok-choose.ensures.sees before none)
+    (begins_of c.a_sound_front_is_enough.ensures.notes image c.requires.sound c.args.thread c.a_sound_front_names_the_files.ensures xs c.choose.new.pieces.items fronts chosen c.in-Some.begun are c.in-Ok-choose.ensures.chosen.1 begins)
 
 pub returns : goal.returns
 returns g c before reads =
     let image = c.args.image in
     let xs = map attached_view c.args.attached.now in
-    let p = c.in-Ok.process in
-    let own = subst (λ b. IsProcessOf b xs p) c.requires.front c.in-Ok.ensures in
-    let begins = subst (λ b. BeginsAt (state_of b c.args.thread) c.in-Some.begun) c.requires.front c.in-Some.ensures in
-    let finds = c.in-Err.ensures before xs c.args.thread reads (begins_of c.a_sound_front_is_enough.ensures.notes image c.requires.sound c.args.thread c.a_sound_front_names_the_files.ensures xs p c.in-Some.begun own begins) in
-    (_, stop_shown g.D.Disk before c.walk_frames.new.archive image xs c.args.thread c.args.frame p c.walk_frames.new.walk c.in-Err.fault finds, found_outcome (Err c.in-Err.fault) _ c.tell_found.ensures.done, c.tell_found.ensures.tells)
+    let none = subst (λ ps. SeesPieces g.D.Disk before image ps c.args.archive.now) (sym c.new-pieces.ensures.items) (no_pieces g.D.Disk before c.args.archive.now image c.requires.has c.requires.short reads) in
+    (_, fault_shown g.D.Disk before c.choose.new.archive image c.choose.new.pieces.items xs (for_frames c.args.thread c.args.frame) c.in-Err.fault (c.in-Err.ensures.sees before none), found_outcome (Err c.in-Err.fault) _ c.tell_found.ensures.done, c.tell_found.ensures.tells)

@@ -18,6 +18,7 @@ loop-count-preserved g c =
     let more = read.read in record {
       has = read.has;
       some = more.some so_far.some.0 so_far.some.1;
+      earlier = λ b are. so_far.earlier b (more.fewer b are);
       sees = λ before reads. read.sees before (so_far.sees before reads);
       walks = λ b xs thread begins is.
           let fewer = more.fewer b begins.1 in
