@@ -1,5 +1,5 @@
 -- What is shown of the build IDs of a core that is read piece by piece.
-use Rattle.std.proofs.Common.{◌≡◌, ◌≤◌, inl, inr, ℕ, ◌+◌, ◌-◌, List, [], map, take, drop, length, Option, None, Some, Result, Ok, Err, Vec, Global, refl, ap, sym, ◌∙◌, subst, arith}
+use Rattle.std.proofs.Common.{◌≡◌, ◌≤◌, inl, inr, ℕ, ◌+◌, List, map, drop, length, Option, None, Result, Ok, Err, Vec, Global, refl, ap, sym, ◌∙◌, subst, arith}
 use Rattle.std.specs.Prelude.{MatchResult, codes}
 use Rattle.std.specs.Borrow.{Bor}
 use Rattle.std.specs.Option.{option_map}
@@ -10,10 +10,9 @@ use Rattle.elf_view.specs.ViewWords.{notes_of}
 use Rattle.elf_view.specs.declared.faults.Want.TheVariants.{Core}
 use Rattle.address_space.specs.Source.{ExecutableView}
 use Rattle.address_space.specs.Whole.{IsFrontOf}
-use Rattle.build_ids.specs.BuildId.{build_id_of}
 use Rattle.build_ids.specs.Fronts as ids
 use Rattle.build_replies.specs.Builds.{builds_answer}
-use Rattle.build_replies.specs.Compared.{IsFoundOf, NamedId, id_view}
+use Rattle.build_replies.specs.Compared.{IsFoundOf, id_view}
 use Rattle.build_replies.specs.ComparedLaws.{missing_answer}
 use Rattle.build_replies.specs.declared.compared.ComparedFiles.{ComparedFiles}
 use Rattle.build_replies.specs.declared.ids.FrontId.{FrontId}

@@ -12,7 +12,7 @@ use Rattle.elf_view.specs.declared.faults.Want.TheVariants.{Core}
 use Rattle.core_notes.specs.Typed.{all_descs}
 use Rattle.address_space.specs.Source.{ExecutableView}
 use Rattle.address_space.specs.Whole.{IsFrontOf}
-use Rattle.build_replies.specs.Choosing.{Choice, choice_for, core_fronts}
+use Rattle.build_replies.specs.Choosing.{choice_for}
 use Rattle.build_replies.specs.ChoosingLaws.{chosen_same, places_same}
 use Rattle.build_replies.specs.ChoosingWords.{ArePlacesOf, choice_view}
 use Rattle.build_replies.specs.PlacesWords.{fronts_in}
@@ -98,9 +98,9 @@ module _ {D : Type 0} (g : disk.Ghosts D) (before new : Parts D) (o : CaseImage)
 pub memory_shown : {D : Type 0} (g : disk.Ghosts D) (before now : Parts D) (o : CaseImage) (ps : List Part) (xs : List ExecutableView) (asking : Asking) → SeesPieces g before o ps now → ShowsFound g before o xs asking memory_reply now
 memory_shown g before now o ps xs asking sees = (Ok sees.0, sees.1, (sees.2.0, inr refl))
 
-pub fault_shown : {D A : Type 0} (g : disk.Ghosts D) (before now : Parts D) (o : CaseImage) (ps : List Part) (xs : List ExecutableView) (asking : Asking) (f : WalkFault) → SeesMore {A = A} g before o ps (Err f) now → ShowsFound g before o xs asking (found_reply (Err f)) now
-fault_shown g before now o ps xs asking (Unread f) sees = (Err f, sees, refl)
-fault_shown g before now o ps xs asking OutOfMemory sees = (Ok sees.0, sees.1, (sees.2, inr refl))
+pub fault_shown : {D : Type 0} (A : Type 0) (g : disk.Ghosts D) (before now : Parts D) (o : CaseImage) (ps : List Part) (xs : List ExecutableView) (asking : Asking) (f : WalkFault) → SeesMore {A = A} g before o ps (Err f) now → ShowsFound g before o xs asking (found_reply (Err f)) now
+fault_shown A g before now o ps xs asking (Unread f) sees = (Err f, sees, refl)
+fault_shown A g before now o ps xs asking OutOfMemory sees = (Ok sees.0, sees.1, (sees.2, inr refl))
 
 -- nothing but the first bytes is read
 pub no_pieces : {D : Type 0} (g : disk.Ghosts D) (before now : Parts D) (o : CaseImage) → HasSize (state_of now) o.seq o.size → length o.front.now ≤ o.size → ReadsFront g before o.seq o.front.now now → SeesPieces g before o [] now

@@ -1,6 +1,7 @@
 use Rattle.std.proofs.Common.{◌≡◌, Err, None, map, refl, sym, subst}
 use Rattle.std.specs.Prelude.{codes}
 use Rattle.build_replies.specs.ChoosingWords.{ArePlacesOf}
+use Rattle.build_replies.specs.declared.choosing.ChosenExecutables.{ChosenExecutables}
 use Rattle.frame_replies.specs.Processes.{state_of}
 use Rattle.frame_replies.specs.Walking.{BeginsAt}
 use Rattle.memory_replies.specs.Memory.{attached_view}
@@ -48,4 +49,4 @@ returns g c before reads =
     let image = c.args.image in
     let xs = map attached_view c.args.attached.now in
     let none = subst (λ ps. SeesPieces g.D.Disk before image ps c.args.archive.now) (sym c.new-pieces.ensures.items) (no_pieces g.D.Disk before c.args.archive.now image c.requires.has c.requires.short reads) in
-    (_, fault_shown g.D.Disk before c.choose.new.archive image c.choose.new.pieces.items xs (for_frames c.args.thread c.args.frame) c.in-Err.fault (c.in-Err.ensures.sees before none), found_outcome (Err c.in-Err.fault) _ c.tell_found.ensures.done, c.tell_found.ensures.tells)
+    (_, fault_shown ChosenExecutables g.D.Disk before c.choose.new.archive image c.choose.new.pieces.items xs (for_frames c.args.thread c.args.frame) c.in-Err.fault (c.in-Err.ensures.sees before none), found_outcome (Err c.in-Err.fault) _ c.tell_found.ensures.done, c.tell_found.ensures.tells)

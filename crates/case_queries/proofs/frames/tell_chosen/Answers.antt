@@ -1,4 +1,4 @@
-use Rattle.std.proofs.Common.{Err, sym, subst}
+use Rattle.std.proofs.Common.{Err, subst}
 use Rattle.build_replies.specs.ChoosingWords.{choice_view}
 use Rattle.frame_replies.specs.Walking.{IsProcessOf}
 use Rattle.case_queries.specs.Asking.{for_frames}
