@@ -1,3 +1,4 @@
 pub mod Bytes
 pub mod Files
 pub mod PartLemmas
+pub mod Others
