@@ -1,3 +1,4 @@
 pub mod CopyLemmas
 pub mod PlaceLemmas
 pub mod AskLemmas
+pub mod GoneLemmas

@@ -4,3 +4,4 @@ pub mod Opening
 pub mod Copying
 pub mod Places
 pub mod Asking
+pub mod Gone

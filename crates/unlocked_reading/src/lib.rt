@@ -6,9 +6,11 @@ mod asking;
 mod copying;
 mod faults;
 mod finding;
+mod laws;
 mod places;
 
 pub use asking::{ask_unlocked, stay};
 pub use copying::copy_unlocked;
 pub use faults::{AskFault, UnlockedFault};
+pub use laws::{copies_are_of_the_case, gone_cases_are_noticed};
 pub use places::{Places, Reads, find_cases};

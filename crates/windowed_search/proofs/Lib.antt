@@ -6,3 +6,4 @@ pub mod Values
 pub mod MemorySearching
 pub mod RisingLemmas
 pub mod PlanLemmas
+pub mod Outcomes

@@ -1,5 +1,5 @@
 -- How the memory of a core is gone through while its image is read once, from the front to the end.
-use Rattle.std.specs.Prelude.{◌≡◌, ◌<◌, ◌≤◌, ℕ, ◌+◌, ◌-◌, ◌^◌, List, [], ◌∷◌, length, ⊤}
+use Rattle.std.specs.Prelude.{◌≡◌, ◌<◌, ◌≤◌, ℕ, ◌+◌, ◌-◌, ◌^◌, List, [], ◌∷◌, ◌++◌, length, ⊤}
 use Rattle.elf_view.specs.Field.{part}
 use Rattle.address_space.specs.Source.{Space}
 use Rattle.address_space.specs.StretchWords.{IsWithin, shown_in}
@@ -47,3 +47,12 @@ pub record IsNextStep (p : ℕ) (s : Stretch) (step : Step) : Type 0 where
 abbrev pub StepsFit : ℕ → ℕ → ℕ → List Step → Type 0
 StepsFit size p a [] = ⊤
 StepsFit size p a (s ∷ ss) = (place_after p s ≤ size) × (a + count_of s < 2 ^ 64) × StepsFit size (place_after p s) (a + count_of s) ss
+
+-- all values that the steps tell, the image being read up to place p
+abbrev pub told_by : List ℕ → ℕ → List Step → List ℕ
+told_by image p [] = []
+told_by image p (s ∷ ss) = bytes_of image p s ++ told_by image (place_after p s) ss
+
+-- they are those of the memory, one after another, and no others
+abbrev pub PlansTellTheValues : Type 0
+PlansTellTheValues = (image : List ℕ) (space : Space) (steps : List Step) → IsWholeWay image space steps → told_by image 0 steps ≡ values_from space 0 (2 ^ 64 - 1)

@@ -1,6 +1,7 @@
 -- What a search of a memory for texts has found.
-use Rattle.std.specs.Prelude.{◌≡◌, ◌≤◌, ◌<◌, ◌⊎◌, ℕ, ◌+◌, ◌-◌, true, false, List, ◌++◌, filter, length, map}
-use Rattle.std.specs.List.{flat_map, range_with_len}
+use Rattle.std.specs.Prelude.{◌≡◌, ◌≤◌, ◌<◌, ◌⊎◌, ℕ, ◌+◌, ◌-◌, ◌^◌, true, false, List, ◌++◌, filter, length, map}
+use Rattle.std.specs.List.{AllByRecursion, flat_map, range_with_len}
+use Rattle.address_space.specs.Coverage.{IsText}
 use Rattle.address_space.specs.Occurrence.{begins_text, is_long, is_text_at, text_from}
 use Rattle.address_space.specs.Source.{Space}
 use Rattle.windowed_search.specs.Runs.{values_from}
@@ -39,3 +40,7 @@ pub record HasTexts (space : Space) (m : MemoryTexts) : Type 0 where
 pub record AreTexts (space : Space) (least past : ℕ) (t : FoundTexts) : Type 0 where
   pub told : t.places.items ≡ texts_before space least past
   pub lent : t.bytes.items ≡ flat_map (text_values space) t.places.items
+
+-- Each is as long as can be: no byte of text is right before it or right behind it.
+abbrev pub TextsAreWhole : Type 0
+TextsAreWhole = (space : Space) (least past : ℕ) (t : FoundTexts) → past ≤ 2 ^ 64 → AreTexts space least past t → AllByRecursion (λ (x : ℕ × ℕ). IsText space x.0 x.1) t.places.items

@@ -3,16 +3,33 @@ ghost use Rattle.std.specs.Prelude.{◌≡◌, ◌+◌, ◌-◌, ◌^◌, ◌<�
 ghost use Rattle.std.specs.List.{range_with_len};
 ghost use Rattle.address_space.specs.Occurrence.{occurrences, occurs, strings_of};
 ghost use Rattle.address_space.specs.Source.{Space};
-ghost use Rattle.windowed_search.specs.Places.{places};
+ghost use Rattle.windowed_search.specs.Places.{places, MatchesAcrossAreFound};
 ghost use Rattle.windowed_search.specs.Rising.{IsRising};
 ghost use Rattle.windowed_search.specs.Runs.{IsRunOf};
-ghost use Rattle.windowed_search.specs.TextWords.{texts_before};
+ghost use Rattle.windowed_search.specs.StepWords.{PlansTellTheValues};
+ghost use Rattle.windowed_search.specs.TextWords.{texts_before, TextsAreWhole};
 
 /// A search of bytes is the search of their windows: of the first window, and of the others after the last bytes of the
 /// first, one fewer than the needle has. It does nothing.
 pub fn windows_have_all_places()
     ensures { (needle xs ys : List ℕ) (a : ℕ) → 0 < length needle
         → places needle a (xs ++ ys) ≡ places needle a xs ++ places needle (a + (length xs - (length needle - 1))) (drop (length xs - (length needle - 1)) xs ++ ys) }
+{}
+
+/// A match that goes over the end of a window is found, whatever comes before it and behind it. It does nothing.
+pub fn a_match_across_windows_is_found()
+    ensures { MatchesAcrossAreFound }
+{}
+
+/// A plan tells the values of a memory, one after another, and no others: bytes of another place of the image are not told. It does
+/// nothing.
+pub fn a_plan_tells_the_values()
+    ensures { PlansTellTheValues }
+{}
+
+/// A text that is found is as long as can be: it ends neither with its window nor within a text. It does nothing.
+pub fn texts_that_are_found_are_whole()
+    ensures { TextsAreWhole }
 {}
 
 /// The addresses of a memory at which bytes occur are, among those in a row that have a value, the places in these values. It does

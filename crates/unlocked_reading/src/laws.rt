@@ -1,0 +1,23 @@
+// What the definitions that the contracts cite say together. These functions do nothing.
+ghost use Rattle.unlocked_reading.specs.Gone.{CopiesAreOfTheCase, GoneCasesAreNoticed, NoCaseIsGoneAtWill, NoCopyIsGoneAtWill};
+
+use disk_model::Disk;
+use intake::{a_case_is_there_between, the_next_number_is_above};
+use shared_disk::{SharedDisk, Unlocked};
+
+/// Where a case is gone at the next look, the look is not answered with `Ok`: so no question is done over it. And no question is refused
+/// as `Gone` while each case is there.
+pub fn gone_cases_are_noticed<S: SharedDisk + Drop>()
+    ensures noticed { GoneCasesAreNoticed S.SharedDisk ⟦<Unlocked<'static, S> as Disk>⟧ }
+    ensures never_at_will { NoCaseIsGoneAtWill S.SharedDisk ⟦<Unlocked<'static, S> as Disk>⟧ }
+{}
+
+/// What is copied is the image of the case of the number, and of no other, whatever others do meanwhile. And no copy is refused as
+/// `Gone` while the case is there.
+pub fn copies_are_of_the_case<S: SharedDisk + Drop>()
+    ensures copied { CopiesAreOfTheCase S.SharedDisk ⟦<Unlocked<'static, S> as Disk>⟧ }
+    ensures never_at_will { NoCopyIsGoneAtWill S.SharedDisk ⟦<Unlocked<'static, S> as Disk>⟧ }
+{
+    the_next_number_is_above();
+    a_case_is_there_between();
+}
