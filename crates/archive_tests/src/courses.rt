@@ -1,4 +1,4 @@
-// Three scripts of calls, the disks that they begin on, and the states before them and after each change.
+// Five scripts of calls, the disks that they begin on, and the states before them and after each change.
 use crate::bench::{begin, formatted, opened};
 use crate::script::{Image, SHAPE, State, Step, script, states};
 use disk_model::{Disk, MemDisk};
@@ -73,6 +73,67 @@ static ANEW_STATES: [State; 5] = [
     State {
         cases: &[(23, CORE, true)],
         next: 24,
+        labels: &[],
+        version: 1,
+    },
+];
+
+// How often the case's pin was set or taken back before the script: here too the records leave no room for another.
+const FLIPS: u32 = 242;
+
+// The pin writes the journal anew into half B. What follows fits after it.
+static PINNED: [Step; 4] = [
+    Step::Pin(1, true),
+    Step::Begin(1, CORE),
+    Step::Put(1, CORE, 0, 5000),
+    Step::Finish(1, 2),
+];
+
+static PINNED_STATES: [State; 3] = [
+    State {
+        cases: &[(1, LONG, false)],
+        next: 2,
+        labels: &[],
+        version: 1,
+    },
+    State {
+        cases: &[(1, LONG, true)],
+        next: 2,
+        labels: &[],
+        version: 1,
+    },
+    State {
+        cases: &[(1, LONG, true), (2, CORE, false)],
+        next: 3,
+        labels: &[],
+        version: 1,
+    },
+];
+
+// The deletion does. Only the record of the next number tells it then.
+static DELETED: [Step; 4] = [
+    Step::Delete(1),
+    Step::Begin(1, CORE),
+    Step::Put(1, CORE, 0, 5000),
+    Step::Finish(1, 2),
+];
+
+static DELETED_STATES: [State; 3] = [
+    State {
+        cases: &[(1, LONG, false)],
+        next: 2,
+        labels: &[],
+        version: 1,
+    },
+    State {
+        cases: &[],
+        next: 2,
+        labels: &[],
+        version: 1,
+    },
+    State {
+        cases: &[(2, CORE, false)],
+        next: 3,
         labels: &[],
         version: 1,
     },
@@ -167,6 +228,21 @@ fn turned(alloc: Global) -> Result<MemDisk, Fail> {
     Ok(archive.close())
 }
 
+// The disk of a fresh archive of one case whose pin was set and taken back, over and over.
+fn flipped(alloc: Global) -> Result<MemDisk, Fail> {
+    let mut archive = opened(alloc, formatted(alloc, SHAPE)?)?;
+    let begun = begin(&mut archive, 0, LONG.name)?;
+    if begun != Ok(()) || archive.finish(0) != Ok(1) {
+        return Err(Fail::from("the case was not stored"));
+    }
+    for number in 0..FLIPS {
+        if archive.pin(1, number % 2 == 0) != Ok(()) {
+            return Err(Fail::from("the case was not pinned or unpinned"));
+        }
+    }
+    Ok(archive.close())
+}
+
 /// A script, and the disk that it begins on.
 #[derive(Clone, Copy)]
 pub enum Course {
@@ -174,6 +250,10 @@ pub enum Course {
     Streams,
     /// A store that writes a full half anew, and what follows it.
     Anew,
+    /// A pin that does, and what follows it.
+    Pinned,
+    /// A deletion that does, and what follows it.
+    Deleted,
     /// An archive that is upgraded, and labels, on a fresh archive.
     Labels,
 }
@@ -184,6 +264,8 @@ impl Course {
         match self {
             Course::Streams => script(),
             Course::Anew => &ANEW,
+            Course::Pinned => &PINNED,
+            Course::Deleted => &DELETED,
             Course::Labels => &LABELS,
         }
     }
@@ -193,6 +275,8 @@ impl Course {
         match self {
             Course::Streams => states(),
             Course::Anew => &ANEW_STATES,
+            Course::Pinned => &PINNED_STATES,
+            Course::Deleted => &DELETED_STATES,
             Course::Labels => &LABEL_STATES,
         }
     }
@@ -207,6 +291,7 @@ impl Course {
         match self {
             Course::Streams | Course::Labels => formatted(alloc, SHAPE),
             Course::Anew => turned(alloc),
+            Course::Pinned | Course::Deleted => flipped(alloc),
         }
     }
 }

@@ -1,4 +1,4 @@
-// Stops and faults at each disk call of three scripts, and what the archive shows once it is opened again.
+// Stops and faults at each disk call of five scripts, and what the archive shows once it is opened again.
 use crate::bench::{
     SETTINGS, begin, crashed, has_image, is_image, label, name_of, opened, put, put_nothing, store,
 };
@@ -379,8 +379,11 @@ fn a_stop_with_filled_writes_leaves_the_cases_from_before_or_after(
 fn a_stop_while_the_journal_is_written_anew_leaves_the_cases_from_before_or_after(
     rt: HostRuntime,
 ) -> Result<(), Fail> {
-    stop_everywhere(rt.alloc(), Course::Anew, &CUT)?;
-    stop_everywhere(rt.alloc(), Course::Anew, &FILLED)
+    for course in [Course::Anew, Course::Pinned, Course::Deleted] {
+        stop_everywhere(rt.alloc(), course, &CUT)?;
+        stop_everywhere(rt.alloc(), course, &FILLED)?;
+    }
+    Ok(())
 }
 
 #[test]
@@ -437,7 +440,10 @@ fn a_fault_stops_the_archive(rt: HostRuntime) -> Result<(), Fail> {
 fn a_fault_while_the_journal_is_written_anew_stops_the_archive(
     rt: HostRuntime,
 ) -> Result<(), Fail> {
-    fault_everywhere(&rt, Course::Anew)
+    for course in [Course::Anew, Course::Pinned, Course::Deleted] {
+        fault_everywhere(&rt, course)?;
+    }
+    Ok(())
 }
 
 #[test]

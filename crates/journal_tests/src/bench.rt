@@ -194,11 +194,6 @@ impl<D: Disk + Drop> Bench<D> {
         Ok(self.journal.append_pin(&mut self.disk, seq, flag))
     }
 
-    /// Whether the case of this number is live and not pinned.
-    pub fn may_end(&self, seq: u32) -> bool {
-        seq != 0 && is_droppable(&self.journal, seq)
-    }
-
     /// Ends a live case.
     pub fn end(&mut self, seq: u32) -> Result<Result<(), JournalFault>, Fail> {
         if seq == 0 || !is_droppable(&self.journal, seq) {

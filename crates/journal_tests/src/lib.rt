@@ -1,5 +1,5 @@
-//! Tests of a journal over disks in memory that stop or fail, of compactions by a call, and of calls that are refused memory. What
-//! appends leave where nothing fails is shown by rows of `examples/rows`.
+//! Tests of a journal: of compactions by a call, of an archive that is made on a disk that fails, and of calls that are refused
+//! memory. What appends leave where nothing fails is shown by rows of `examples/rows`, and what stops leave by archive_tests.
 #![tactic(auto)]
 
 #[cfg(test)]
@@ -12,5 +12,3 @@ mod formats;
 mod refused;
 #[cfg(test)]
 mod states;
-#[cfg(test)]
-mod stops;
