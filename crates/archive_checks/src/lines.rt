@@ -1,8 +1,9 @@
 // What `check` tells of an archive, line by line.
 ghost use Rattle.std.specs.Prelude.{◌≡◌};
 ghost use Rattle.script_streams.specs.Replies.{TellsText, telling};
-ghost use Rattle.archive_checks.specs.Texts.{core_words, exec_words, facts_lines, half_name, image_line, place_line, place_words};
+ghost use Rattle.archive_checks.specs.Texts.{core_words, cut_by, exec_words, facts_lines, half_name, image_line, place_line, place_words};
 
+use core_length::whole_length;
 use elf_view::{Elf, Want};
 use image_replies::{CoreImage, tell_core_fault, tell_elf_fault};
 use intake::Space;
@@ -41,7 +42,8 @@ pub(crate) fn tell_facts<O: Output>(
     reply.tell(b"\n");
 }
 
-/// Tells of a case's image that its headers and notes are sound, or the first faulty field.
+/// Tells of a case's image that its headers and notes are sound, or the first faulty field. Of a core it tells too that it was cut, if
+/// its program headers want more bytes than it has.
 pub(crate) fn tell_image<O: Output>(reply: &mut Reply<'_, O>, seq: u32, kind: Kind, image: &[u8])
     ensures { TellsText (telling O.Output reply.old reply.new) (image_line seq kind image.now) }
 {
@@ -58,8 +60,28 @@ fn tell_core<O: Output>(reply: &mut Reply<'_, O>, image: &[u8])
     ensures { TellsText (telling O.Output reply.old reply.new) (core_words image.now) }
 {
     match CoreImage::read(image) {
-        Ok(_) => reply.tell(b"sound\n"),
+        Ok(_) => {
+            reply.tell(b"sound");
+            tell_cut(reply, image.len() as u64, whole_length(image));
+            reply.tell(b"\n");
+        }
         Err(fault) => tell_core_fault(reply, fault),
+    }
+}
+
+// Tells how many bytes of a core there are, if its program headers want more.
+fn tell_cut<O: Output>(reply: &mut Reply<'_, O>, has: u64, whole: Option<u64>)
+    ensures { TellsText (telling O.Output reply.old reply.new) (cut_by has whole) }
+{
+    match whole {
+        Some(whole) if has < whole => {
+            reply.tell(b", cut: ");
+            reply.tell_decimal(u128::from(has));
+            reply.tell(b" of ");
+            reply.tell_decimal(u128::from(whole));
+            reply.tell(b" bytes");
+        }
+        _ => {}
     }
 }
 

@@ -1,11 +1,11 @@
 -- What the program does over the archive on a disk, by the values that its words say.
-use Rattle.std.specs.Prelude.{◌≡◌, ◌⊎◌, ◌&&◌, ◌||◌, nat_lt, is_none, if◌then◌else◌, ℕ, Bool, false, List, [], Option, None, Some, Result, Ok, Err, codes}
+use Rattle.std.specs.Prelude.{◌≡◌, ◌⊎◌, ◌&&◌, ◌||◌, nat_lt, nat_eq, not, is_none, if◌then◌else◌, ℕ, Bool, false, List, [], Option, None, Some, Result, Ok, Err, codes}
 use Rattle.std.specs.Io.KnownBytes.{Keeps}
 use Rattle.disk_model.specs.declared.disk.Disk as disk
 use Rattle.inspector_cli.specs.Asking.{AsksAlone, as_session, line_streams}
 use Rattle.inspector_cli.specs.Life.{LifeEnds, RunsOver, StoresOver}
 use Rattle.inspector_cli.specs.Session.{Streams}
-use Rattle.inspector_cli.specs.Storing.{options_asked}
+use Rattle.inspector_cli.specs.Storing.{Options, options_asked}
 use Rattle.inspector_cli.specs.declared.session.LifeFault.{LifeFault}
 use Rattle.inspector_cli.specs.declared.session.StoreOutcome.{StoreOutcome}
 use Rattle.intake.specs.Calls.{OpenCall}
@@ -51,11 +51,21 @@ AnswersLine g what taken taken' lost lost' before r after =
     → RunsOnDisk g 0 naming (line_streams line asked taken taken' lost lost') before (run_told (as_session asked)) after)
     × (r ≡ ask_told asked)
 
+-- the length that is stated is over the limit
+abbrev pub is_over : Option ℕ → ℕ → Bool
+is_over (Some length) limit = nat_lt limit length
+is_over None limit = false
+
+-- The stream that may begin: the one that is found, unless its stated length is over the limit, and it is not to be cut.
+unfoldable pub within_limit : Options → ℕ → Result StreamFacts (List ℕ) → Result StreamFacts (List ℕ)
+within_limit options limit (Ok stream) = if is_none options.cut && is_over options.length limit then Err (codes "TooLong") else Ok stream
+within_limit options limit (Err reason) = Err reason
+
 -- A stream is stored in the archive on a disk, as a request says, and how that is told.
 abbrev pub StoresOnDisk : {D : Type 0} → disk.Ghosts D → StoreRequest → Streams → D → Result (Unit {0}) Failure → D → Type 0
 StoresOnDisk g request t before r after =
     (ended : Result StoreOutcome LifeFault)
-    × LifeEnds g request.limit t before ended after (StoresOver g request.policy (stream_found request.found) (options_asked request.options) t)
+    × LifeEnds g request.limit t before ended after (StoresOver g request.policy (within_limit (options_asked request.options) request.limit (stream_found request.found)) (options_asked request.options) t)
     × (r ≡ store_told ended)
 
 -- why no stream can begin, if none can
@@ -80,11 +90,20 @@ sparing request = record request { policy = None; options = record request.optio
 abbrev pub is_too_long : ℕ → StoreRequest → Bool
 is_too_long size request = is_none request.options.cut && nat_lt request.limit size
 
--- Whether a stream of so many bytes is refused whichever cases go: it is too long, or longer than all of the archive's data, if that is
--- known, and may not be cut.
+-- so many bytes are more than a bound, if there is one
+abbrev pub exceeds : ℕ → Option ℕ → Bool
+exceeds size (Some most) = nat_lt most size
+exceeds size None = false
+
+-- another length is stated
+abbrev pub differs : ℕ → Option ℕ → Bool
+differs size (Some stated) = not (nat_eq stated size)
+differs size None = false
+
+-- Whether a stream of so many bytes is refused whichever cases go, if it may not be cut: it is too long, or longer than all of the
+-- archive's data, if that is known, or has not the length that is stated.
 abbrev pub is_refused : ℕ → Option ℕ → StoreRequest → Bool
-is_refused size (Some most) request = is_too_long size request || is_none request.options.cut && nat_lt most size
-is_refused size None request = is_too_long size request
+is_refused size most request = is_too_long size request || is_none request.options.cut && (exceeds size most || differs size request.options.length)
 
 -- The request for a stream of this length, if it is known.
 abbrev pub sparing_for : Option ℕ → Option ℕ → StoreRequest → StoreRequest

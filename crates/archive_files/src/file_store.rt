@@ -31,15 +31,17 @@ pub fn store_file<R: AllocGlobal + Files<File = File>, I: Read, O: Output, W: On
     onlooker: &mut W,
 ) -> (Result<(), Failure>, Option<FileDisk>) {
     if file == "-" {
-        let taken = take_disk(rt, place, Access::Changing);
-        return store_counted(rt.alloc(), taken, request, None, input, output, onlooker);
+        let mut taken = take_disk(rt, place, Access::Changing);
+        let length = request.stated_length();
+        let request = request.of_length(length, room_in(&mut taken));
+        return store_counted(rt.alloc(), taken, request, length, input, output, onlooker);
     }
     let opened = File::open(rt, file);
     let taken = take_disk(rt, place, Access::Changing);
     match opened {
         Ok(mut file) => {
             let mut taken = taken;
-            let length = length_of(&file);
+            let length = length_of(&file).or(request.stated_length());
             let request = request.of_length(length, room_in(&mut taken));
             store_counted(
                 rt.alloc(),

@@ -1,13 +1,13 @@
 // What `store` does over the archive on a disk.
-ghost use Rattle.std.specs.Prelude.{◌≡◌, None, false};
+ghost use Rattle.std.specs.Prelude.{◌≡◌, None, false, is_some};
 ghost use Rattle.std.specs.Option.{option_map};
 ghost use Rattle.std.specs.Io.KnownBytes.{Keeps};
 ghost use Rattle.script_lines.specs.Said.{said};
 ghost use Rattle.stream_names.specs.Commands.{stream_found};
 ghost use Rattle.inspector_cli.specs.Session.{streams_of};
-ghost use Rattle.inspector_cli.specs.Storing.{line_stream};
+ghost use Rattle.inspector_cli.specs.Storing.{line_stream, options_asked};
 ghost use Rattle.script_streams.specs.Replies.{TellsText, telling};
-ghost use Rattle.archive_files.specs.OverDisks.{StoresOnDisk, StoresFile, IsFitted, is_refused, is_too_long, name_found, reason_found, sparing, sparing_for};
+ghost use Rattle.archive_files.specs.OverDisks.{StoresOnDisk, StoresFile, IsFitted, differs, exceeds, is_refused, is_too_long, name_found, reason_found, sparing, sparing_for, within_limit};
 ghost use Rattle.archive_files.specs.Telling.{IsKeptAs};
 
 use crate::collected::Collected;
@@ -107,6 +107,20 @@ impl StoreRequest {
         }
     }
 
+    /// Whether its case is to have a label.
+    pub fn has_label(&self) -> bool
+        ensures { result ≡ is_some self.now.options.label }
+    {
+        self.options.label.is_some()
+    }
+
+    /// How many bytes the stream has, if that is stated.
+    pub fn stated_length(&self) -> Option<u64>
+        ensures { result ≡ self.now.options.length }
+    {
+        self.options.length
+    }
+
     /// The request for a stream of so many bytes, if that is known, in an archive whose data takes at most so many. No case goes for
     /// a stream that is refused whichever go.
     pub fn of_length(self, length: Option<u64>, most: Option<u64>) -> Self
@@ -136,9 +150,17 @@ impl StoreRequest {
     fn is_refused(&self, length: u64, most: Option<u64>) -> bool
         ensures { result ≡ is_refused length most self.now }
     {
-        match most {
-            Some(most) => self.is_too_long(length) || self.options.cut.is_none() && length > most,
-            None => self.is_too_long(length),
+        self.is_too_long(length)
+            || self.options.cut.is_none() && (exceeds(length, most) || self.differs(length))
+    }
+
+    // Another length is stated.
+    fn differs(&self, length: u64) -> bool
+        ensures { result ≡ differs length self.now.options.length }
+    {
+        match self.options.length {
+            Some(stated) => stated != length,
+            None => false,
         }
     }
 
@@ -159,6 +181,31 @@ impl StoreRequest {
         } else {
             self.without_retiring()
         }
+    }
+}
+
+// Whether so many bytes are more than a bound, if there is one.
+fn exceeds(length: u64, most: Option<u64>) -> bool
+    ensures { result ≡ exceeds length most }
+{
+    match most {
+        Some(most) => length > most,
+        None => false,
+    }
+}
+
+// The stream that may begin: the one that is found, unless its stated length is over the limit, and it is not to be cut.
+#[tactic(auto, unfolding(crate::specs::OverDisks::within_limit))]
+fn within_limit(
+    found: Result<NewStream, &'static [u8]>,
+    options: &StoreOptions,
+    limit: u64,
+) -> Result<NewStream, &'static [u8]>
+    ensures { stream_found result ≡ within_limit (options_asked options.now) limit (stream_found found.entry) }
+{
+    match (found, options.length) {
+        (Ok(_), Some(length)) if options.cut.is_none() && length > limit => Err(b"TooLong"),
+        (found, _) => found,
     }
 }
 
@@ -219,6 +266,7 @@ fn store_retiring_first<D: Disk, I: Input, O: Output>(
         options,
         limit,
     } = request;
+    let found = within_limit(found, &options, limit);
     let settings = Settings { limit };
     let (ended, disk) = open_and_store(
         alloc, disk, settings, policy, found, &options, file, output,

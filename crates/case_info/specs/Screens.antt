@@ -1,5 +1,5 @@
 -- One screen of a case: the lines that are asked of it, and what is shown of their replies.
-use Rattle.std.specs.Prelude.{◌≡◌, ℕ, suc, Bool, false, if◌then◌else◌, List, [], ◌∷◌, length, map, min, Result, Ok, Err, IfOk}
+use Rattle.std.specs.Prelude.{◌≡◌, ℕ, suc, Bool, false, if◌then◌else◌, List, [], ◌∷◌, length, map, min, Option, Result, Ok, Err, IfOk}
 use Rattle.archive_files.specs.declared.collected.Collected.{Collected}
 use Rattle.archive_files.specs.declared.failures.Refusal.{Refusal}
 use Rattle.archive_files.specs.declared.failures.Refusal.TheVariants.{Open}
@@ -12,6 +12,8 @@ use Rattle.case_screens.specs.declared.answer.CoreAnswers.{CoreAnswers}
 use Rattle.case_screens.specs.declared.answer.ThreadAnswer.{ThreadAnswer}
 use Rattle.disk_model.specs.declared.disk.Disk as disk
 use Rattle.intake.specs.Calls.{OpenCall}
+use Rattle.core_length.specs.Whole.{whole_length}
+use Rattle.intake.specs.Part.{PartCall}
 use Rattle.intake.specs.Parts.{Parts, state_of}
 use Rattle.journal_layout.specs.Case.{Case}
 use Rattle.intake.specs.Step.{HasCase}
@@ -83,9 +85,19 @@ pub record AreTold (r : CoreReplies) (a : CoreAnswers) : Type 0 where
 abbrev pub IsScreenBy : {D : Type 0} → Parts D → ℕ → CaseAnswers → Collected → Type 0
 IsScreenBy a seq answers text = (c : Case) × HasCase (state_of a) seq c × (held text ≡ info_answer c (state_of a).cases answers)
 
--- A core is asked its lines, and their replies are shown.
+-- how many bytes a core has that begins so, if it is whole
+unfoldable pub whole_seen : List ℕ → Option ℕ
+whole_seen b = whole_length b
+
+-- The first bytes of an image are read, 65,536 or as many as it has, and they say how many bytes a core has if it is whole.
+abbrev pub SeesWhole : {D : Type 0} → disk.Ghosts D → Parts D → ℕ → Option ℕ → Parts D → Type 0
+SeesWhole g old seq whole new =
+    (c : Case) × HasCase (state_of old) seq c × (n : ℕ) × (n ≡ min c.len 65536) × (front : List ℕ) × PartCall g old seq 0 n (Ok tt) front new × (whole ≡ whole_seen front)
+
+-- A core is asked its lines, and their replies are shown, and whether it was cut.
 abbrev pub ShowsCore : {D : Type 0} → disk.Ghosts D → Parts D → ℕ → Bool → Collected → Parts D → Type 0
-ShowsCore g old seq all text new = (r : CoreReplies) × AsksCore g old seq all r new × (a : CoreAnswers) × AreTold r a × IsScreenBy new seq (Core a) text
+ShowsCore {D} g old seq all text new =
+    (r : CoreReplies) × (mid : Parts D) × AsksCore g old seq all r mid × (a : CoreAnswers) × AreTold r a × SeesWhole g mid seq a.whole new × IsScreenBy new seq (Core a) text
 
 -- An executable is asked for its header, and the reply is shown.
 abbrev pub ShowsExec : {D : Type 0} → disk.Ghosts D → Parts D → ℕ → Collected → Parts D → Type 0

@@ -7,6 +7,7 @@ mod gathered;
 mod inquiry;
 mod rows;
 mod telling;
+mod whole;
 
 pub use archive::info_archive;
 pub use case::{InfoWords, info_case};

@@ -1,5 +1,5 @@
 -- What a person is shown of a case: its facts, and what the lines of a script answer of it.
-use Rattle.std.specs.Prelude.{ℕ, ◌-◌, Bool, true, false, if◌then◌else◌, List, [], ◌∷◌, ◌++◌, length, codes, decimal}
+use Rattle.std.specs.Prelude.{ℕ, ◌-◌, Bool, true, false, nat_lt, if◌then◌else◌, Option, None, Some, List, [], ◌∷◌, ◌++◌, length, codes, decimal}
 use Rattle.journal_layout.specs.Case.{Case}
 use Rattle.script_words.specs.Printing.{shown}
 use Rattle.case_tables.specs.Sizes.{size_text}
@@ -34,13 +34,18 @@ head_text c =
 abbrev pub when_text : ℕ → List ℕ
 when_text time = codes "when      " ++ (time_text time ++ 10 ∷ [])
 
+-- how many bytes there are of it, and how many its program headers want, if that is more
+abbrev pub cut_line : ℕ → Option ℕ → List ℕ
+cut_line has None = []
+cut_line has (Some whole) = if nat_lt has whole then codes "cut       " ++ (size_text has ++ (codes " of " ++ (size_text whole ++ 10 ∷ []))) else []
+
 -- a core
 abbrev pub core_text : Case → List Case → CoreAnswers → List ℕ
 core_text c cases a =
-    when_text c.origin.time ++ (process_text a.process.is_done (texts a.process.lines.now)
+    when_text c.origin.time ++ (cut_line c.len a.whole ++ (process_text a.process.is_done (texts a.process.lines.now)
     ++ (signal_line c.origin.signal a.signal.is_done (texts a.signal.lines.now)
     ++ (threads_text (texts a.files.lines.now) a.threads.is_done (texts a.threads.lines.now) a.unwound.now
-    ++ files_text cases a.builds.is_done (texts a.builds.lines.now))))
+    ++ files_text cases a.builds.is_done (texts a.builds.lines.now)))))
 
 -- the header of an executable
 abbrev pub header_text : List ℕ → List ℕ

@@ -28,6 +28,8 @@ pub struct CoreAnswers<'s, 'a> {
     /// The threads that are shown.
     pub unwound: &'s [ThreadAnswer<'a>],
     pub builds: Answer<'a>,
+    /// How many bytes its program headers want, if they can be read.
+    pub whole: Option<u64>,
 }
 
 /// What is asked of a case.

@@ -4,10 +4,11 @@ use crate::codes::{code_of_signal, sent_code};
 use crate::files::stored_number;
 use crate::frames::{frame_count, frame_file};
 use crate::lines::{line_at, reason_in, row_count, word_at};
-use crate::rows::{merged_value, put_row, refusal_value, rows_value, string_value};
+use crate::rows::{merged_value, put_row, refusal_value, rows_value, string_value, word_value};
 use case_tables::case_value;
 use journal_layout::Entry;
 use line_help::rows_of;
+use script_words::print_decimal;
 use serde_json::{Map, Value, put};
 use std::alloc::{AllocError, Global};
 
@@ -43,12 +44,21 @@ fn put_core(
 ) -> Result<(), AllocError> {
     let process = merged_value(alloc, &answers.process, rows_of("process"))?;
     put(map, alloc, "process", process)?;
+    put(map, alloc, "whole", whole_value(alloc, answers.whole)?)?;
     put(map, alloc, "cause", cause_value(alloc, &answers.signal)?)?;
     let count = Value::from(row_count(answers.threads.lines));
     put(map, alloc, "thread_count", count)?;
     put(map, alloc, "threads", threads_value(alloc, answers)?)?;
     let files = files_value(alloc, cases, &answers.builds)?;
     put(map, alloc, "files", files)
+}
+
+// How many bytes a core has if it is whole, or null.
+fn whole_value(alloc: Global, whole: Option<u64>) -> Result<Value, AllocError> {
+    match whole {
+        Some(whole) => word_value(alloc, print_decimal(u128::from(whole)).as_slice()),
+        None => Ok(Value::Null),
+    }
 }
 
 fn header_value(alloc: Global, answer: &Answer<'_>) -> Result<Value, AllocError> {

@@ -49,7 +49,7 @@ fn tell_stored<O: Output>(reply: &mut Reply<'_, O>, number: Option<u32>, line: &
         Some(number) => {
             reply.tell(b"stored as case ");
             reply.tell_decimal(u128::from(number));
-            tell_build(reply, line);
+            reply.tell(build_words(line));
         }
         None => {
             reply.tell(b"not stored: corekeep store ARCHIVE FILE --exec ");
@@ -58,15 +58,17 @@ fn tell_stored<O: Output>(reply: &mut Reply<'_, O>, number: Option<u32>, line: &
     }
 }
 
-// Tells it if the build IDs say that another file ran: such a file is not used.
-fn tell_build<O: Output>(reply: &mut Reply<'_, O>, line: &[u8])
-    ensures { TellsText (telling O.Output reply.old reply.new) (build_text line.now) }
+// What is told if the build IDs say that another file ran: such a file is not used.
+fn build_words(line: &[u8]) -> &'static [u8]
+    ensures { result.now ≡ build_text line.now }
 {
     if word_at(line, 3) == b"differs".as_slice() {
-        reply.tell(b", another build");
-    } else if lacks_id(line) {
-        reply.tell(b", no build ID");
+        return b", another build";
     }
+    if lacks_id(line) {
+        return b", no build ID";
+    }
+    b""
 }
 
 // Whether what is stored has no build ID, and the core tells one.

@@ -142,7 +142,7 @@ fn is_none(kind: FieldKind, word: &[u8]) -> bool {
 }
 
 // A decimal number that a JSON number holds, or a string.
-fn word_value(alloc: Global, word: &[u8]) -> Result<Value, AllocError> {
+pub(crate) fn word_value(alloc: Global, word: &[u8]) -> Result<Value, AllocError> {
     let (digits, negative) = match word.split_first() {
         Some((first, digits)) if *first == b'-' => (digits, true),
         _ => (word, false),

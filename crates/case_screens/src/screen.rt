@@ -3,7 +3,7 @@ ghost use Rattle.std.specs.Prelude.{◌≡◌, true, map};
 ghost use Rattle.journal_layout.specs.Case.{case_of};
 ghost use Rattle.script_streams.specs.Replies.{TellsText, telling};
 ghost use Rattle.case_screens.specs.Lines.{texts};
-ghost use Rattle.case_screens.specs.Screen.{answers_text, core_text, exec_text, head_text, header_text, info_answer, label_text, pin_text, when_text};
+ghost use Rattle.case_screens.specs.Screen.{answers_text, core_text, cut_line, exec_text, head_text, header_text, info_answer, label_text, pin_text, when_text};
 
 use crate::answer::{Answer, CaseAnswers, CoreAnswers};
 use crate::files::tell_files;
@@ -80,6 +80,22 @@ fn tell_when<O: Output>(reply: &mut Reply<'_, O>, time: u64)
     reply.tell(b"\n");
 }
 
+// Tells how many bytes there are of a core, and how many its program headers want, if that is more.
+fn tell_cut<O: Output>(reply: &mut Reply<'_, O>, has: u64, whole: Option<u64>)
+    ensures { TellsText (telling O.Output reply.old reply.new) (cut_line has whole) }
+{
+    match whole {
+        Some(whole) if has < whole => {
+            reply.tell(b"cut       ");
+            tell_size(reply, has);
+            reply.tell(b" of ");
+            tell_size(reply, whole);
+            reply.tell(b"\n");
+        }
+        _ => {}
+    }
+}
+
 fn tell_core<O: Output>(
     reply: &mut Reply<'_, O>,
     case: &Entry,
@@ -89,6 +105,7 @@ fn tell_core<O: Output>(
     ensures { TellsText (telling O.Output reply.old reply.new) (core_text (case_of case.now) (map case_of cases.now) answers.now) }
 {
     tell_when(reply, case.time);
+    tell_cut(reply, case.length, answers.whole);
     tell_process(reply, &answers.process);
     tell_signal_line(reply, case.signal, &answers.signal);
     tell_threads(

@@ -202,6 +202,7 @@ fn wanted_of(alloc: Global, found: &ArgMatches<'_>) -> Result<StoreWords, Refusa
             pin: found.get_flag("pin"),
             fit: found.get_flag("fit"),
             cut: cut_of(found),
+            length: limit_of(found, "length")?,
             burst: None,
         },
     })
@@ -383,6 +384,7 @@ fn handle_words<'a>(alloc: Global, found: &ArgMatches<'a>) -> Result<Asked<'a>, 
         Some((first, rest)) if !first.contains('=') => (Some(checked(first)?), rest),
         _ => (None, words),
     };
+    let stated = StatedLength::of(found.get_str("length"), pairs);
     let (begin, left_out) = known_pairs(alloc, pairs)?;
     let archive = found.get_str("archive").map(checked).transpose()?;
     Ok(Asked::Handle(HandleWords {
@@ -390,8 +392,48 @@ fn handle_words<'a>(alloc: Global, found: &ArgMatches<'a>) -> Result<Asked<'a>, 
         archive,
         begin,
         left_out,
+        length: stated.length,
+        faulty_length: stated.faulty,
         is_check: found.get_flag("check"),
     }))
+}
+
+// The length of a core, as an option or the last pair of that name states it.
+#[derive(Clone, Copy)]
+struct StatedLength<'a> {
+    length: Option<u64>,
+    // What is there, and is no number.
+    faulty: Option<&'a str>,
+}
+
+impl<'a> StatedLength<'a> {
+    fn of(option: Option<&'a str>, pairs: &[&'a str]) -> Self {
+        let mut stated = option;
+        for pair in pairs {
+            stated = length_pair(pair).or(stated);
+        }
+        let Some(number) = stated else {
+            return StatedLength {
+                length: None,
+                faulty: None,
+            };
+        };
+        match parse_number(number.as_bytes()) {
+            Some(length) => StatedLength {
+                length: Some(length),
+                faulty: None,
+            },
+            None => StatedLength {
+                length: None,
+                faulty: Some(number),
+            },
+        }
+    }
+}
+
+// The value of the pair that states a length.
+fn length_pair<'a>(pair: &'a str) -> Option<&'a str> {
+    pair.strip_prefix("length=")
 }
 
 // The line that begins a core with these pairs, and the pairs that it can't have.
@@ -402,6 +444,9 @@ fn known_pairs<'a>(
     let mut line = b"begin core 0".to_vec(alloc)?;
     let mut left_out = Vec::new(alloc);
     for pair in pairs {
+        if length_pair(pair).is_some() {
+            continue;
+        }
         let at = line.len();
         if !takes_pair(&mut line, pair)? {
             line.truncate(at);

@@ -47,24 +47,24 @@ const SHAPE: &[u8] =
 static NAME_MEANINGS: [Meaning; 2] = [
     Meaning {
         reason: b"TooLong",
-        words: b"the name has over 128 bytes: take a shorter NAME of --exec, or a shorter --template",
+        words: b"the name has over 128 bytes: take a shorter NAME of --exec, or a shorter --template; or the length that --length states is over the limit (--limit N, 1 GiB if it is left out): raise it, or keep the front by --cut",
     },
     Meaning {
         reason: b"BadLine",
-        words: b"a pair, a limit or the label can't be read, or --exec has pairs: KEY is comm, exe, host, pid, tid, sig, uid, gid, mode, time or limit, the VALUE of all but comm, exe and host is a number, and --escape takes one that has spaces",
+        words: b"a pair, a limit, the length or the label can't be read, or --exec has pairs: KEY is comm, exe, host, pid, tid, sig, uid, gid, mode, time or limit, the VALUE of all but comm, exe and host is a number, and --escape takes one that has spaces",
     },
 ];
 
 // The same, when it takes the image.
 static STORE_MEANINGS: [Meaning; 1] = [Meaning {
     reason: b"TooLong",
-    words: b"the image is over the limit (--limit N, 1 GiB if it is left out): raise it, or keep the front by --cut",
+    words: b"the image is over the limit (--limit N, 1 GiB if it is left out): raise it, or keep the front by --cut; or it has more bytes than --length states",
 }];
 
 // The same of `handle`.
 static HANDLER_MEANINGS: [Meaning; 1] = [Meaning {
     reason: b"TooLong",
-    words: b"the core is over the limit of the configuration (limit, 1 GiB if it is left out): raise it, or keep the front by cut",
+    words: b"the core is over the limit of the configuration (limit, 1 GiB if it is left out): raise it, or keep the front by cut; or it has more bytes than its stated length",
 }];
 
 // The same of `list`.

@@ -2,6 +2,7 @@
 use crate::ask_tables::{PLAIN, TEXT};
 use crate::care_tables::CARE_COMMANDS;
 use crate::info_tables::INFO_COMMANDS;
+use crate::length_table::LENGTH;
 use crate::list_tables::LIST_WORDS;
 use crate::tables::{COMMANDS, CommandWords, Takes, Word};
 use clap::{Arg, ArgAction, Command, Error, value_parser};
@@ -69,6 +70,7 @@ fn whole_command<'a>(alloc: Global, words: &CommandWords) -> Result<Command<'a>,
     match words.name {
         "list" => with_list_words(alloc, command),
         "ask" => with_ask_words(alloc, command),
+        "store" | "handle" => Ok(command.arg(argument(alloc, &LENGTH))?),
         _ => Ok(command),
     }
 }

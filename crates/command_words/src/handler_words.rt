@@ -61,7 +61,7 @@ fn push_all(ordered: &mut Vec<String>, words: &[String], wanted: Kind) -> Result
 // The kind of the word after this one, if that is this option's value. `store` has options that a handler has not.
 fn kind_of_value(word: &str) -> Option<Kind> {
     match word {
-        "--archive" => Some(Kind::Known),
+        "--archive" | "--length" => Some(Kind::Known),
         "--keep"
         | "--bytes"
         | "--before"
@@ -77,8 +77,8 @@ fn kind_of_value(word: &str) -> Option<Kind> {
 // The kind of a word that is no option's value.
 fn kind_of(word: &str) -> Kind {
     match word {
-        "--check" | "--help" | "-h" | "--archive" => Kind::Known,
-        _ if word.starts_with("--archive=") => Kind::Known,
+        "--check" | "--help" | "-h" | "--archive" | "--length" => Kind::Known,
+        _ if word.starts_with("--archive=") || word.starts_with("--length=") => Kind::Known,
         _ if word.starts_with('-') => Kind::Unknown,
         _ => Kind::Plain,
     }

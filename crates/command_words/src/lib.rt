@@ -9,6 +9,7 @@ mod grammar;
 mod handler_words;
 mod helps;
 mod info_tables;
+mod length_table;
 mod line_texts;
 mod list_tables;
 mod notes;

@@ -7,7 +7,7 @@ pub(crate) struct Meaning {
 }
 
 // The reasons for which something is refused. Other reasons are fields of an image.
-static MEANINGS: [Meaning; 37] = [
+static MEANINGS: [Meaning; 38] = [
     Meaning {
         reason: b"SpaceFull",
         words: b"the image takes more blocks than are free (corekeep ask ARCHIVE free counts them): delete or retire cases (pinned ones once they are unpinned); if it takes more than the archive has, make that larger (corekeep resize)",
@@ -30,7 +30,11 @@ static MEANINGS: [Meaning; 37] = [
     },
     Meaning {
         reason: b"TooLong",
-        words: b"the image is over the limit: raise the limit, or keep the front by cut; or its name has over 128 bytes: take a shorter one",
+        words: b"the image is over the limit: raise the limit, or keep the front by cut; or it has more bytes than its stated length; or its name has over 128 bytes: take a shorter one",
+    },
+    Meaning {
+        reason: b"Short",
+        words: b"the image ended before its stated length: it was cut on its way, and nothing is stored; send it again",
     },
     Meaning {
         reason: b"NulByte",

@@ -136,7 +136,12 @@ fn tell_faults<R: AllocGlobal, O: Output>(
         reply.tell_text(pair.as_bytes());
         reply.tell(b": is no pair of the grammar\n");
     }
-    faults.is_empty() && words.left_out.is_empty()
+    if let Some(length) = words.faulty_length {
+        reply.tell(b"fault ");
+        reply.tell_text(length.as_bytes());
+        reply.tell(b": is no length\n");
+    }
+    faults.is_empty() && words.left_out.is_empty() && words.faulty_length.is_none()
 }
 
 // Tells which values would be left out when a core comes, though they are of the right kind. Says whether there is none.

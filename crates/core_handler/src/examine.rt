@@ -6,6 +6,7 @@ ghost use Rattle.journal_layout.specs.Case.{Case};
 ghost use Rattle.journal_layout.specs.Soundness.{case_numbered};
 
 use archive_files::Collected;
+use core_length::whole_length;
 use disk_model::Disk;
 use elf_view::{Elf, Want};
 use image_replies::{CoreImage, tell_core_fault, tell_elf_fault};
@@ -32,6 +33,15 @@ pub(crate) struct Seen {
     pub(crate) signal: u32,
     // What can't be read of its image, in words; empty if that can, or could not be looked at.
     trouble: Collected,
+    // How many bytes its image would have, if it is a core that was cut on its way.
+    whole: Option<u64>,
+}
+
+// What is seen of an image.
+#[derive(Drop)]
+struct Sight {
+    trouble: Collected,
+    whole: Option<u64>,
 }
 
 // Machines that cores are likely to come from, by e_machine.
@@ -59,6 +69,21 @@ impl Seen {
     // its headers and notes are sound, or could not be looked at.
     pub(crate) fn trouble(&self) -> &[u8] {
         self.trouble.text()
+    }
+
+    // Whether it is a core that was cut on its way, in words; empty if it was not, or that can't be told.
+    pub(crate) fn cut(&self, alloc: Global) -> Collected {
+        let mut words = Collected::new(alloc);
+        let mut reply = Reply::new(&mut words);
+        if let Some(whole) = self.whole {
+            reply.tell(b"is cut: ");
+            reply.tell_decimal(u128::from(self.length));
+            reply.tell(b" of ");
+            reply.tell_decimal(u128::from(whole));
+            reply.tell(b" bytes");
+        }
+        let _ = reply.finish();
+        words
     }
 }
 
@@ -160,32 +185,60 @@ fn see_case<D: Disk>(alloc: Global, seq: u32, archive: &mut Archive<D>) -> Optio
     let length = entry.length;
     let signal = entry.signal;
     let kind = entry.kind;
-    let trouble = see_image(alloc, seq, kind, length, archive).unwrap_or(Collected::new(alloc));
+    let sight = see_image(alloc, seq, kind, length, archive).unwrap_or(Sight {
+        trouble: Collected::new(alloc),
+        whole: None,
+    });
     Some(Seen {
         length,
         signal,
-        trouble,
+        trouble: sight.trouble,
+        whole: sight.whole,
     })
 }
 
-// What can't be read of the image of a case, in words. Its first bytes are looked at. If a field of them is at fault, and there are
-// more, the field may be one of those that are missing: the whole image is read then.
+// How many bytes a core of so many that begins so would have, if it was cut.
+fn cut_whole(kind: Kind, length: u64, front: &[u8]) -> Option<u64> {
+    match (kind, whole_length(front)) {
+        (Kind::Core, Some(whole)) if length < whole => Some(whole),
+        _ => None,
+    }
+}
+
+// What is seen of the image of a case, of which the first bytes are looked at.
 fn see_image<D: Disk>(
     alloc: Global,
     seq: u32,
     kind: Kind,
     length: u64,
     archive: &mut Archive<D>,
-) -> Option<Collected>
+) -> Option<Sight>
     requires fits { (c : Case) → case_numbered seq (state_of archive.old).cases ≡ Some c → length ≤ c.len }
     ensures quiet { OnlyReads D.Disk archive.old.disk archive.new.disk }
 {
     let front = read_front(alloc, seq, length, archive)?;
-    let words = kind_trouble(alloc, &front);
+    let whole = cut_whole(kind, length, &front);
+    let trouble = see_trouble(alloc, seq, kind, length, &front, archive)?;
+    Some(Sight { trouble, whole })
+}
+
+// What can't be read of the image of a case that begins so, in words. If a field of its first bytes is at fault, and there are more, the
+// field may be one of those that are missing: the whole image is read then.
+fn see_trouble<D: Disk>(
+    alloc: Global,
+    seq: u32,
+    kind: Kind,
+    length: u64,
+    front: &[u8],
+    archive: &mut Archive<D>,
+) -> Option<Collected>
+    ensures quiet { OnlyReads D.Disk archive.old.disk archive.new.disk }
+{
+    let words = kind_trouble(alloc, front);
     if !words.text().is_empty() {
         return Some(words);
     }
-    let words = field_trouble(alloc, kind, &front);
+    let words = field_trouble(alloc, kind, front);
     if words.text().is_empty() || length <= FRONT {
         return Some(words);
     }

@@ -39,6 +39,10 @@ pub struct HandleWords<'a> {
     pub begin: Vec<u8>,
     /// The pairs that were left out of it.
     pub left_out: Vec<&'a str>,
+    /// How many bytes the core has, if that is stated.
+    pub length: Option<u64>,
+    /// What states its length, and is no number.
+    pub faulty_length: Option<&'a str>,
     /// Nothing is stored, and what holds by the configuration is told.
     pub is_check: bool,
 }
@@ -87,14 +91,14 @@ pub fn handle<R: AllocGlobal + Files<File = File> + Clock, I: Read, O: Output, W
     let handler = Handler { config, teller };
     tell_faults(rt, &handler, &words, &document);
     let Some(archive) = config.archive.or(words.archive) else {
-        handler.tell_unnamed(rt, &words.begin);
+        handler.tell_unnamed(rt, &words);
         return Err(Failure::Refused(Refusal::File(FileWord::Archive, FileFault::Missing)));
     };
     let place = ArchivePath {
         path: archive,
         waits: !config.no_wait,
     };
-    let request = handler.request(rt, &words.begin)?;
+    let request = handler.request(rt, &words)?;
     handler.store(rt, place, request, input, output, onlooker)
 }
 
@@ -122,12 +126,10 @@ fn tell_faults<R: AllocGlobal + Files<File = File>>(
         }
     }
     for pair in &words.left_out {
-        let mut line = Collected::new(rt.alloc());
-        let mut reply = Reply::new(&mut line);
-        reply.tell(b"left out, since it is neither an option nor a pair of the grammar: ");
-        reply.tell_text(pair.as_bytes());
-        let _ = reply.finish();
-        handler.tell(rt, Level::Warning, line.text());
+        handler.tell_left_out(rt, b"neither an option nor a pair of the grammar: ", pair);
+    }
+    if let Some(length) = words.faulty_length {
+        handler.tell_left_out(rt, b"no length: ", length);
     }
 }
 
@@ -136,12 +138,23 @@ impl<'a> Handler<'a> {
         self.teller.tell(rt, level, text);
     }
 
+    // Tells that a word is left out, and why.
+    fn tell_left_out<R: AllocGlobal + Files<File = File>>(&self, rt: &R, why: &[u8], word: &str) {
+        let mut line = Collected::new(rt.alloc());
+        let mut reply = Reply::new(&mut line);
+        reply.tell(b"left out, since it is ");
+        reply.tell(why);
+        reply.tell_text(word.as_bytes());
+        let _ = reply.finish();
+        self.tell(rt, Level::Warning, line.text());
+    }
+
     // Tells that a core is lost since no archive is named.
-    fn tell_unnamed<R: Files<File = File> + Clock>(&self, rt: &R, begin: &Vec<u8>) {
+    fn tell_unnamed<R: Files<File = File> + Clock>(&self, rt: &R, words: &HandleWords<'_>) {
         let mut line = Collected::new(self.teller.alloc);
         let mut reply = Reply::new(&mut line);
         reply.tell(b"lost ");
-        match self.request(rt, begin) {
+        match self.request(rt, words) {
             Ok(request) => reply.tell(request.printed_name(self.teller.alloc).text()),
             Err(_) => reply.tell(b"a core"),
         }
@@ -154,9 +167,9 @@ impl<'a> Handler<'a> {
     fn request<R: Files<File = File> + Clock>(
         &self,
         rt: &R,
-        begin: &Vec<u8>,
+        words: &HandleWords<'_>,
     ) -> Result<StoreRequest, Refusal> {
-        let request = self.named(rt, begin, self.template(rt))?;
+        let request = self.named(rt, words, self.template(rt))?;
         let Some(reason) = request.refusal() else {
             return Ok(request);
         };
@@ -166,14 +179,14 @@ impl<'a> Handler<'a> {
         reply.tell(reason);
         let _ = reply.finish();
         self.tell(rt, Level::Warning, line.text());
-        self.named(rt, begin, PLAIN_TEMPLATE)
+        self.named(rt, words, PLAIN_TEMPLATE)
     }
 
     // The same, named by this template.
     fn named<R: Files<File = File> + Clock>(
         &self,
         rt: &R,
-        begin: &Vec<u8>,
+        words: &HandleWords<'_>,
         template: &str,
     ) -> Result<StoreRequest, Refusal> {
         let naming = Naming {
@@ -183,13 +196,14 @@ impl<'a> Handler<'a> {
         let limit = self.config.limit.unwrap_or(HANDLER_LIMIT);
         let words = StoreWords {
             policy: self.policy(rt),
-            begin: begin.clone()?,
+            begin: words.begin.clone()?,
             options: StoreOptions {
                 label: self.label(rt),
                 pin: false,
                 fit: self.config.fit,
                 cut: if self.config.cut { Some(limit) } else { None },
-                burst: self.burst(begin, template),
+                length: words.length,
+                burst: self.burst(&words.begin, template),
             },
         };
         Ok(StoreRequest::of(words, &naming, limit))

@@ -55,6 +55,75 @@ fn with_line<'a>(outcome: Outcome<'a>, line: &'a [u8]) -> Outcome<'a> {
     outcome
 }
 
+// What a case that is stored was to get, and did not: for which reason, if so.
+#[derive(Clone, Copy)]
+pub(crate) struct Lacks<'a> {
+    pub(crate) label: Option<&'a [u8]>,
+    pub(crate) pin: Option<&'a [u8]>,
+    // The pin was answered after the label.
+    pub(crate) pin_follows: bool,
+}
+
+// Reads the replies behind those to the end of a stream: that to its label, if it was to have one, and that to its pin.
+pub(crate) fn lacks_of(replies: &[u8], has_label: bool) -> Lacks<'_> {
+    let mut lacks = Lacks {
+        label: None,
+        pin: None,
+        pin_follows: false,
+    };
+    let mut behind: u32 = 0;
+    for line in replies.split(|byte| *byte == b'\n') {
+        if behind == 0 && after(line, b"stored ").is_none() || line.is_empty() {
+            continue;
+        }
+        lacks = with_reply(lacks, behind, has_label, line);
+        behind = behind.saturating_add(1);
+    }
+    lacks
+}
+
+// The line of this number, that of `stored` being 0, and its `ok` 1.
+fn with_reply<'a>(lacks: Lacks<'a>, behind: u32, has_label: bool, line: &'a [u8]) -> Lacks<'a> {
+    let refused = after(line, b"no ");
+    match (behind, has_label) {
+        (0 | 1, _) => lacks,
+        (2, true) => Lacks {
+            label: refused,
+            ..lacks
+        },
+        (_, true) => Lacks {
+            pin: refused,
+            pin_follows: true,
+            ..lacks
+        },
+        (_, false) => Lacks {
+            pin: refused,
+            ..lacks
+        },
+    }
+}
+
+// What is told of a case that lacks this, for this reason.
+pub(crate) fn lack_words(
+    alloc: Global,
+    lack: &[u8],
+    reason: &[u8],
+    trouble: Option<Trouble>,
+) -> Collected {
+    let meaning = words_of(alloc, None, reason, trouble);
+    let mut words = Collected::new(alloc);
+    let mut reply = Reply::new(&mut words);
+    reply.tell(lack);
+    reply.tell(b": no ");
+    reply.tell(reason);
+    if !meaning.text().is_empty() {
+        reply.tell(b": ");
+        reply.tell(meaning.text());
+    }
+    let _ = reply.finish();
+    words
+}
+
 // Adds the numbers of the cases that were dropped to a line, as far as they fit.
 fn tell_dropped(reply: &mut Reply<'_, Collected>, replies: &[u8]) {
     let mut mark: &[u8] = b", dropped ";

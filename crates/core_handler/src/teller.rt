@@ -1,7 +1,7 @@
 // What becomes of a case that is stored, told to a log.
 use crate::examine::{Seen, look_at_case};
 use crate::log::{Level, Log};
-use crate::outcome_lines::{lost_line, outcome_of, stored_line, words_of};
+use crate::outcome_lines::{lack_words, lacks_of, lost_line, outcome_of, stored_line, words_of};
 use archive_files::{ArchivePath, Collected, Failure, Held, StoreRequest, reason_of, store_file};
 use disk_model::FileDisk;
 use onlooker::{Onlooker, Trouble};
@@ -40,6 +40,7 @@ pub fn store_told<R: AllocGlobal + Files<File = File>, I: Read, O: Output, W: On
     onlooker: &mut W,
 ) -> Result<(), Failure> {
     let name = request.printed_name(teller.alloc);
+    let has_label = request.has_label();
     let mut reply = Held::new(teller.alloc, output);
     let (ended, disk) = store_file(rt, place, file, request, input, &mut reply, onlooker);
     teller.tell_outcome(
@@ -47,6 +48,7 @@ pub fn store_told<R: AllocGlobal + Files<File = File>, I: Read, O: Output, W: On
         place.path,
         name.text(),
         reply.text(),
+        has_label,
         &ended,
         disk,
         note,
@@ -104,6 +106,7 @@ impl<'a> Teller<'a> {
         rt: &R,
         archive: &str,
         replies: &[u8],
+        has_label: bool,
         number: &[u8],
         disk: FileDisk,
         note: &mut Collected,
@@ -111,11 +114,14 @@ impl<'a> Teller<'a> {
         let Some(seq) = parse_case_number(number) else {
             return;
         };
+        let trouble = disk.trouble();
         let (seen, _) = look_at_case(self.alloc, disk, seq);
         let details = details_of(self.alloc, &seen);
         let line = stored_line(self.alloc, replies, number, details.text(), archive);
         self.tell(rt, Level::Info, line.text());
+        self.tell_lacks(rt, replies, has_label, number, trouble, note);
         if let Some(seen) = &seen {
+            self.tell_trouble(rt, number, seen.cut(self.alloc).text(), note);
             self.tell_trouble(rt, number, seen.trouble(), note);
         }
     }
@@ -127,6 +133,7 @@ impl<'a> Teller<'a> {
         archive: &str,
         name: &[u8],
         replies: &[u8],
+        has_label: bool,
         ended: &Result<(), Failure>,
         disk: Option<FileDisk>,
         note: &mut Collected,
@@ -134,7 +141,7 @@ impl<'a> Teller<'a> {
         let outcome = outcome_of(replies);
         match (outcome.stored, disk) {
             (Some(number), Some(disk)) => {
-                self.tell_stored(rt, archive, replies, number, disk, note)
+                self.tell_stored(rt, archive, replies, has_label, number, disk, note)
             }
             (_, disk) => {
                 let trouble = match &disk {
@@ -146,6 +153,31 @@ impl<'a> Teller<'a> {
         }
     }
 
+    // Tells of a case that it has no label, or no pin, though it was to. People are told the last reply apart from this: what came before
+    // it is noted.
+    fn tell_lacks<R: Files<File = File>>(
+        &self,
+        rt: &R,
+        replies: &[u8],
+        has_label: bool,
+        number: &[u8],
+        trouble: Option<Trouble>,
+        note: &mut Collected,
+    ) {
+        let lacks = lacks_of(replies, has_label);
+        if let Some(reason) = lacks.label {
+            let words = lack_words(self.alloc, b"has no label", reason, trouble);
+            self.tell_case(rt, number, words.text());
+            if lacks.pin_follows {
+                self.note_case(number, words.text(), note);
+            }
+        }
+        if let Some(reason) = lacks.pin {
+            let words = lack_words(self.alloc, b"is not pinned", reason, trouble);
+            self.tell_case(rt, number, words.text());
+        }
+    }
+
     // Tells what can't be read of a case, if anything is told of it, and notes it.
     fn tell_trouble<R: Files<File = File>>(
         &self,
@@ -154,21 +186,35 @@ impl<'a> Teller<'a> {
         trouble: &[u8],
         note: &mut Collected,
     ) {
-        if trouble.is_empty() {
-            return;
+        if !trouble.is_empty() {
+            self.tell_case(rt, number, trouble);
+            self.note_case(number, trouble, note);
         }
-        let mut line = Collected::new(self.alloc);
-        let mut reply = Reply::new(&mut line);
-        reply.tell(number);
-        reply.tell(b" ");
-        reply.tell(trouble);
-        let _ = reply.finish();
+    }
+
+    // Tells something of a case.
+    fn tell_case<R: Files<File = File>>(&self, rt: &R, number: &[u8], words: &[u8]) {
         let mut told = Collected::new(self.alloc);
         let mut reply = Reply::new(&mut told);
         reply.tell(b"case ");
-        reply.tell(line.text());
+        reply.tell(number);
+        reply.tell(b" ");
+        reply.tell(words);
         let _ = reply.finish();
         self.tell(rt, Level::Warning, told.text());
+    }
+
+    // Notes it. A second note is a line of its own.
+    fn note_case(&self, number: &[u8], words: &[u8], note: &mut Collected) {
+        let mut line = Collected::new(self.alloc);
+        let mut reply = Reply::new(&mut line);
+        if !note.text().is_empty() {
+            reply.tell(b"\ncorekeep: case ");
+        }
+        reply.tell(number);
+        reply.tell(b" ");
+        reply.tell(words);
+        let _ = reply.finish();
         let _ = write_whole(note, line.text());
     }
 }

@@ -1,5 +1,5 @@
 -- Bytes that are taken while cases go.
-use Rattle.std.proofs.Common.{◌≡◌, ℕ, zero, suc, ◌≤◌, Bool, true, false, cond, List, [], ◌∷◌, ◌++◌, length, Option, Some, None, Result, Ok, Err, refl, sym, ap, subst, ◌∙◌, arith, append_assoc}
+use Rattle.std.proofs.Common.{◌≡◌, inl, inr, ℕ, zero, suc, ◌<◌, ◌≤◌, Bool, true, false, cond, List, [], ◌∷◌, ◌++◌, length, Option, Some, None, Result, Ok, Err, refl, sym, ap, subst, ◌∙◌, arith, append_assoc}
 use Rattle.std.proofs.lemmas.List.{append-nil}
 use Rattle.std.proofs.lemmas.Bool.{true≢false}
 use Rattle.std.specs.List.{find, flat_map}
@@ -20,10 +20,11 @@ use Rattle.script_streams.specs.Replies.{TellsText}
 use Rattle.script_streams.specs.Telling.{Sink}
 use Rattle.script_streams.specs.TellLaws.{tells_then, tells_as, tells_nothing}
 use Rattle.inspector_cli.specs.declared.store.TakeStop.{TakeStop}
-use Rattle.inspector_cli.specs.declared.store.TakeStop.TheVariants.{File, Refused, Cut}
+use Rattle.inspector_cli.specs.declared.store.TakeStop.TheVariants.{File, Refused, Cut, Length}
+use Rattle.inspector_cli.specs.declared.store.LengthFault.TheVariants.{Short, Long}
 use Rattle.inspector_cli.specs.Reply.{TakeStep, TakeBytes, Takes}
 use Rattle.inspector_cli.specs.Fitting.{Going, IsGoing, IsNext, GoesOn, TakesWhile, going_text, goes, goes_first, may_go, may_go_first, next_to_go, or_else}
-use Rattle.inspector_cli.specs.Storing.{LooksOn, TakesMore, AfterRoom, MakesRoom, GoesNext, TakesNext}
+use Rattle.inspector_cli.specs.Storing.{LooksPast, TakesMore, AfterRoom, MakesRoom, GoesNext, TakesNext}
 use Rattle.inspector_cli.proofs.SlotLemmas.{at_set}
 
 -- the first of these entries that is so, as a case
@@ -83,6 +84,8 @@ module _ (file file' : Option (List ℕ)) (fails fails' : ℕ) (T T' : List ℕ 
   map_more (Err File) (c, rose, t) = (c, rose, more rest (Ok tt) t)
   map_more (Err (Refused f)) (raw, c, same, t) = (raw, c, same, subst (λ (x : List ℕ). T' x (Err f)) (sym (append_assoc front rest raw)) (more (rest ++ raw) (Err f) t))
   map_more (Err (Cut kept)) (raw, c, some, same, t) = (raw, c, some, same, more rest (Ok tt) t)
+  map_more (Err (Length Long)) (raw, c, some, same, t) = (raw, c, some, same, more rest (Ok tt) t)
+  map_more (Err (Length Short)) t = absurd t
 
 -- some bytes are taken
 pub took_some : (file file' : Option (List ℕ)) (fails fails' : ℕ) (so_far : List ℕ) (T : List ℕ → Result (Unit {0}) ArchiveFault → Type 0) (n : ℕ) → (n ≡ 0 → ⊥)
@@ -231,17 +234,30 @@ module _ {D : Type 0} (g : disk.Ghosts D) (file file' : Option (List ℕ)) (fail
   next_alone a r takes step =
       ([], tells_nothing, more_as gone (gone ++ []) new (sym (append-nil gone)) so_far r (lift_more g file file' fails fails' gone begun old new so_far r takes step), λ no. refl)
 
-  -- a look at whether more follow
-  looked : (taken : ℕ) (l : List (Going D)) → TakesWhile g begun so_far l (Ok tt) old → (r : Result ℕ TakeStop) → LooksOn file file' fails fails' taken r → TakesMore file file' fails fails' so_far (λ y v. TakesWhile g begun y l v old) r
-  looked taken l takes (Ok zero) (is, none, ends, same) = (none, ends, same, takes)
-  looked taken l takes (Ok (suc n)) (is, none, ends, same) = absurd (omega (arith, is))
-  looked taken l takes (Err File) (none, rose) = (none, rose, takes)
-  looked taken l takes (Err (Refused f)) look = absurd look
-  looked taken l takes (Err (Cut kept)) (is, raw, c, some, same) = (raw, c, some, same, takes)
+  -- a look at whether more follow, and what it may stop a file for
+  abbrev pub StopsBehind : TakeStop → Type 0
+  StopsBehind File = ⊥
+  StopsBehind (Refused f) = ⊥
+  StopsBehind (Cut kept) = Unit {0}
+  StopsBehind (Length Short) = ⊥
+  StopsBehind (Length Long) = Unit {0}
 
-  pub look_next : (taken : ℕ) (a : Sink) (r : Result ℕ TakeStop) → TakesWhile g begun so_far gone (Ok tt) old → LooksOn file file' fails fails' taken r
+  went_on : (l : List (Going D)) → TakesWhile g begun so_far l (Ok tt) old → (stop : TakeStop) → StopsBehind stop → (raw : List ℕ) × Consumes file file' raw × (0 < length raw) × (fails' ≡ fails) → TakesMore file file' fails fails' so_far (λ y v. TakesWhile g begun y l v old) (Err stop)
+  went_on l takes File behind look = absurd behind
+  went_on l takes (Refused f) behind look = absurd behind
+  went_on l takes (Cut kept) behind (raw, c, some, same) = (raw, c, some, same, takes)
+  went_on l takes (Length Short) behind look = absurd behind
+  went_on l takes (Length Long) behind (raw, c, some, same) = (raw, c, some, same, takes)
+
+  looked : (stop : TakeStop) → StopsBehind stop → (l : List (Going D)) → TakesWhile g begun so_far l (Ok tt) old → (r : Result ℕ TakeStop) → LooksPast file file' fails fails' stop r → TakesMore file file' fails fails' so_far (λ y v. TakesWhile g begun y l v old) r
+  looked stop behind l takes (Ok zero) (is, none, ends, same) = (none, ends, same, takes)
+  looked stop behind l takes (Ok (suc n)) (is, none, ends, same) = absurd (omega (arith, is))
+  looked stop behind l takes (Err why) (inl (is, none, rose)) = subst (λ (w : TakeStop). TakesMore file file' fails fails' so_far (λ y v. TakesWhile g begun y l v old) (Err w)) (sym is) (none, rose, takes)
+  looked stop behind l takes (Err why) (inr (is, raw, c, some, same)) = subst (λ (w : TakeStop). TakesMore file file' fails fails' so_far (λ y v. TakesWhile g begun y l v old) (Err w)) (sym is) (went_on l takes stop behind (raw, c, some, same))
+
+  pub look_next : (stop : TakeStop) → StopsBehind stop → (a : Sink) (r : Result ℕ TakeStop) → TakesWhile g begun so_far gone (Ok tt) old → LooksPast file file' fails fails' stop r
       → TakesNext g file file' fails fails' begun so_far gone fit (record { before = a; after = a }) old r
-  look_next taken a r takes look = ([], tells_nothing, looked taken (gone ++ []) (subst (λ (l : List (Going D)). TakesWhile g begun so_far l (Ok tt) old) (sym (append-nil gone)) takes) r look, λ no. refl)
+  look_next stop behind a r takes look = ([], tells_nothing, looked stop behind (gone ++ []) (subst (λ (l : List (Going D)). TakesWhile g begun so_far l (Ok tt) old) (sym (append-nil gone)) takes) r look, λ no. refl)
 
   -- cases may go
   pub next_as : (a b : Sink) (r : Result ℕ TakeStop) → fit ≡ true → TakesNext g file file' fails fails' begun so_far gone true (record { before = a; after = b }) new r
@@ -254,6 +270,7 @@ module _ {D : Type 0} (g : disk.Ghosts D) (file file' : Option (List ℕ)) (fail
   room_then_next n a b (Ok u) first room = (room.0, room.1, (first.0, first.1, first.2, first.3, room.2), λ no. absurd (true≢false no))
   room_then_next n a b (Err File) first room = absurd room.2
   room_then_next n a b (Err (Cut kept)) first room = absurd room.2
+  room_then_next n a b (Err (Length f)) first room = absurd room.2
   room_then_next n a b (Err (Refused f)) first room = (room.0, room.1, (first.0, first.1, first.3, room.2), λ no. absurd (true≢false no))
 
   pub next_then : (n : ℕ) → (n ≡ 0 → ⊥) → (a b : Sink) (r : Result (Unit {0}) TakeStop) → TakesWhile g begun so_far gone (Ok tt) old

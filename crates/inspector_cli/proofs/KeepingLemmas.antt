@@ -215,7 +215,7 @@ module _ {D : Type 0} (g : disk.Ghosts D) (k : Kept) where
 
   -- what a store leaves of the case
   module _ (asked : Option Policy) (found : Result StreamFacts (List ℕ)) (given : Options) (file file' : Option (List ℕ)) (c : StoreCourse D) (is : IsStoreCourse asked found given file file' c) where
-    case_stays : (stored : Option ℕ) (x y : Durable) → StoresOrNot found file file' c.cut x stored y → HoldsKept k x → HoldsKept k y
+    case_stays : (stored : Option ℕ) (x y : Durable) → StoresOrNot found given.length file file' c.cut x stored y → HoldsKept k x → HoldsKept k y
     case_stays None x y stores holds = same k x y stores holds
     case_stays (Some n) x y stores holds = same k (with_case x (record stores.stream { len = length stores.image }) stores.blocks stores.image) y stores.adds (with_case_holds k x (record stores.stream { len = length stores.image }) stores.blocks stores.image holds)
 
@@ -446,7 +446,7 @@ module _ {D : Type 0} (g : disk.Ghosts D) (numbers : NumbersAreAbove) where
 
   pub stores_store : AStoreStoresACase g
   stores_store t asked found given before after answer s n stored =
-      let a : AddsCase found t.input t.input' s.course.cut s.course.filled.holds n s.course.ended.holds = subst (λ (o : Option ℕ). StoresOrNot found t.input t.input' s.course.cut s.course.filled.holds o s.course.ended.holds) stored s.is.stores in
+      let a : AddsCase found given.length t.input t.input' s.course.cut s.course.filled.holds n s.course.ended.holds = subst (λ (o : Option ℕ). StoresOrNot found given.length t.input t.input' s.course.cut s.course.filled.holds o s.course.ended.holds) stored s.is.stores in
       let told : s.course.reply ≡ end_reply (Ok n) = subst (λ (o : Option ℕ). TellsStored o s.course.first s.course.reply) stored s.is.tells in
       let none : s.is.doubts ≡ [] = ⊎_elim (λ is. is) (λ may. absurd (stored_apart n (codes "Disk") (sym told ∙ may.0))) s.is.doubted in (
         record { seq = n; stream = a.stream; image = a.image; label = Some [] },

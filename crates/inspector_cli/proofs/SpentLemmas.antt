@@ -25,8 +25,11 @@ use Rattle.archive_replies.specs.Texts.{end_reply}
 use Rattle.inspector_cli.specs.declared.fitting.Need.{Need}
 use Rattle.inspector_cli.specs.declared.fitting.Need.TheVariants.{Block, Record}
 use Rattle.inspector_cli.specs.declared.store.TakeStop.{TakeStop}
-use Rattle.inspector_cli.specs.declared.store.TakeStop.TheVariants.{File, Refused, Cut}
-use Rattle.inspector_cli.specs.Fitting.{IsNext, NoneMayGo, IsSpent, RefusedIfSpent, FillsWhole, IsServed, HasMadeRoom, FitsPart, Advances, AdvancesBy, ServesOn, DropsOne, DropsAll, FillsServed}
+use Rattle.inspector_cli.specs.declared.store.TakeStop.TheVariants.{File, Refused, Cut, Length}
+use Rattle.inspector_cli.specs.declared.store.LengthFault.{LengthFault}
+use Rattle.inspector_cli.specs.declared.store.LengthFault.TheVariants.{Short, Long}
+use Rattle.inspector_cli.specs.Storing.{length_reason}
+use Rattle.inspector_cli.specs.Fitting.{EndsAt, IsNext, NoneMayGo, IsSpent, RefusedIfSpent, FillsWhole, IsServed, HasMadeRoom, FitsPart, Advances, AdvancesBy, ServesOn, DropsOne, DropsAll, FillsServed}
 use Rattle.inspector_cli.proofs.RoomLemmas.{states_agree}
 use Rattle.inspector_cli.proofs.SlotLemmas.{at_mapped, at_set, sum_set}
 
@@ -107,6 +110,7 @@ made_then need first s s' false is so_far step = (λ was. subst IsServed (sym st
 pub stuck_then : (need : Need) (first s s' : ArchiveState) (stop : TakeStop) → DropsOne need s (Err stop) s' → DropsAll need first (Err stop) s'
 stuck_then need first s s' File step = tt
 stuck_then need first s s' (Cut kept) step = step
+stuck_then need first s s' (Length f) step = step
 stuck_then need first s s' (Refused f) step = step
 
 -- room that was made for a block
@@ -135,6 +139,7 @@ free_serves most s s' (Ok (suc m)) some (n, few, fits, (x, may, never, blocks, i
 free_serves most s s' (Ok zero) some is = subst IsServed (sym is) (λ awake full. let free = some awake in absurd (omega (arith, free, full)))
 free_serves most s s' (Err File) some is = tt
 free_serves most s s' (Err (Cut kept)) some step = absurd step
+free_serves most s s' (Err (Length f)) some step = absurd step
 free_serves most s s' (Err (Refused SpaceFull)) some (inl reply) = absurd reply
 free_serves most s s' (Err (Refused SpaceFull)) some (inr (n, few, fits, (x, may, full, is))) =
     let free = some may.0 in
@@ -173,6 +178,7 @@ abbrev pub OneServes : Result ℕ TakeStop → ArchiveState → Type 0
 OneServes (Ok zero) s = IsServed s
 OneServes (Ok (suc n)) s = Unit {0}
 OneServes (Err (Cut kept)) s = ⊥
+OneServes (Err (Length f)) s = ⊥
 OneServes (Err File) s = Unit {0}
 OneServes (Err (Refused f)) s = IsSpent f s
 
@@ -182,6 +188,7 @@ one_numbers len n whole few some fills = some (omega arith)
 pub one_serves : (s s' : ArchiveState) (r : Result ℕ TakeStop) → IsServed s → Advances 1 s r s' → OneServes r s'
 one_serves s s' (Ok (suc m)) served step = tt
 one_serves s s' (Err (Cut kept)) served step = absurd step
+one_serves s s' (Err (Length f)) served step = absurd step
 one_serves s s' (Ok zero) served is = subst IsServed (sym is) served
 one_serves s s' (Err File) served is = tt
 one_serves s s' (Err (Refused SpaceFull)) served (inl reply) = absurd reply
@@ -198,12 +205,14 @@ pub room_serves : (s s' : ArchiveState) (r : Result (Unit {0}) TakeStop) → Dro
 room_serves s s' (Ok u) step = made_serves s' step.1
 room_serves s s' (Err File) step = tt
 room_serves s s' (Err (Cut kept)) step = absurd step
+room_serves s s' (Err (Length f)) step = absurd step
 room_serves s s' (Err (Refused f)) step = step
 
 -- a step that stops stops all
 pub stop_serves : (s : ArchiveState) (stop : TakeStop) → OneServes (Err stop) s → ServesOn {A = ℕ} (Err stop) s
 stop_serves s File step = tt
 stop_serves s (Cut kept) step = absurd step
+stop_serves s (Length f) step = absurd step
 stop_serves s (Refused f) step = step
 
 pub end_serves : (s : ArchiveState) (count : ℕ) → count ≡ 0 → OneServes (Ok count) s → ServesOn {A = ℕ} (Ok 0) s
@@ -214,6 +223,7 @@ end_serves s zero is step = step
 pub stop_as : (A : Type 0) (B : Type 0) (s : ArchiveState) (stop : TakeStop) → ServesOn {A = A} (Err stop) s → ServesOn {A = B} (Err stop) s
 stop_as A B s File step = tt
 stop_as A B s (Cut kept) step = step
+stop_as A B s (Length f) step = step
 stop_as A B s (Refused f) step = step
 
 -- room for the record
@@ -221,6 +231,7 @@ pub record_serves : (s s' : ArchiveState) (r : Result (Unit {0}) TakeStop) → I
 record_serves s s' (Ok u) served step = (step.0 served, step.1)
 record_serves s s' (Err File) served step = tt
 record_serves s s' (Err (Cut kept)) served step = absurd step
+record_serves s s' (Err (Length f)) served step = absurd step
 record_serves s s' (Err (Refused f)) served step = step
 
 -- Runs of blocks: whether a block before others begins one more.
@@ -375,6 +386,23 @@ pub file_unspent : (s : ArchiveState) → RefusedIfSpent (no_reply (codes "File"
 file_unspent s SpaceFull is = absurd (apart_by fourth_of (no_reply (codes "File")) (no_reply (codes "SpaceFull")) refl is)
 file_unspent s JournalFull is = absurd (apart_by fourth_of (no_reply (codes "File")) (no_reply (codes "JournalFull")) refl is)
 file_unspent s _ is = tt
+
+-- and so is one of another length than was stated
+pub length_unspent : (f : LengthFault) (s : ArchiveState) → RefusedIfSpent (no_reply (length_reason f)) s
+length_unspent Short s SpaceFull is = absurd (apart_by fifth_of (no_reply (codes "Short")) (no_reply (codes "SpaceFull")) refl is)
+length_unspent Short s JournalFull is = absurd (apart_by fourth_of (no_reply (codes "Short")) (no_reply (codes "JournalFull")) refl is)
+length_unspent Short s _ is = tt
+length_unspent Long s SpaceFull is = absurd (apart_by fifth_of (no_reply (codes "TooLong")) (no_reply (codes "SpaceFull")) refl is)
+length_unspent Long s JournalFull is = absurd (apart_by fourth_of (no_reply (codes "TooLong")) (no_reply (codes "JournalFull")) refl is)
+length_unspent Long s _ is = tt
+
+-- a file that has ended, with its length or another
+pub end_serves_all : (want : Option ℕ) (taken : ℕ) (s : ArchiveState) (r : Result (Unit {0}) TakeStop) → EndsAt want taken r → IsServed s → ServesOn r s
+end_serves_all want taken s (Ok u) ends served = served
+end_serves_all want taken s (Err File) ends served = absurd ends
+end_serves_all want taken s (Err (Refused f)) ends served = absurd ends
+end_serves_all want taken s (Err (Cut kept)) ends served = absurd ends
+end_serves_all want taken s (Err (Length f)) ends served = tt
 
 -- and so is no reply
 pub silence_unspent : (s : ArchiveState) → RefusedIfSpent [] s

@@ -35,7 +35,7 @@ use Rattle.inspector_cli.specs.declared.session.LifeFault.{LifeFault}
 use Rattle.inspector_cli.specs.declared.session.LifeFault.TheVariants as life
 use Rattle.inspector_cli.specs.declared.session.StoreOutcome.{StoreOutcome}
 use Rattle.inspector_cli.specs.declared.store.TakeStop.{TakeStop}
-use Rattle.inspector_cli.specs.declared.store.TakeStop.TheVariants.{File, Refused, Cut}
+use Rattle.inspector_cli.specs.declared.store.TakeStop.TheVariants.{File, Refused, Cut, Length}
 use Rattle.inspector_cli.specs.Headline.{AreSafe, FindsSince, HasFlag, Leads, LeadsOn, Moment, WouldLeave, brief_of}
 use Rattle.archive_replies.specs.Texts.{dropped_line, end_reply, plain_reply}
 use Rattle.inspector_cli.specs.Fitting.{Going, IsGoing, IsNext, IsShort, NoneMayGo, TakesWhile, cut_of, going_text, gone_text, may_go}
@@ -49,7 +49,7 @@ use Rattle.inspector_cli.specs.Reply.{Begins, Ends, Takes}
 use Rattle.inspector_cli.specs.Session.{Streams}
 use Rattle.inspector_cli.specs.Stages.{Stage, Moves, MayLeave, mark_at, marks_of}
 use Rattle.inspector_cli.specs.StoreHeadline.{Gone, GoInTurn, IsCutShort, case_in, gone_line, moments_of, TellsStored, AddsCase, StoresOrNot, StoreCourse, IsStoreCourse, IsTold, IsAdmittedSafe, IsStoreSafe, StoresAreCrashSafe, BeginsEmpty, no_stream}
-use Rattle.inspector_cli.specs.Storing.{GoneStages, FillsFile, FileReplies, KeepsOf, cut_text, RestReplies, RetiresFirst, IsChosen, PinsCase, LabelsCase, Options, Stores, StoreEnds, retire_line, said_pin, said_label}
+use Rattle.inspector_cli.specs.Storing.{GoneStages, length_reason, FillsFile, FileReplies, KeepsOf, cut_text, RestReplies, RetiresFirst, IsChosen, PinsCase, LabelsCase, Options, Stores, StoreEnds, retire_line, said_pin, said_label}
 use Rattle.inspector_cli.proofs.CaseLemmas.{is_found, briefs_are, cases_are}
 use Rattle.inspector_cli.proofs.ClearLemmas.{first_apart, plain_told, retire_told, retire_stops}
 use Rattle.inspector_cli.proofs.KeptLemmas.{LastingLaws}
@@ -168,10 +168,10 @@ module _ {D : Type 0} (g : disk.Ghosts D) (lasts : LastingLaws g) where
   retiring_stops old new (Some policy) told made ((r, call, answered), done) is = retire_stops (state_of old) (state_of new) policy r call.step (retire_told r (sym answered ∙ is))
 
   -- the case that the stream becomes
-  adds_case : (found : Result StreamFacts (List ℕ)) (file file' : Option (List ℕ)) (cut : Option ℕ) (raw : List ℕ) (retired mid : Parts D) (gone : List (Going D)) (filled : Parts D) (first : List ℕ) (x y : Durable) (n : ℕ) → BeginsEmpty found → Begins g retired 0 found first mid true
-      → KeepsOf file file' cut raw → TakesWhile g mid raw gone (Ok tt) filled → IsTrue (g.is_honest filled.disk) → x ≡ durable_of g.seen filled → n ≡ x.next
-      → MayBeStored (state_of filled) (contents_of g.seen filled) (durable_of g.seen filled) 0 y → AddsCase found file file' cut x n y
-  adds_case (Ok stream) file file' cut raw retired mid gone filled first x y n none (Ok u, call, told, accepts) reads takes honest same number may =
+  adds_case : (found : Result StreamFacts (List ℕ)) (want : Option ℕ) (file file' : Option (List ℕ)) (cut : Option ℕ) (raw : List ℕ) (retired mid : Parts D) (gone : List (Going D)) (filled : Parts D) (first : List ℕ) (x y : Durable) (n : ℕ) → BeginsEmpty found → Begins g retired 0 found first mid true
+      → KeepsOf want file file' cut raw → TakesWhile g mid raw gone (Ok tt) filled → IsTrue (g.is_honest filled.disk) → x ≡ durable_of g.seen filled → n ≡ x.next
+      → MayBeStored (state_of filled) (contents_of g.seen filled) (durable_of g.seen filled) 0 y → AddsCase found want file file' cut x n y
+  adds_case (Ok stream) want file file' cut raw retired mid gone filled first x y n none (Ok u, call, told, accepts) reads takes honest same number may =
       let has : HasTaken filled stream raw = has_while gone mid filled stream [] raw (has_begun retired mid stream none call) takes in
       record {
         stream = stream;
@@ -186,8 +186,8 @@ module _ {D : Type 0} (g : disk.Ghosts D) (lasts : LastingLaws g) where
             ∙ ap (λ (s : StreamFacts). with_case x s may.0 may.1.1.bytes) (facts_are filled stream raw has may.1.0 may.1.2)
             ∙ ap (λ (b : List ℕ). with_case x (record stream { len = length raw }) may.0 b) (bytes_are filled stream raw has honest may.1.1 may.1.3);
       }
-  adds_case (Ok stream) file file' cut raw retired mid gone filled first x y n none (Err f, call, told, accepts) reads takes honest same number may = absurd (true≢false accepts)
-  adds_case (Err reason) file file' cut raw retired mid gone filled first x y n none begins reads takes honest same number may = absurd (true≢false begins.2)
+  adds_case (Ok stream) want file file' cut raw retired mid gone filled first x y n none (Err f, call, told, accepts) reads takes honest same number may = absurd (true≢false accepts)
+  adds_case (Err reason) want file file' cut raw retired mid gone filled first x y n none begins reads takes honest same number may = absurd (true≢false begins.2)
 
   -- what the archive holds when a case goes, and then
   deleted_leads : (old new : Parts D) (seq : ℕ) (r : Result (Unit {0}) ArchiveFault) → IsTrue (g.is_honest old.disk) → DeleteCall g old seq r new
@@ -290,18 +290,18 @@ module _ {D : Type 0} (g : disk.Ghosts D) (lasts : LastingLaws g) where
       surely_filled ws t w.after filled takes.1 ss doubt (on w.answer ws takes.1 w.after filled (TakesWhile g w.after takes.1 ws (Ok tt) filled) takes.5) all.6
       ∙ surely_gone s t w.seq went.0 (subst (λ (r : Result (Unit {0}) ArchiveFault). Moves g s (delete_of w.seq) (plain_reply r) t) went.1 all.4) ∙ all.1
 
-  module _ (laws : Laws g) (found : Result StreamFacts (List ℕ)) (none : BeginsEmpty found) (most : Option ℕ) (file file' : Option (List ℕ)) (fails fails' : ℕ) (retired : Stage D) (honest : IsTrue (g.is_honest retired.archive.disk)) where
+  module _ (laws : Laws g) (found : Result StreamFacts (List ℕ)) (none : BeginsEmpty found) (most want : Option ℕ) (file file' : Option (List ℕ)) (fails fails' : ℕ) (retired : Stage D) (honest : IsTrue (g.is_honest retired.archive.disk)) where
     -- whether the case is stored, and what is in doubt
     record Stored (gone : List (Going D)) (cut : Option ℕ) (filled ended : Parts D) (first rest : List ℕ) (stored : Option ℕ) : Type 0 where
       filling : Filling g gone retired filled
       more : List Durable
       moves : Moves g (stage_of filled filling.1) (end_of 0) rest (stage_of ended (more ++ filling.1))
-      stores : StoresOrNot found file file' cut (durable_of g.seen filled) stored (durable_of g.seen ended)
+      stores : StoresOrNot found want file file' cut (durable_of g.seen filled) stored (durable_of g.seen ended)
       tells : TellsStored stored first rest
       awake : (n : ℕ) → stored ≡ Some n → ((state_of retired.archive).stopped ≡ false) × (filling.1 ≡ retired.in_doubt)
       doubted :
           (moves.doubts ≡ [])
-          ⊎ ((rest ≡ no_reply (codes "Disk")) × AllByRecursion (λ (z : Durable). (n : ℕ) × AddsCase found file file' cut (durable_of g.seen filled) n z) moves.doubts)
+          ⊎ ((rest ≡ no_reply (codes "Disk")) × AllByRecursion (λ (z : Durable). (n : ℕ) × AddsCase found want file file' cut (durable_of g.seen filled) n z) moves.doubts)
 
     -- no case is stored, and the archive stays as it was
     none_stored : (gone : List (Going D)) (cut : Option ℕ) (filled ended : Parts D) (first rest : List ℕ) (stored : Option ℕ) → Filling g gone retired filled → ended ≡ filled → stored ≡ None → TellsStored None first rest → Stored gone cut filled ended first rest stored
@@ -312,22 +312,22 @@ module _ {D : Type 0} (g : disk.Ghosts D) (lasts : LastingLaws g) where
       more = [];
       moves = record { doubts = []; in_doubt = refl; doubted = inl refl; passes = laws.stays filled ended filling.1 (stays_as g filled ended same) };
       stores =
-          subst (λ (o : Option ℕ). StoresOrNot found file file' cut (durable_of g.seen filled) o (durable_of g.seen ended)) (sym nothing) (ap (durable_of g.seen) same);
+          subst (λ (o : Option ℕ). StoresOrNot found want file file' cut (durable_of g.seen filled) o (durable_of g.seen ended)) (sym nothing) (ap (durable_of g.seen) same);
       doubted = inl refl;
     }
 
-    all_add : (mid : Parts D) (gone : List (Going D)) (cut : Option ℕ) (raw : List ℕ) (filled : Parts D) (first : List ℕ) → Begins g retired.archive 0 found first mid true → KeepsOf file file' cut raw → TakesWhile g mid raw gone (Ok tt) filled → IsTrue (g.is_honest filled.disk)
+    all_add : (mid : Parts D) (gone : List (Going D)) (cut : Option ℕ) (raw : List ℕ) (filled : Parts D) (first : List ℕ) → Begins g retired.archive 0 found first mid true → KeepsOf want file file' cut raw → TakesWhile g mid raw gone (Ok tt) filled → IsTrue (g.is_honest filled.disk)
         → (xs : List Durable) → AllByRecursion (MayLeave g filled (end_of 0)) xs
-        → AllByRecursion (λ (z : Durable). (n : ℕ) × AddsCase found file file' cut (durable_of g.seen filled) n z) xs
+        → AllByRecursion (λ (z : Durable). (n : ℕ) × AddsCase found want file file' cut (durable_of g.seen filled) n z) xs
     all_add mid gone cut raw filled first begins reads takes there [] all = tt
     all_add mid gone cut raw filled first begins reads takes there (z ∷ zs) all = (
-      ((durable_of g.seen filled).next, adds_case found file file' cut raw retired.archive mid gone filled first (durable_of g.seen filled) z _ none begins reads takes there refl refl all.0),
+      ((durable_of g.seen filled).next, adds_case found want file file' cut raw retired.archive mid gone filled first (durable_of g.seen filled) z _ none begins reads takes there refl refl all.0),
       all_add mid gone cut raw filled first begins reads takes there zs all.1,
     )
 
     -- the bytes that are kept are taken, and the stream is ended
     is_ended : (mid : Parts D) (gone : List (Going D)) (cut : Option ℕ) (raw : List ℕ) (filled ended : Parts D) (first rest : List ℕ) (stored : Option ℕ) → Begins g retired.archive 0 found first mid true → ChangesNoCase g retired.archive mid
-        → KeepsOf file file' cut raw → TakesWhile g mid raw gone (Ok tt) filled → Ends g filled 0 rest ended stored → Stored gone cut filled ended first rest stored
+        → KeepsOf want file file' cut raw → TakesWhile g mid raw gone (Ok tt) filled → Ends g filled 0 rest ended stored → Stored gone cut filled ended first rest stored
     is_ended mid gone cut raw filled ended first rest stored begins begun reads takes (r, call, told, is) =
         let f : Filling g gone retired filled = earlier g gone retired mid filled begun (filling g laws gone (stage_of mid retired.in_doubt) raw (Ok tt) filled takes) in
         let here : IsTrue (g.is_honest filled.disk) = going_honest gone retired f.0 (stage_of filled f.1) f.2 honest in
@@ -347,16 +347,16 @@ module _ {D : Type 0} (g : disk.Ghosts D) (lasts : LastingLaws g) where
         tells (Err f) told is = subst (λ (o : Option ℕ). TellsStored o first rest) (sym is) (inl (reason_of f, told))
 
         ends : (r : Result ℕ ArchiveFault) → FinishCall g filled 0 r ended → stored ≡ result_ok r → IsTrue (g.is_honest filled.disk)
-            → StoresOrNot found file file' cut (durable_of g.seen filled) stored (durable_of g.seen ended)
+            → StoresOrNot found want file file' cut (durable_of g.seen filled) stored (durable_of g.seen ended)
         ends (Ok seq) call is here =
-            subst (λ (o : Option ℕ). StoresOrNot found file file' cut (durable_of g.seen filled) o (durable_of g.seen ended)) (sym is)
-            (adds_case found file file' cut raw retired.archive mid gone filled first (durable_of g.seen filled) (durable_of g.seen ended) seq none begins reads takes here refl call.step.6 (lasts.finish filled ended 0 seq here call))
+            subst (λ (o : Option ℕ). StoresOrNot found want file file' cut (durable_of g.seen filled) o (durable_of g.seen ended)) (sym is)
+            (adds_case found want file file' cut raw retired.archive mid gone filled first (durable_of g.seen filled) (durable_of g.seen ended) seq none begins reads takes here refl call.step.6 (lasts.finish filled ended 0 seq here call))
         ends (Err f) call is here =
-            subst (λ (o : Option ℕ). StoresOrNot found file file' cut (durable_of g.seen filled) o (durable_of g.seen ended)) (sym is)
+            subst (λ (o : Option ℕ). StoresOrNot found want file file' cut (durable_of g.seen filled) o (durable_of g.seen ended)) (sym is)
             (lasts.refusals filled ended f here (inl (0, call)))
 
     is_stored : (mid : Parts D) (gone : List (Going D)) (cut : Option ℕ) (filled ended : Parts D) (first : List ℕ) (accepted : Bool) (rest : List ℕ) (stored : Option ℕ) → Begins g retired.archive 0 found first mid accepted → ChangesNoCase g retired.archive mid
-        → RestReplies g most file file' fails fails' mid accepted gone cut filled rest ended stored → Stored gone cut filled ended first rest stored
+        → RestReplies g most want file file' fails fails' mid accepted gone cut filled rest ended stored → Stored gone cut filled ended first rest stored
     is_stored mid gone cut filled ended first false rest stored begins begun goes =
         none_stored gone cut filled ended first rest stored
         (subst (λ (l : List (Going D)). Filling g l retired filled) (sym goes.6) ([], retired.in_doubt, (stays_then g retired.archive mid filled begun (stays_as g mid filled goes.2), refl)))
@@ -369,14 +369,15 @@ module _ {D : Type 0} (g : disk.Ghosts D) (lasts : LastingLaws g) where
         none_refused raw v reason takes replies =
             none_stored gone cut filled ended first rest stored (earlier g gone retired mid filled begun (filling g laws gone (stage_of mid retired.in_doubt) raw v filled takes)) replies.1 replies.2 (inl (reason, replies.0))
 
-        by : (taken : Result (Unit {0}) TakeStop) → FillsFile most file file' fails fails' (λ raw v. TakesWhile g mid raw gone v filled) taken → FileReplies g filled taken rest ended stored → cut ≡ cut_of taken
+        by : (taken : Result (Unit {0}) TakeStop) → FillsFile most want file file' fails fails' (λ raw v. TakesWhile g mid raw gone v filled) taken → FileReplies g filled taken rest ended stored → cut ≡ cut_of taken
             → Stored gone cut filled ended first rest stored
         by (Ok u) takes replies is =
             subst (λ (o : Option ℕ). Stored gone o filled ended first rest stored) (sym is)
-            (is_ended mid gone None takes.0 filled ended first rest stored begins begun (takes.1, takes.2) takes.3 replies)
+            (is_ended mid gone None takes.0 filled ended first rest stored begins begun (takes.1, takes.2, takes.4) takes.3 replies)
         by (Err (Cut kept)) takes replies is =
             subst (λ (o : Option ℕ). Stored gone o filled ended first rest stored) (sym is)
             (is_ended mid gone (Some kept) takes.0 filled ended first rest stored begins begun takes.1 takes.2 replies)
+        by (Err (Length f)) takes replies is = none_refused takes.0 (Ok tt) (length_reason f) takes.2 replies
         by (Err File) takes replies is = none_refused takes.0 (Ok tt) (codes "File") takes.3 replies
         by (Err (Refused f)) (inl takes) replies is = none_refused takes.0 (Err f) (reason_of f) takes.2 replies
         by (Err (Refused f)) (inr takes) replies is = none_refused takes.3 (Err f) (reason_of f) takes.5 replies
@@ -488,8 +489,8 @@ module _ {D : Type 0} (g : disk.Ghosts D) (lasts : LastingLaws g) (laws : Laws g
     begun : ChangesNoCase g s.retired s.stores.mid
     begun = begins_stays g s.retired s.stores.mid 0 found s.stores.first s.stores.accepted s.stores.begins
 
-    stored : Stored g lasts laws found none options.cut t.input t.input' t.fails t.fails' retired retiring_honest s.stores.gone s.stores.cut s.stores.filled s.ended s.stores.first s.stores.rest outcome.stored
-    stored = is_stored g lasts laws found none options.cut t.input t.input' t.fails t.fails' retired retiring_honest s.stores.mid s.stores.gone s.stores.cut s.stores.filled s.ended s.stores.first s.stores.accepted s.stores.rest outcome.stored s.stores.begins begun s.stores.goes_on
+    stored : Stored g lasts laws found none options.cut options.length t.input t.input' t.fails t.fails' retired retiring_honest s.stores.gone s.stores.cut s.stores.filled s.ended s.stores.first s.stores.rest outcome.stored
+    stored = is_stored g lasts laws found none options.cut options.length t.input t.input' t.fails t.fails' retired retiring_honest s.stores.mid s.stores.gone s.stores.cut s.stores.filled s.ended s.stores.first s.stores.accepted s.stores.rest outcome.stored s.stores.begins begun s.stores.goes_on
 
     -- nothing is in doubt where the archive is not stopped
     retiring_clear : (state_of s.retired).stopped ≡ false → retired.in_doubt ≡ []

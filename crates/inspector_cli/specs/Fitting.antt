@@ -17,7 +17,8 @@ use Rattle.intake.specs.declared.faults.ArchiveFault.TheVariants.{SpaceFull, Jou
 use Rattle.inspector_cli.specs.declared.fitting.Need.{Need}
 use Rattle.inspector_cli.specs.declared.fitting.Need.TheVariants.{Block, Record}
 use Rattle.inspector_cli.specs.declared.store.TakeStop.{TakeStop}
-use Rattle.inspector_cli.specs.declared.store.TakeStop.TheVariants.{File, Refused, Cut}
+use Rattle.inspector_cli.specs.declared.store.TakeStop.TheVariants.{File, Refused, Cut, Length}
+use Rattle.inspector_cli.specs.declared.store.LengthFault.TheVariants.{Short, Long}
 use Rattle.script_streams.specs.Replies.{no_reply}
 use Rattle.archive_replies.specs.Reasons.{reason_of}
 use Rattle.archive_replies.specs.Texts.{dropped_line}
@@ -160,6 +161,7 @@ Advances most s (Ok (suc n)) s' = AdvancesBy most s (Ok tt) s'
 Advances most s (Err File) s' = s' ≡ s
 Advances most s (Err (Refused fault)) s' = RoomReply s 0 (Err fault) ⊎ AdvancesBy most s (Err fault) s'
 Advances most s (Err (Cut kept)) s' = ⊥
+Advances most s (Err (Length f)) s' = ⊥
 
 -- a step for a stream that is so far served: it is so then too, or it is refused as it may be
 abbrev pub ServesOn : {A : Type 0} → Result A TakeStop → ArchiveState → Type 0
@@ -167,6 +169,7 @@ ServesOn (Ok x) s = IsServed s
 ServesOn (Err File) s = Unit {0}
 ServesOn (Err (Refused fault)) s = IsSpent fault s
 ServesOn (Err (Cut kept)) s = IsServed s
+ServesOn (Err (Length f)) s = Unit {0}
 
 -- A case goes, if there is no room for this and one may: there are fewer then.
 abbrev pub DropsOne : Need → ArchiveState → Result Bool TakeStop → ArchiveState → Type 0
@@ -175,6 +178,7 @@ DropsOne need s (Ok false) s' = (s' ≡ s) × HasMadeRoom need s'
 DropsOne need s (Err File) s' = Unit {0}
 DropsOne need s (Err (Refused fault)) s' = IsSpent fault s'
 DropsOne need s (Err (Cut kept)) s' = ⊥
+DropsOne need s (Err (Length f)) s' = ⊥
 
 -- cases go until there is room for this, or none may go any more
 abbrev pub DropsAll : Need → ArchiveState → Result (Unit {0}) TakeStop → ArchiveState → Type 0
@@ -182,6 +186,7 @@ DropsAll need s (Ok u) s' = (IsServed s → IsServed s') × HasMadeRoom need s'
 DropsAll need s (Err File) s' = Unit {0}
 DropsAll need s (Err (Refused fault)) s' = IsSpent fault s'
 DropsAll need s (Err (Cut kept)) s' = ⊥
+DropsAll need s (Err (Length f)) s' = ⊥
 
 -- all bytes are taken: a block for the last ones is there, and room for the record, unless no case may go any more
 abbrev pub FillsServed : Result (Unit {0}) TakeStop → ArchiveState → Type 0
@@ -189,13 +194,15 @@ FillsServed (Ok u) s = IsServed s × HasMadeRoom Record s
 FillsServed (Err File) s = Unit {0}
 FillsServed (Err (Refused fault)) s = IsSpent fault s
 FillsServed (Err (Cut kept)) s = IsServed s × HasMadeRoom Record s
+FillsServed (Err (Length f)) s = Unit {0}
 
--- a file is not cut
+-- no file is cut, and none differs from the length that was stated
 abbrev pub IsUncut : {A : Type 0} → Result A TakeStop → Type 0
 IsUncut (Ok x) = Unit {0}
 IsUncut (Err File) = Unit {0}
 IsUncut (Err (Refused fault)) = Unit {0}
 IsUncut (Err (Cut kept)) = ⊥
+IsUncut (Err (Length f)) = ⊥
 
 -- how many bytes of a file are kept, if it is cut
 abbrev pub cut_of : {A : Type 0} → Result A TakeStop → Option ℕ
@@ -203,6 +210,7 @@ cut_of (Ok x) = None
 cut_of (Err File) = None
 cut_of (Err (Refused fault)) = None
 cut_of (Err (Cut kept)) = Some kept
+cut_of (Err (Length f)) = None
 
 -- a case that is not pinned, and has bytes: data blocks become free if it goes
 abbrev pub may_free : Case → Bool
@@ -225,12 +233,28 @@ IsWalled fit taken s = (0 < taken) × (taken % 4096 ≡ 0) × HasNoBlock s × (f
 abbrev pub HasNoMore : Bool → ℕ → ℕ → ArchiveState → Type 0
 HasNoMore fit most kept s = (kept ≡ most) ⊎ IsWalled fit kept s
 
--- if a file is cut by this step, it is so behind the bytes that were taken, which are some, and no more of it is kept
-abbrev pub CutsBehind : {A : Type 0} → Bool → ℕ → ℕ → Result A TakeStop → ArchiveState → Type 0
+-- no more than a bound, if there is one
+abbrev pub IsWithin : Option ℕ → ℕ → Type 0
+IsWithin None taken = Unit {0}
+IsWithin (Some n) taken = taken ≤ n
+
+-- fewer than a bound, if there is one
+abbrev pub IsUnder : Option ℕ → ℕ → Type 0
+IsUnder None taken = Unit {0}
+IsUnder (Some n) taken = taken < n
+
+-- as many as were stated, if that was done
+abbrev pub IsStated : Option ℕ → ℕ → Type 0
+IsStated None taken = Unit {0}
+IsStated (Some n) taken = taken ≡ n
+
+-- If a file is cut by this step, it is so behind the bytes that were taken, which are some, and no more of it is kept.
+abbrev pub CutsBehind : {A : Type 0} → Bool → Option ℕ → ℕ → Result A TakeStop → ArchiveState → Type 0
 CutsBehind fit most taken (Ok x) s = Unit {0}
 CutsBehind fit most taken (Err File) s = Unit {0}
 CutsBehind fit most taken (Err (Refused fault)) s = Unit {0}
-CutsBehind fit most taken (Err (Cut kept)) s = (kept ≡ taken) × (0 < kept) × (kept ≤ most) × HasNoMore fit most kept s
+CutsBehind fit most taken (Err (Cut kept)) s = (kept ≡ taken) × (0 < kept) × (n : ℕ) × (most ≡ Some n) × (kept ≤ n) × HasNoMore fit n kept s
+CutsBehind fit most taken (Err (Length f)) s = Unit {0}
 
 -- the same of all steps
 abbrev pub CutsWell : {A : Type 0} → Bool → Option ℕ → Result A TakeStop → ArchiveState → Type 0
@@ -238,6 +262,25 @@ CutsWell fit most (Ok x) s = Unit {0}
 CutsWell fit most (Err File) s = Unit {0}
 CutsWell fit most (Err (Refused fault)) s = Unit {0}
 CutsWell fit most (Err (Cut kept)) s = (n : ℕ) × (most ≡ Some n) × (kept ≤ n) × HasNoMore fit n kept s
+CutsWell fit most (Err (Length f)) s = Unit {0}
+
+-- If a step finds that a file has more bytes than were stated, so many were taken. None that is cut has as many.
+abbrev pub MeetsLength : {A : Type 0} → Option ℕ → ℕ → Result A TakeStop → Type 0
+MeetsLength want taken (Ok x) = Unit {0}
+MeetsLength want taken (Err File) = Unit {0}
+MeetsLength want taken (Err (Refused fault)) = Unit {0}
+MeetsLength want taken (Err (Cut kept)) = IsUnder want taken
+MeetsLength want taken (Err (Length Short)) = ⊥
+MeetsLength want taken (Err (Length Long)) = want ≡ Some taken
+
+-- A file has ended behind the bytes that were taken: they are as many as were stated, or fewer.
+abbrev pub EndsAt : Option ℕ → ℕ → Result (Unit {0}) TakeStop → Type 0
+EndsAt want taken (Ok u) = IsStated want taken
+EndsAt want taken (Err File) = ⊥
+EndsAt want taken (Err (Refused fault)) = ⊥
+EndsAt want taken (Err (Cut kept)) = ⊥
+EndsAt want taken (Err (Length Short)) = (n : ℕ) × (want ≡ Some n) × (taken < n)
+EndsAt want taken (Err (Length Long)) = ⊥
 
 -- Where a file is cut, if it is: only if so many bytes may be kept at most. The archive is `at` then, with the bytes that are kept, and the cases
 -- that went so far. Those that go later go for the record of its case.

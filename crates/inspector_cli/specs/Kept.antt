@@ -148,7 +148,7 @@ ALineStoresACase {D} g = (naming : Naming) (t : Streams) (before after : D) (ans
 abbrev pub AStoreStoresACase : {D : Type 0} → disk.Ghosts D → Type 0
 AStoreStoresACase {D} g = (t : Streams) (asked : Option Policy) (found : Result StreamFacts (List ℕ)) (given : Options) (before after : D) (answer : Result StoreOutcome LifeFault) (s : IsStoreSafe g t asked found given before after answer)
     (n : ℕ) → s.course.stored ≡ Some n
-    → (k : Kept) × (k.seq ≡ n) × (found ≡ Ok k.stream) × KeepsOf t.input t.input' s.course.cut k.image × (k.label ≡ Some []) × HoldsKept k s.course.ended.holds × (s.course.ended.in_doubt ≡ [])
+    → (k : Kept) × (k.seq ≡ n) × (found ≡ Ok k.stream) × KeepsOf given.length t.input t.input' s.course.cut k.image × (k.label ≡ Some []) × HoldsKept k s.course.ended.holds × (s.course.ended.in_doubt ≡ [])
 
 -- A case that a store leaves, with nothing in doubt, is found whenever the machine stops from then on: after the case's end, if the
 -- label spares it, after the label, and after the pin.

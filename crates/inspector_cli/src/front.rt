@@ -1,13 +1,13 @@
-// A file that is cut: its first bytes are kept, as many as may be, or as find room.
-ghost use Rattle.std.specs.Prelude.{◌≡◌, ◌+◌, ◌<◌, ◌≤◌, ◌++◌, ℕ, true, List, [], Ok, Some, IfOk};
+// The bytes of a file: all, or its first ones, if it is cut; as many as were stated.
+ghost use Rattle.std.specs.Prelude.{◌≡◌, ◌+◌, ◌<◌, ◌≤◌, ◌++◌, ℕ, true, false, List, [], Ok, Some, IfOk};
 ghost use Rattle.intake.specs.Parts.{Parts, state_of};
-ghost use Rattle.inspector_cli.specs.Fitting.{CutsBehind, CutsWell, Going, IsServed, IsWalled, ServesOn, TakesWhile};
+ghost use Rattle.inspector_cli.specs.Fitting.{CutsBehind, CutsWell, EndsAt, Going, IsServed, IsUnder, IsWalled, IsWithin, MeetsLength, ServesOn, TakesWhile};
 ghost use Rattle.inspector_cli.specs.Reply.{Ends, Takes};
 ghost use Rattle.script_streams.specs.Replies.{TellsReply, TellsText, telling};
-ghost use Rattle.inspector_cli.specs.Storing.{LooksOn, TakesAll, TakesNext, cut_line, cut_text};
+ghost use Rattle.inspector_cli.specs.Storing.{LooksPast, TakesAll, TakesNext, cut_line, cut_text};
 
 use crate::fitting::{lacks_block, may_free};
-use crate::store::{MOST_BYTES, MOST_READS, TakeStop, take_next};
+use crate::store::{LengthFault, MOST_BYTES, MOST_READS, TakeStop, take_next};
 use archive_replies::tell_stored;
 use disk_model::Disk;
 use intake::Archive;
@@ -45,58 +45,103 @@ fn tell_cut<O: Output>(reply: &mut Reply<'_, O>, kept: u64)
     reply.tell(b"\n");
 }
 
-// Takes the first bytes of a file into the stream in slot 0, `most` at most, for which cases go, if they may. If it has more, it is cut
-// where no more may be taken, or no more find room.
-pub(crate) fn take_front<I: Input, O: Output, D: Disk>(
+// Takes the bytes of a file into the stream in slot 0, for which cases go, if they may. If it may be cut, it is so where no more may be
+// taken, or no more find room. If its length is stated, it has to have that, or be cut before.
+pub(crate) fn take_file<I: Input, O: Output, D: Disk>(
     fit: bool,
-    most: u64,
+    cut: Option<u64>,
+    length: Option<u64>,
     file: &mut I,
     reply: &mut Reply<'_, O>,
     archive: &mut Archive<D>,
 ) -> Result<(), TakeStop>
     requires takes { Takes D.Disk archive.old 0 [] (Ok tt) archive.old }
-    requires some { 0 < most }
-    ensures all { TakesAll D.Disk fit (I.remaining file.old) (I.remaining file.new) (I.failures file.old) (I.failures file.new)
+    requires some { IsUnder cut 0 }
+    ensures all { TakesAll D.Disk fit length (I.remaining file.old) (I.remaining file.new) (I.failures file.old) (I.failures file.new)
         archive.old (telling O.Output reply.old reply.new) archive.new result }
     ensures served { fit ≡ true → IsServed (state_of archive.old) → ServesOn result (state_of archive.new) }
-    ensures well { CutsWell fit (Some most) result (state_of archive.new) }
+    ensures well { CutsWell fit cut result (state_of archive.new) }
 {
     let mut taken: u64 = 0;
     for _ in 0..MOST_READS {
-        let count = take_kept(fit, most, taken, file, reply, archive)?;
+        let count = take_step(fit, cut, length, taken, file, reply, archive)?;
         if count == 0 {
-            return Ok(());
+            return end_at(length, taken);
         }
         taken += count as u64;
     }
     Err(TakeStop::File)
 }
 
-// Takes the next bytes of a file into the stream in slot 0, which has taken so many, of `most` at most; or finds that it is to be cut. Says how
-// many there were.
-fn take_kept<I: Input, O: Output, D: Disk>(
+// Whether a file that ended behind so many bytes has the length that was stated, if one was.
+fn end_at(length: Option<u64>, taken: u64) -> Result<(), TakeStop>
+    requires { IsWithin length taken }
+    ensures { EndsAt length taken result }
+{
+    match length {
+        Some(stated) if taken < stated => Err(TakeStop::Length(LengthFault::Short)),
+        _ => Ok(()),
+    }
+}
+
+// Takes the next bytes of a file into the stream in slot 0, which has taken so many; or finds that it is to be cut, or is longer than was
+// stated. Says how many there were.
+fn take_step<I: Input, O: Output, D: Disk>(
     fit: bool,
-    most: u64,
+    cut: Option<u64>,
+    length: Option<u64>,
     taken: u64,
     file: &mut I,
     reply: &mut Reply<'_, O>,
     archive: &mut Archive<D>,
 ) -> Result<usize, TakeStop>
-    requires some { 0 < most }
-    requires within { taken ≤ most }
+    requires some { IsUnder cut 0 }
+    requires within { IsWithin cut taken }
+    requires stated { IsWithin length taken }
     ensures next { (begun : Parts D) (so_far : List ℕ) (gone : List (Going D))
         → TakesWhile D.Disk begun so_far gone (Ok tt) archive.old
         → TakesNext D.Disk (I.remaining file.old) (I.remaining file.new) (I.failures file.old) (I.failures file.new)
         begun so_far gone fit (telling O.Output reply.old reply.new) archive.new result }
     ensures served { fit ≡ true → IsServed (state_of archive.old) → ServesOn result (state_of archive.new) }
-    ensures behind { CutsBehind fit most taken result (state_of archive.new) }
-    ensures within { IfOk result (λ n. taken + n ≤ most) }
+    ensures behind { CutsBehind fit cut taken result (state_of archive.new) }
+    ensures meets { MeetsLength length taken result }
+    ensures within { IfOk result (λ n. IsWithin cut (taken + n)) }
+    ensures stated { IfOk result (λ n. IsWithin length (taken + n)) }
+    ensures few { IfOk result (λ n. n ≤ 4096) }
 {
-    if taken == most || is_walled(fit, taken, archive) {
-        return look_on(taken, file);
+    if is_reached(length, taken) {
+        return look_past(TakeStop::Length(LengthFault::Long), file);
     }
-    let size = (most - taken).min(MOST_BYTES as u64);
-    take_next(fit, size as usize, file, reply, archive)
+    if is_reached(cut, taken) || cut.is_some() && is_walled(fit, taken, archive) {
+        return look_past(TakeStop::Cut(taken), file);
+    }
+    let size = left_of(cut, taken).min(left_of(length, taken));
+    take_next(fit, size, file, reply, archive)
+}
+
+// Whether so many bytes are those of a bound, if there is one.
+fn is_reached(bound: Option<u64>, taken: u64) -> bool
+    requires { IsWithin bound taken }
+    ensures yes { result ≡ true → bound ≡ Some taken }
+    ensures no { result ≡ false → IsUnder bound taken }
+{
+    match bound {
+        Some(most) => taken == most,
+        None => false,
+    }
+}
+
+// How many bytes may be asked for at a time, if so many are taken, and no more than a bound may be.
+fn left_of(bound: Option<u64>, taken: u64) -> usize
+    requires { IsUnder bound taken }
+    ensures some { 0 < result }
+    ensures few { result ≤ 4096 }
+    ensures within { (n : ℕ) → n ≤ result → IsWithin bound (taken + n) }
+{
+    match bound {
+        Some(most) => (most - taken).min(MOST_BYTES as u64) as usize,
+        None => MOST_BYTES,
+    }
 }
 
 // Whether so many bytes, some at least, fill whole blocks, and no data block is free for more; nor becomes free, if cases may go.
@@ -106,9 +151,9 @@ fn is_walled<D: Disk>(fit: bool, taken: u64, archive: &Archive<D>) -> bool
     taken > 0 && taken % 4096 == 0 && lacks_block(archive) && !(fit && may_free(archive))
 }
 
-// Looks whether a file goes on behind the bytes that were taken: then it is to be cut there.
-fn look_on<I: Input>(taken: u64, file: &mut I) -> Result<usize, TakeStop>
-    ensures { LooksOn (I.remaining file.old) (I.remaining file.new) (I.failures file.old) (I.failures file.new) taken result }
+// Looks whether a file goes on behind the bytes that were taken, which stops it for this reason.
+fn look_past<I: Input>(stop: TakeStop, file: &mut I) -> Result<usize, TakeStop>
+    ensures { LooksPast (I.remaining file.old) (I.remaining file.new) (I.failures file.old) (I.failures file.new) stop result }
 {
     let mut next = [0u8; 1];
     let Ok(count) = file.read(&mut next) else {
@@ -117,5 +162,5 @@ fn look_on<I: Input>(taken: u64, file: &mut I) -> Result<usize, TakeStop>
     if count == 0 {
         return Ok(0);
     }
-    Err(TakeStop::Cut(taken))
+    Err(stop)
 }

@@ -16,6 +16,9 @@ pub struct StoreOptions {
     pub fit: bool,
     /// If the stream has more than so many bytes, or finds no room, its first ones are kept, this many at most. None: it is refused.
     pub cut: Option<u64>,
+    /// How many bytes the stream has, if that is known before. One that ends earlier, and is not cut before, is refused as `Short`, and one
+    /// that goes on as `TooLong`.
+    pub length: Option<u64>,
     /// A core is not stored if that would be one too many of its program: the reason is `Burst`.
     pub burst: Option<Burst>,
 }

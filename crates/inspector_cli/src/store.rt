@@ -8,13 +8,13 @@ ghost use Rattle.inspector_cli.specs.Bursts.{admitted};
 ghost use Rattle.inspector_cli.specs.Reply.{Begins, Takes};
 ghost use Rattle.script_streams.specs.Replies.{TellsReply, telling};
 ghost use Rattle.inspector_cli.specs.Session.{streams_of};
-ghost use Rattle.inspector_cli.specs.Storing.{StoreEnds, Stores, StoresStream, FillsAndEnds, PinsCase, LabelsCase, label_asked, options_asked, FillsAll, TakesAll, TakesNext, TakesMore, IsSlotQuiet};
+ghost use Rattle.inspector_cli.specs.Storing.{StoreEnds, Stores, StoresStream, FillsAndEnds, PinsCase, LabelsCase, label_asked, options_asked, FillsAll, TakesAll, TakesNext, TakesMore, IsSlotQuiet, length_reason};
 
 use crate::answers::{answer_end, answer_label, answer_pin};
 use crate::begin::answer_begin;
 use crate::burst::admitted;
 use crate::fitting::{Need, lacks_block, make_room};
-use crate::front::{answer_front, take_front};
+use crate::front::{answer_front, take_file};
 use crate::retiring::retire_first;
 use crate::session::{SessionFault, StoreOptions, StoreOutcome};
 use archive_replies::reason;
@@ -40,6 +40,17 @@ pub(crate) enum TakeStop {
     Refused(ArchiveFault),
     /// So many were taken, and are kept. More follow.
     Cut(u64),
+    /// It has not the length that was stated.
+    Length(LengthFault),
+}
+
+/// How a file's length differs from the one that was stated.
+#[derive(Clone, Copy)]
+pub(crate) enum LengthFault {
+    /// The file ends before it.
+    Short,
+    /// The file goes on behind it.
+    Long,
 }
 
 /// Stores one stream, with these options. A policy, if one is given, is carried out before it.
@@ -59,6 +70,9 @@ pub(crate) enum TakeStop {
 /// - If so many bytes may be kept at most of a `file` that has more, it is cut: where that many are taken, or whole blocks are, and no
 ///   data block is free, after cases went, if they may. What was taken becomes the case. If it is stored, that is told as `cut KEPT`
 ///   before the reply to the end.
+/// - If the length of `file` is stated, a case is stored only if its image has it, or `file` was cut before. A `file` that ends earlier is a
+///   step that is refused with the reply `no Short`. One that goes on is one with `no TooLong`: its first byte that is too many is read, and
+///   none behind it.
 /// - Once the case is stored, it gets its label as by the line `label` of a session, and then it is pinned as by the line `pin`.
 ///   A case whose label or pin is refused stays.
 ///
@@ -105,7 +119,15 @@ fn answer_all<I: Input, O: Output, D: Disk>(
         archive.old policy (stream_found found.entry) (options_asked options.now) text archive.new result) }
 {
     let retired_first = retire_first(policy, &found, reply, archive);
-    let stored = answer_store(options.fit, options.cut, found, file, reply, archive);
+    let stored = answer_store(
+        options.fit,
+        options.cut,
+        options.length,
+        found,
+        file,
+        reply,
+        archive,
+    );
     let labelled = label_case(stored, &options.label, reply, archive);
     let pinned = pin_case(stored, options.pin, reply, archive);
     StoreOutcome {
@@ -156,19 +178,20 @@ fn label_case<O: Output, D: Disk>(
 fn answer_store<I: Input, O: Output, D: Disk>(
     fit: bool,
     cut: Option<u64>,
+    length: Option<u64>,
     found: Result<NewStream, &'static [u8]>,
     file: &mut I,
     reply: &mut Reply<'_, O>,
     archive: &mut Archive<D>,
 ) -> Option<u32>
-    ensures { TellsReply (telling O.Output reply.old reply.new) (λ text. StoresStream D.Disk fit cut (I.remaining file.old) (I.remaining file.new) (I.failures file.old) (I.failures file.new)
+    ensures { TellsReply (telling O.Output reply.old reply.new) (λ text. StoresStream D.Disk fit cut length (I.remaining file.old) (I.remaining file.new) (I.failures file.old) (I.failures file.new)
         archive.old (stream_found found.entry) text archive.new result) }
 {
     let is_begun = answer_first(found, reply, archive);
     if !is_begun {
         return None;
     }
-    answer_file(fit, cut, file, reply, archive)
+    answer_file(fit, cut, length, file, reply, archive)
 }
 
 // Begins this stream, or is refused for this reason. Says whether it has begun: then it has no bytes yet.
@@ -188,15 +211,16 @@ fn answer_first<O: Output, D: Disk>(
 fn answer_file<I: Input, O: Output, D: Disk>(
     fit: bool,
     cut: Option<u64>,
+    length: Option<u64>,
     file: &mut I,
     reply: &mut Reply<'_, O>,
     archive: &mut Archive<D>,
 ) -> Option<u32>
     requires { Takes D.Disk archive.old 0 [] (Ok tt) archive.old }
-    ensures { TellsReply (telling O.Output reply.old reply.new) (λ text. FillsAndEnds D.Disk fit cut (I.remaining file.old) (I.remaining file.new) (I.failures file.old) (I.failures file.new)
+    ensures { TellsReply (telling O.Output reply.old reply.new) (λ text. FillsAndEnds D.Disk fit cut length (I.remaining file.old) (I.remaining file.new) (I.failures file.old) (I.failures file.new)
         archive.old text archive.new result) }
 {
-    match fill_stream(fit, cut, file, reply, archive) {
+    match fill_stream(fit, cut, length, file, reply, archive) {
         Ok(()) => answer_end(0, reply, archive),
         Err(TakeStop::Cut(kept)) => answer_front(kept, reply, archive),
         Err(TakeStop::File) => {
@@ -207,6 +231,20 @@ fn answer_file<I: Input, O: Output, D: Disk>(
             tell_no(reply, reason(fault));
             None
         }
+        Err(TakeStop::Length(fault)) => {
+            tell_no(reply, length_reason(fault));
+            None
+        }
+    }
+}
+
+// Why a stream is refused whose length is not the one that was stated.
+fn length_reason(fault: LengthFault) -> &'static [u8]
+    ensures { result.now ≡ length_reason fault }
+{
+    match fault {
+        LengthFault::Short => b"Short",
+        LengthFault::Long => b"TooLong",
     }
 }
 
@@ -215,19 +253,20 @@ fn answer_file<I: Input, O: Output, D: Disk>(
 fn fill_stream<I: Input, O: Output, D: Disk>(
     fit: bool,
     cut: Option<u64>,
+    length: Option<u64>,
     file: &mut I,
     reply: &mut Reply<'_, O>,
     archive: &mut Archive<D>,
 ) -> Result<(), TakeStop>
     requires { Takes D.Disk archive.old 0 [] (Ok tt) archive.old }
-    ensures all { FillsAll D.Disk fit cut (I.remaining file.old) (I.remaining file.new) (I.failures file.old) (I.failures file.new)
+    ensures all { FillsAll D.Disk fit cut length (I.remaining file.old) (I.remaining file.new) (I.failures file.old) (I.failures file.new)
         archive.old (telling O.Output reply.old reply.new) archive.new result }
     ensures served { fit ≡ true → IsServed (state_of archive.old) → FillsServed result (state_of archive.new) }
 {
     if !fit {
-        return take_asked(fit, cut, file, reply, archive);
+        return take_asked(fit, cut, length, file, reply, archive);
     }
-    match take_asked(fit, cut, file, reply, archive) {
+    match take_asked(fit, cut, length, file, reply, archive) {
         Ok(()) => make_room(Need::Record, reply, archive),
         Err(TakeStop::Cut(kept)) => {
             make_room(Need::Record, reply, archive)?;
@@ -235,6 +274,7 @@ fn fill_stream<I: Input, O: Output, D: Disk>(
         }
         Err(TakeStop::File) => Err(TakeStop::File),
         Err(TakeStop::Refused(fault)) => Err(TakeStop::Refused(fault)),
+        Err(TakeStop::Length(fault)) => Err(TakeStop::Length(fault)),
     }
 }
 
@@ -242,45 +282,24 @@ fn fill_stream<I: Input, O: Output, D: Disk>(
 fn take_asked<I: Input, O: Output, D: Disk>(
     fit: bool,
     cut: Option<u64>,
+    length: Option<u64>,
     file: &mut I,
     reply: &mut Reply<'_, O>,
     archive: &mut Archive<D>,
 ) -> Result<(), TakeStop>
     requires { Takes D.Disk archive.old 0 [] (Ok tt) archive.old }
-    ensures all { TakesAll D.Disk fit (I.remaining file.old) (I.remaining file.new) (I.failures file.old) (I.failures file.new)
+    ensures all { TakesAll D.Disk fit length (I.remaining file.old) (I.remaining file.new) (I.failures file.old) (I.failures file.new)
         archive.old (telling O.Output reply.old reply.new) archive.new result }
     ensures served { fit ≡ true → IsServed (state_of archive.old) → ServesOn result (state_of archive.new) }
     ensures well { CutsWell fit cut result (state_of archive.new) }
 {
     let Some(most) = cut else {
-        return take_file(fit, file, reply, archive);
+        return take_file(fit, None, length, file, reply, archive);
     };
     if most == 0 {
-        return take_file(fit, file, reply, archive);
+        return take_file(fit, None, length, file, reply, archive);
     }
-    take_front(fit, most, file, reply, archive)
-}
-
-// Takes all bytes of a file into the stream in slot 0, for which cases go, if they may.
-fn take_file<I: Input, O: Output, D: Disk>(
-    fit: bool,
-    file: &mut I,
-    reply: &mut Reply<'_, O>,
-    archive: &mut Archive<D>,
-) -> Result<(), TakeStop>
-    requires { Takes D.Disk archive.old 0 [] (Ok tt) archive.old }
-    ensures all { TakesAll D.Disk fit (I.remaining file.old) (I.remaining file.new) (I.failures file.old) (I.failures file.new)
-        archive.old (telling O.Output reply.old reply.new) archive.new result }
-    ensures served { fit ≡ true → IsServed (state_of archive.old) → ServesOn result (state_of archive.new) }
-    ensures uncut { IsUncut result }
-{
-    for _ in 0..MOST_READS {
-        let count = take_next(fit, MOST_BYTES, file, reply, archive)?;
-        if count == 0 {
-            return Ok(());
-        }
-    }
-    Err(TakeStop::File)
+    take_file(fit, Some(most), length, file, reply, archive)
 }
 
 // Takes the next bytes of a file into the stream in slot 0, `most` at most, for which cases go, if they may. Says how many there were.

@@ -33,6 +33,7 @@ fn store<I: Input, O: Output, D: Disk>(
         pin: false,
         fit: false,
         cut: None,
+        length: None,
         burst: None,
     };
     open_and_store(alloc, disk, settings, policy, found, &options, file, output)

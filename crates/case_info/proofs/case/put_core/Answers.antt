@@ -1,4 +1,4 @@
-use Rattle.std.proofs.Common.{◌∙◌, rules}
+use Rattle.std.proofs.Common.{◌∙◌, refl, rules}
 use Rattle.case_info.proofs.case.put_core.Goals as goal
 
 pub returns : goal.returns
@@ -10,6 +10,7 @@ returns g c = λ plain. (
     files = c.answer-4.result;
     unwound = c.deref-4.result;
     builds = c.answer-5.result;
+    whole = c.args.whole;
   },
   record {
     process = c.answer.ensures ∙ c.in_ok-process.ensures;
@@ -19,5 +20,6 @@ returns g c = λ plain. (
     unwound = search (rules, c.in_ok-shown.ensures, c.in_ok-threads.ensures, c.in_ok-unwound.ensures);
     builds = c.answer-5.ensures ∙ c.in_ok-builds.ensures;
   },
+  refl,
   c.in_ok-put_text.ensures plain,
 )

@@ -7,8 +7,8 @@ use Rattle.case_screens.proofs.files.tell_stored.Goals as goal
 pub returns-in-Some : goal.returns-in-Some
 returns-in-Some g c =
     tells_as (ap (λ o. stored_text o c.args.line.now) (sym c.in-Some.is))
-    (tells_then c.tell.ensures (tells_then (tells_as (ap decimal c.from.ensures) c.tell_decimal.ensures) c.tell_build.ensures))
+    (tells_then c.tell.ensures (tells_then (tells_as (ap decimal c.from.ensures) c.tell_decimal.ensures) (tells_as c.build_words.ensures c.tell-in-Some.ensures)))
 
 pub returns-in-None : goal.returns-in-None
 returns-in-None g c =
-    tells_as (ap (λ o. stored_text o c.args.line.now) (sym c.in-None.is)) (tells_then c.tell-in-None.ensures c.tell-in-None-2.ensures)
+    tells_as (ap (λ o. stored_text o c.args.line.now) (sym c.in-None.is)) (tells_then c.tell-in-None.ensures (tells_as c.word_at.ensures c.tell-in-None-2.ensures))

@@ -1,10 +1,10 @@
-use Rattle.std.proofs.Common.{◌≡◌, ◌≤◌, ℕ, false, true, List, [], length, Ok}
+use Rattle.std.proofs.Common.{◌≡◌, ◌≤◌, ◌*◌, ℕ, false, true, List, [], length, Ok}
 use Rattle.std.specs.List.{flat_map}
 use Rattle.std.specs.Io.KnownBytes.{Consumes}
 use Rattle.intake.specs.Parts.{state_of}
 use Rattle.script_streams.specs.Replies.{TellsText, telling}
-use Rattle.inspector_cli.specs.Fitting.{Going, IsServed, TakesWhile, going_text}
-use Rattle.inspector_cli.proofs.store.take_file.Given as goal
+use Rattle.inspector_cli.specs.Fitting.{Going, IsServed, IsWithin, TakesWhile, going_text}
+use Rattle.inspector_cli.proofs.front.take_file.Given as goal
 
 abbrev pub invariant-loop : goal.invariant-loop
 invariant-loop g l = record {
@@ -16,5 +16,9 @@ invariant-loop g l = record {
   failures : g.I.Input.failures l.file ≡ g.I.Input.failures l.initial.file;
   takes : TakesWhile g.D.Disk l.fn.archive raw gone (Ok tt) l.archive;
   unasked : l.fn.fit ≡ false → gone ≡ [];
+  length : l.taken ≡ length raw;
+  within : IsWithin l.fn.cut l.taken;
+  stated : IsWithin l.fn.length l.taken;
+  few : l.taken ≤ 4096 * l.counter;
   served : l.fn.fit ≡ true → IsServed (state_of l.fn.archive) → IsServed (state_of l.archive);
 }

@@ -1,0 +1,18 @@
+use Rattle.std.proofs.Common.{inl, inr, refl, rules}
+use Rattle.archive_files.proofs.storing.store_from.Goals as goal
+
+pub returns : goal.returns
+returns g c = inr (
+  c.fitted-request.result,
+  _,
+  c.fitted-request.ensures.fitted,
+  record {
+    input = search (c.fitted-request.ensures.same, c.in-Ok.ensures.inner, c.new-file.ensures.remaining, rules);
+    fails = c.new-file.ensures.failures;
+    taken = refl;
+    taken' = refl;
+    lost = refl;
+    lost' = refl;
+  },
+  c.store_retiring_first.ensures,
+)
