@@ -7,7 +7,7 @@ ghost use Rattle.stream_names.specs.Commands.{stream_found};
 ghost use Rattle.inspector_cli.specs.Session.{streams_of};
 ghost use Rattle.inspector_cli.specs.Storing.{line_stream, options_asked};
 ghost use Rattle.script_streams.specs.Replies.{TellsText, telling};
-ghost use Rattle.archive_files.specs.OverDisks.{StoresOnDisk, StoresFile, IsFitted, differs, exceeds, is_refused, is_too_long, name_found, reason_found, sparing, sparing_for, within_limit};
+ghost use Rattle.archive_files.specs.OverDisks.{StoresOnDisk, StoresFile, IsFitted, is_refused, is_too_long, name_found, reason_found, sparing, sparing_for, within_limit};
 ghost use Rattle.archive_files.specs.Telling.{IsKeptAs};
 
 use crate::collected::Collected;
@@ -151,17 +151,9 @@ impl StoreRequest {
         ensures { result ≡ is_refused length most self.now }
     {
         self.is_too_long(length)
-            || self.options.cut.is_none() && (exceeds(length, most) || self.differs(length))
-    }
-
-    // Another length is stated.
-    fn differs(&self, length: u64) -> bool
-        ensures { result ≡ differs length self.now.options.length }
-    {
-        match self.options.length {
-            Some(stated) => stated != length,
-            None => false,
-        }
+            || self.options.cut.is_none()
+                && (most.is_some_and(|most| length > most)
+                    || self.options.length.is_some_and(|stated| stated != length))
     }
 
     // A stream of so many bytes is refused for its length. None is that may be cut.
@@ -181,16 +173,6 @@ impl StoreRequest {
         } else {
             self.without_retiring()
         }
-    }
-}
-
-// Whether so many bytes are more than a bound, if there is one.
-fn exceeds(length: u64, most: Option<u64>) -> bool
-    ensures { result ≡ exceeds length most }
-{
-    match most {
-        Some(most) => length > most,
-        None => false,
     }
 }
 

@@ -85,14 +85,10 @@ pub record AreTold (r : CoreReplies) (a : CoreAnswers) : Type 0 where
 abbrev pub IsScreenBy : {D : Type 0} → Parts D → ℕ → CaseAnswers → Collected → Type 0
 IsScreenBy a seq answers text = (c : Case) × HasCase (state_of a) seq c × (held text ≡ info_answer c (state_of a).cases answers)
 
--- how many bytes a core has that begins so, if it is whole
-unfoldable pub whole_seen : List ℕ → Option ℕ
-whole_seen b = whole_length b
-
 -- The first bytes of an image are read, 65,536 or as many as it has, and they say how many bytes a core has if it is whole.
 abbrev pub SeesWhole : {D : Type 0} → disk.Ghosts D → Parts D → ℕ → Option ℕ → Parts D → Type 0
 SeesWhole g old seq whole new =
-    (c : Case) × HasCase (state_of old) seq c × (n : ℕ) × (n ≡ min c.len 65536) × (front : List ℕ) × PartCall g old seq 0 n (Ok tt) front new × (whole ≡ whole_seen front)
+    (c : Case) × HasCase (state_of old) seq c × (n : ℕ) × (n ≡ min c.len 65536) × (front : List ℕ) × PartCall g old seq 0 n (Ok tt) front new × (whole ≡ whole_length front)
 
 -- A core is asked its lines, and their replies are shown, and whether it was cut.
 abbrev pub ShowsCore : {D : Type 0} → disk.Ghosts D → Parts D → ℕ → Bool → Collected → Parts D → Type 0

@@ -1,6 +1,6 @@
 // How many bytes a core has if it is whole.
-ghost use Rattle.std.specs.Prelude.{◌≡◌, IfOk};
-ghost use Rattle.case_info.specs.Screens.{SeesWhole, whole_seen};
+ghost use Rattle.std.specs.Prelude.{IfOk};
+ghost use Rattle.case_info.specs.Screens.{SeesWhole};
 
 use archive_files::Refusal;
 use core_length::whole_length;
@@ -25,15 +25,7 @@ pub(crate) fn whole_of<D: Disk>(
     };
     let mut front = vec![in alloc; 0u8; length.min(FRONT) as usize]?;
     match archive.image_part(seq, 0, &mut front) {
-        Ok(()) => Ok(whole_in(&front)),
+        Ok(()) => Ok(whole_length(&front)),
         Err(fault) => Err(Refusal::Call(fault)),
     }
-}
-
-// The length that the program headers of a core want that begins so.
-#[tactic(auto, unfolding(crate::specs::Screens::whole_seen))]
-fn whole_in(front: &[u8]) -> Option<u64>
-    ensures { result ≡ whole_seen front.now }
-{
-    whole_length(front)
 }

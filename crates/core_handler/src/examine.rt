@@ -218,7 +218,8 @@ fn see_image<D: Disk>(
 {
     let front = read_front(alloc, seq, length, archive)?;
     let whole = cut_whole(kind, length, &front);
-    let trouble = see_trouble(alloc, seq, kind, length, &front, archive)?;
+    let unseen = Collected::new(alloc);
+    let trouble = see_trouble(alloc, seq, kind, length, &front, archive).unwrap_or(unseen);
     Some(Sight { trouble, whole })
 }
 

@@ -51,5 +51,5 @@ length_by b None = None
 length_by b (Some Narrow) = table_length b Narrow (field b 28 4) (field b 42 2) (field b 44 2)
 length_by b (Some Wide) = table_length b Wide (field b 32 8) (field b 54 2) (field b 56 2)
 
-abbrev pub whole_length : List ℕ → Option ℕ
+unfoldable pub whole_length : List ℕ → Option ℕ
 whole_length b = length_by b (class_of b)

@@ -27,6 +27,7 @@ const PN_XNUM: u16 = 0xffff;
 ///
 /// `None` if that can't be told: they are no little-endian ELF core file, or the program headers are not whole in them, or number
 /// 65,535 or more. (System V gABI, "ELF Header", "Program Header".)
+#[tactic(auto, unfolding(crate::specs::Whole::whole_length))]
 pub fn whole_length(front: &[u8]) -> Option<u64>
     ensures { result ≡ spec.whole_length front.now }
 {

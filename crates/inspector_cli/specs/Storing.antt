@@ -53,7 +53,8 @@ abbrev pub KeepsOf : Option ℕ → Option (List ℕ) → Option (List ℕ) → 
 KeepsOf want file file' None raw = Consumes file file' raw × IsAtEnd file' × IsStated want (length raw)
 KeepsOf want file file' (Some kept) raw = (more : List ℕ) × Consumes file file' (raw ++ more) × (0 < length more) × (length raw ≡ kept) × (0 < kept) × IsUnder want kept
 
--- How a file's length differs from the one that was stated: it ends before, behind these bytes, or goes on behind these, which are as many.
+-- How a file's length differs from the one that was stated. It ends with these bytes, which are fewer; or these are as many, and more
+-- follow.
 abbrev pub Differs : Option ℕ → Option (List ℕ) → Option (List ℕ) → List ℕ → LengthFault → Type 0
 Differs want file file' raw Short = Consumes file file' raw × IsAtEnd file' × (n : ℕ) × (want ≡ Some n) × (length raw < n)
 Differs want file file' raw Long = (more : List ℕ) × Consumes file file' (raw ++ more) × (0 < length more) × (want ≡ Some (length raw))

@@ -74,8 +74,8 @@ impl Frames {
     }
 
     /// The next frame, or why none comes. The executables are attached for the mapped files of their paths, of two with one path
-    /// the first. The others are not, since they are of another build. The error is a byte of the core's image that is not at hand. Then nothing has changed, and the call can be made
-    /// again once it is.
+    /// the first. The others are not, since they are of another build. The error is a byte of the core's image that is not at hand.
+    /// Then nothing has changed, and the call can be made again once it is.
     pub fn next(
         &mut self,
         memory: SeenMemory<'_, '_>,

@@ -1,7 +1,7 @@
 use Rattle.std.proofs.Common.{ap, rules, length, ◌∙◌}
 use Rattle.std.proofs.lemmas.List.{with_items_is}
 use Rattle.journal_layout.specs.Case.{case_of}
-use Rattle.case_info.specs.Screens.{whole_seen}
+use Rattle.core_length.specs.Whole.{whole_length}
 use Rattle.case_info.proofs.whole.whole_of.Goals as goal
 
 pub returns-in-Ok-image_part : goal.returns-in-Ok-image_part
@@ -12,5 +12,5 @@ returns-in-Ok-image_part g c = (
   search (c.deref_mut.ensures.len, c.in_ok-front.ensures.len, c.min.ensures, rules),
   c.image_part.new.into,
   rw c.in-Ok-image_part.is at c.image_part.ensures,
-  c.whole_in.ensures ∙ ap whole_seen (c.deref.ensures.value ∙ with_items_is c.in_ok-front.front c.image_part.new.into (c.image_part.auto.into ∙ c.deref_mut.ensures.len)),
+  c.whole_length.ensures ∙ ap whole_length (c.deref.ensures.value ∙ with_items_is c.in_ok-front.front c.image_part.new.into (c.image_part.auto.into ∙ c.deref_mut.ensures.len)),
 )
