@@ -32,7 +32,7 @@ use Rattle.unwind.specs.declared.frame.Callee.{Callee}
 use Rattle.unwind.specs.declared.frame.Frame.{Frame}
 
 -- what an answer that is Ok went through
-checked_ok : {A B : Type 0} (o : Option A) (stop : Stop) (others : A → Result B Stop) (y : B) → checked o stop others ≡ Ok y → (x : A) × (o ≡ Some x) × (others x ≡ Ok y)
+pub checked_ok : {A B : Type 0} (o : Option A) (stop : Stop) (others : A → Result B Stop) (y : B) → checked o stop others ≡ Ok y → (x : A) × (o ≡ Some x) × (others x ≡ Ok y)
 checked_ok None stop others y h = cc
 checked_ok (Some x) stop others y h = (x, refl, h)
 
@@ -237,9 +237,12 @@ stands_on p f g (by_fde code is (e, row, a, covers, found)) =
       },
     ))
 
+pub next_stands : (p : ProcessView) (n : ℕ) (f g : Frame) → next p n f ≡ Ok g → StandsOn p f g
+next_stands p n f g is = stands_on p f g (next_led p n f g is)
+
 pub each_stands : (p : ProcessView) (n : ℕ) (f : Frame) (fs : List Frame) (stop : Stop) → IsUnwoundFrom p n f fs stop → EachStands p f fs
 each_stands p n f [] stop is = tt
-each_stands p n f (g ∷ gs) stop is = (stands_on p f g (next_led p n f g is.0), each_stands p (n - 1) g gs stop is.1)
+each_stands p n f (g ∷ gs) stop is = (next_stands p n f g is.0, each_stands p (n - 1) g gs stop is.1)
 
 -- no callee is known where execution was
 abbrev IsAlone : Frame → Type 0

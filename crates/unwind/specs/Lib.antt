@@ -10,3 +10,4 @@ pub mod Stands
 pub mod Words
 pub mod Coming
 pub mod FrameWords
+pub mod InTurn

@@ -3,6 +3,7 @@ ghost use Rattle.std.specs.Prelude.{◌≡◌, ◌≤◌, ◌∷◌, ℕ, List, 
 ghost use Rattle.unwind.specs.ByCall.{is_no_code};
 ghost use Rattle.unwind.specs.ByTrampoline.{is_trampoline};
 ghost use Rattle.unwind.specs.Code.{CodeView, ProcessView, code_of};
+ghost use Rattle.unwind.specs.InTurn.{CallersAreOfTheirCalls, NoEntryIsPassedOver, NoFaultIsHidden, NoNextFunctionIsACaller, ReturnAddressesAreUnknown, ReturnAddressesAreUsedOnce};
 ghost use Rattle.unwind.specs.Stands as stands;
 ghost use Rattle.unwind.specs.Unwinding as spec;
 ghost use Rattle.unwind.specs.declared.faults.Stop as stops;
@@ -44,4 +45,24 @@ pub fn nothing_is_guessed()
         → is_no_code p.space f.pc ≡ false
         → ((code : CodeView) → code_of p f ≡ Ok code → stands.AreBare code)
         → (stop : stops.Stop) × (spec.next p n f ≡ Err stop) }
+{}
+
+/// The frame after a caller is told by an FDE that has the last byte of the call. So if a call is the last instruction of its function,
+/// the FDE of the next function is not asked: if no FDE has that byte, no frame comes. It does nothing.
+pub fn callers_are_of_their_calls()
+    ensures called { CallersAreOfTheirCalls }
+    ensures no_next { NoNextFunctionIsACaller }
+{}
+
+/// `NoEntry` is told only if no entry of either section has a fault, and no FDE has the address. It does nothing.
+pub fn no_entry_is_sure()
+    ensures faults { NoFaultIsHidden }
+    ensures uncovered { NoEntryIsPassedOver }
+{}
+
+/// The register to which a call wrote its return address is not known of the frame that made the call. So no return address is taken
+/// for that of another call: if by the row of that frame its own is still in that register, no frame comes. It does nothing.
+pub fn a_return_address_is_used_once()
+    ensures unknown { ReturnAddressesAreUnknown }
+    ensures once { ReturnAddressesAreUsedOnce }
 {}

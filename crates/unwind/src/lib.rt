@@ -21,5 +21,6 @@ pub use faults::{RowFault, Stop};
 pub use frame::{Callee, Frame, Registers};
 pub use frames::Frames;
 pub use laws::{
-    each_frame_stands_on_a_rule, nothing_is_guessed, the_frames_are_unwound, the_stack_rises,
+    a_return_address_is_used_once, callers_are_of_their_calls, each_frame_stands_on_a_rule,
+    no_entry_is_sure, nothing_is_guessed, the_frames_are_unwound, the_stack_rises,
 };
