@@ -69,7 +69,7 @@ pub record IsOfTheCall (p : ProcessView) (f g : Frame) (last : ℕ) (code : Code
   pub cfa : ℕ
   pub told : IsReturn p f g code e row cfa
 
--- The frame after a caller is told by an FDE that has the call, and not by one that begins where the call returns to.
+-- The frame after a caller that is at no trampoline is told by an FDE that has the call, and not by one that begins where the call returns to.
 abbrev pub CallersAreOfTheirCalls : Type 0
 CallersAreOfTheirCalls =
     (p : ProcessView) (f g : Frame) → f.exact ≡ false → is_trampoline p.space f.pc ≡ false → GiveInTurn p f g

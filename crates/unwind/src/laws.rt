@@ -47,8 +47,8 @@ pub fn nothing_is_guessed()
         → (stop : stops.Stop) × (spec.next p n f ≡ Err stop) }
 {}
 
-/// The frame after a caller is told by an FDE that has the last byte of the call. So if a call is the last instruction of its function,
-/// the FDE of the next function is not asked: if no FDE has that byte, no frame comes. It does nothing.
+/// The frame after a caller that is at no trampoline is told by an FDE that has the last byte of the call. So if a call is the last
+/// instruction of its function, the FDE of the next function is not asked: if no FDE has that byte, no frame comes. It does nothing.
 pub fn callers_are_of_their_calls()
     ensures called { CallersAreOfTheirCalls }
     ensures no_next { NoNextFunctionIsACaller }
