@@ -1,15 +1,15 @@
 // Archives, made, and taken from their files.
 ghost use Rattle.std.specs.Prelude.{◌+◌, ◌*◌, ◌≤◌, IfOk, OnErr};
 ghost use Rattle.case_journal.specs.Viewing.{OnlyReads};
-ghost use Rattle.failure_count.specs.Counts.{HasRisen};
+ghost use Rattle.diagnostics.specs.Counts.{HasRisen};
 
 use crate::archive_path::ArchivePath;
 use crate::failures::{FileWord, Refusal};
 use crate::making::format_over;
 use crate::part_file::{clear, give_name, is_named, is_same, part_of};
+use diagnostics::Onlooker;
 use disk_model::{Disk, FileDisk, FileFault};
 use journal_layout::Shape;
-use onlooker::Onlooker;
 use std::fs;
 use std::fs::{File, Metadata, TryLockError};
 use std::rt::Files;

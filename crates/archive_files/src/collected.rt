@@ -1,7 +1,7 @@
 // Text that is kept, and goes nowhere by itself.
 ghost use Rattle.std.specs.Prelude.{◌≡◌, [], Some};
 
-use failure_count::after_failure;
+use diagnostics::after_failure;
 use script_streams::{Output, StreamFault};
 use std::alloc::Global;
 

@@ -1,11 +1,11 @@
 // The reply to one line, which is held until the archive is let go.
 ghost use Rattle.std.specs.Prelude.{◌≡◌, ◌<◌, ◌≤◌, [], true, false, length, drop, take, IfOk, OnOk, OnErr};
 ghost use Rattle.std.specs.Io.KnownBytes.{Appends, Keeps, WriteAppends, append_known};
-ghost use Rattle.failure_count.specs.Counts.{HasRisen};
+ghost use Rattle.diagnostics.specs.Counts.{HasRisen};
 ghost use Rattle.archive_files.specs.Holding.{taken_by};
 
 use crate::unsent::Unsent;
-use failure_count::after_failure;
+use diagnostics::after_failure;
 use script_streams::{Output, StreamFault};
 use std::alloc::Global;
 

@@ -4,8 +4,8 @@ ghost use Rattle.std.specs.Prelude.{◌≡◌, ◌≤◌};
 use archive_files::{Failure, Refusal, reason_of, tell_failure};
 use clap::error::ErrorKind;
 use command_words::{Context, meaning_when, tell_how_it_is_asked, tell_meaning, tell_no_line};
+use diagnostics::Trouble;
 use line_help::LineHelp;
-use onlooker::Trouble;
 use script_streams::{Output, Reply, write_whole};
 use std::alloc::{AllocError, Global};
 

@@ -17,11 +17,11 @@ use command_words::{
     tell_note, words_of,
 };
 use core_handler::{Log, Teller, handle, store_told, tell_lost_words};
+use diagnostics::Onlooker;
 use inspector_cli::{Naming, memory_session};
 use intake::Settings;
 use journal_layout::Shape;
 use name_template::Template;
-use onlooker::Onlooker;
 use script_lines::Question;
 use script_streams::{Output, ReadInput};
 use shown_progress::Listener;

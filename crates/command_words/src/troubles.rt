@@ -1,6 +1,6 @@
 // Why a call on an archive's file failed, in words for people.
 use crate::contexts::{Context, meaning_when};
-use onlooker::{Call, Trouble};
+use diagnostics::{Call, Trouble};
 use script_streams::{Output, Reply};
 
 // An error of the system: its number on Linux (errno(3)), its name, and what it means.

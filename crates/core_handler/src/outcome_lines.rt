@@ -1,8 +1,8 @@
 // What the replies of a store say of its outcome, for a log.
 use archive_files::{Collected, FileWord, Refusal};
 use command_words::{Context, tell_meaning};
+use diagnostics::Trouble;
 use disk_model::FileFault;
-use onlooker::Trouble;
 use script_streams::Reply;
 use std::alloc::Global;
 

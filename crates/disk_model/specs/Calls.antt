@@ -1,6 +1,6 @@
 -- The calls that were made of a file, with what came of each, and the disk that they tell of.
 use Rattle.std.specs.Prelude.{◌≡◌, ◌⊎◌, ℕ, zero, suc, ◌+◌, ◌≤◌, Bool, true, IsTrue, if◌then◌else◌, List, [], ◌∷◌, length}
-use Rattle.failure_count.specs.Counts.{next_count}
+use Rattle.diagnostics.specs.Counts.{next_count}
 use Rattle.disk_model.specs.Places.{AreBytes, part, overwritten}
 use Rattle.disk_model.specs.Notes.{Held, stable, written, MayLeave}
 use Rattle.disk_model.specs.declared.disk.Disk as disk

@@ -1,7 +1,7 @@
 -- What the calls of a disk do to the bytes that it shows, and to those that a crash may leave.
 use Rattle.std.specs.Prelude.{◌≡◌, ◌⊎◌, ℕ, ◌≤◌, List, Result, OnOk, OnErr}
 use Rattle.disk_model.specs.Places.{SameOutside}
-pub use Rattle.failure_count.specs.Counts.{HasRisen, IsNextCount, joined}
+pub use Rattle.diagnostics.specs.Counts.{HasRisen, IsNextCount, joined}
 
 -- each new outcome of a crash is an old outcome after a step
 abbrev pub Follows : (List ℕ → List ℕ → Type 0) → (List ℕ → Type 0) → (List ℕ → Type 0) → Type 0

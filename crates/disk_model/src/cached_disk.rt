@@ -5,7 +5,7 @@ ghost use Rattle.disk_model.specs.Disk.{IsNextCount, joined};
 ghost use Rattle.disk_model.specs.NoteLaws.{held_kept, shown_bytes, shown_stays, now_counts, now_alone};
 
 use crate::{Disk, DiskFault, MemDisk, Pick};
-use failure_count::after_failure;
+use diagnostics::after_failure;
 use std::alloc::AllocError;
 
 /// A disk with a cache, in memory, honest. Reads give what the cache has. One sync may be lost: its writes never reach the

@@ -4,7 +4,7 @@ ghost use Rattle.disk_model.specs.Places.{part, overwritten, SameOutside};
 ghost use Rattle.disk_model.specs.Disk.{Follows, Only, Elapses, HasCause, IsNextCount, joined};
 
 use crate::{Disk, DiskFault};
-use failure_count::after_failure;
+use diagnostics::after_failure;
 
 /// Which calls of a disk fail.
 pub trait Plan: Copy {

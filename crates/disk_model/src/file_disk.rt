@@ -7,7 +7,7 @@ ghost use Rattle.disk_model.specs.Gathers.{place_of, bytes_of};
 use crate::gathered::Gathered;
 use crate::raw_file::RawFile;
 use crate::{Disk, DiskFault, Gathering};
-use onlooker::{Onlooker, Trouble};
+use diagnostics::{Onlooker, Trouble};
 use std::alloc::{AllocError, Global};
 use std::fs::{File, Permissions, TryLockError};
 use std::io;

@@ -12,7 +12,7 @@ ghost use Rattle.disk_model.specs.Gathers.{place_of, bytes_of, with_gathered, fe
 
 use crate::gathered::Gathered;
 use crate::{Backing, Disk, DiskFault};
-use failure_count::after_failure;
+use diagnostics::after_failure;
 use std::alloc::{AllocError, Global};
 
 // What of a disk's bytes is known to be stable.

@@ -9,7 +9,7 @@ ghost use Rattle.disk_model.specs.NoteLaws.{AllFit-prop, held_kept, shown_bytes,
 use crate::crash::bytes_after_crash;
 use crate::note::Note;
 use crate::{Backing, Disk, DiskFault, Pick};
-use failure_count::after_failure;
+use diagnostics::after_failure;
 use std::alloc::{AllocError, Global};
 
 /// A disk in memory, honest. It makes room for its own notes before it changes a byte, so a write that finds no memory

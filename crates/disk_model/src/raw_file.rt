@@ -4,8 +4,7 @@ ghost use Rattle.std.proofs.lemmas.Bool.{false≢true};
 ghost use Rattle.disk_model.specs.Disk.{HasCause};
 
 use crate::{Backing, Disk, DiskFault};
-use failure_count::after_failure;
-use onlooker::{Call, Trouble};
+use diagnostics::{Call, Trouble, after_failure};
 use std::fs::File;
 use std::io;
 use std::os::unix::fs::FileExt;

@@ -1,6 +1,6 @@
 //! Why calls on the file of a disk failed, and how far a file is that is made.
+use diagnostics::{Call, Onlooker, Trouble};
 use disk_model::{Disk, DiskFault, FileDisk};
-use onlooker::{Call, Onlooker, Trouble};
 use std::fs::File;
 use std::process::Abort;
 use std::rt::Files;

@@ -6,7 +6,7 @@ use Rattle.std.proofs.lemmas.Grind.{flat_map-append}
 use Rattle.std.proofs.lemmas.List.{append-nil, take_more, take_all, take-append-drop}
 use Rattle.disk_model.specs.Disk.{HasRisen, Elapses}
 use Rattle.disk_model.specs.MomentLaws.{stays}
-use Rattle.failure_count.specs.CountLaws.{risen_since}
+use Rattle.diagnostics.specs.CountLaws.{risen_since}
 use Rattle.disk_model.specs.PartLaws.{part_is, part_split}
 use Rattle.disk_model.specs.Places.{part}
 use Rattle.disk_model.specs.declared.disk.Disk as disk

@@ -4,7 +4,7 @@ use Rattle.disk_model.specs.declared.disk.Disk as disk
 use Rattle.intake.specs.Parts.{Parts}
 use Rattle.script_streams.specs.Lines.{IsLine}
 use Rattle.script_streams.specs.Reading.{Gives, Stops}
-use Rattle.failure_count.specs.Counts.{HasRisen}
+use Rattle.diagnostics.specs.Counts.{HasRisen}
 use Rattle.script_streams.specs.Telling.{Sink, Tells}
 use Rattle.script_streams.specs.declared.reader.ScriptBuffer.{ScriptBuffer}
 use Rattle.script_streams.specs.declared.reader.ReadStop.{ReadStop}

@@ -7,7 +7,7 @@ use Rattle.std.specs.Io.KnownBytes.{Appends, Consumes}
 use Rattle.disk_model.specs.declared.disk.Disk as disk
 use Rattle.intake.specs.Marks.{FoundAfterAStop}
 use Rattle.intake.specs.Parts.{Parts}
-use Rattle.failure_count.specs.Counts.{HasRisen}
+use Rattle.diagnostics.specs.Counts.{HasRisen}
 use Rattle.script_streams.specs.Reading.{Gives, held_bytes, reads_made}
 use Rattle.script_streams.specs.Telling.{Sink, Told, IsDelivered}
 use Rattle.script_streams.specs.declared.reader.ScriptBuffer.{ScriptBuffer}

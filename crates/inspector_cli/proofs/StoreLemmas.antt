@@ -16,7 +16,7 @@ use Rattle.intake.specs.Durable.{Durable}
 use Rattle.intake.specs.Marks.{FoundAfterAStop}
 use Rattle.intake.specs.Parts.{Parts, state_of, stream_facts, contents_of, taken_in}
 use Rattle.intake.specs.Step.{BeginStep, with_stream, longer}
-use Rattle.failure_count.specs.Counts.{HasRisen}
+use Rattle.diagnostics.specs.Counts.{HasRisen}
 use Rattle.script_streams.specs.Telling.{Sink, Told, IsDelivered}
 use Rattle.script_streams.specs.declared.streams.StreamFault.{StreamFault}
 use Rattle.script_lines.specs.Said.{silence, end_of}

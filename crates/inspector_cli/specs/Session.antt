@@ -8,7 +8,7 @@ use Rattle.intake.specs.Calls.{ChangesNoCase, AbandonCall}
 use Rattle.intake.specs.Parts.{Parts, state_of}
 use Rattle.intake.specs.Slots.{stream_at}
 use Rattle.intake.specs.State.{ArchiveState}
-use Rattle.failure_count.specs.Counts.{HasRisen}
+use Rattle.diagnostics.specs.Counts.{HasRisen}
 use Rattle.script_streams.specs.declared.streams.Input as input
 use Rattle.script_streams.specs.declared.streams.Output as output
 use Rattle.script_streams.specs.Lines.{IsLine}

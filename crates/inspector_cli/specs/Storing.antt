@@ -14,7 +14,7 @@ use Rattle.intake.specs.Opened.{IsOpened}
 use Rattle.intake.specs.Retiring.{KeepsTheName}
 use Rattle.intake.specs.State.{ArchiveState, StreamFacts}
 use Rattle.intake.specs.Step.{is_named}
-use Rattle.failure_count.specs.Counts.{HasRisen}
+use Rattle.diagnostics.specs.Counts.{HasRisen}
 use Rattle.stream_names.specs.declared.naming.Naming.{Naming}
 use Rattle.inspector_cli.specs.declared.burst.Burst.{Burst}
 use Rattle.inspector_cli.specs.declared.session.SessionFault.{SessionFault}

@@ -7,8 +7,8 @@ ghost use Rattle.salvage.specs.Showing.{IsSmall, IsWithin, shown};
 ghost use Rattle.salvage.specs.ShowLaws.{shown_bytes, shown_length};
 
 use crate::source::Source;
+use diagnostics::after_failure;
 use disk_model::{Disk, DiskFault};
-use failure_count::after_failure;
 
 /// A byte that is shown as another.
 #[derive(Clone, Copy, Debug, PartialEq, Eq)]

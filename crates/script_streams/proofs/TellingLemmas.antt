@@ -4,8 +4,8 @@ use Rattle.std.proofs.lemmas.List.{append-nil}
 use Rattle.std.proofs.lemmas.Bool.{true≢false, false≢true}
 use Rattle.std.proofs.KnownBytes.{Appends-trans}
 use Rattle.std.specs.Io.KnownBytes.{Appends}
-use Rattle.failure_count.specs.Counts.{HasRisen}
-use Rattle.failure_count.specs.CountLaws.{risen_since}
+use Rattle.diagnostics.specs.Counts.{HasRisen}
+use Rattle.diagnostics.specs.CountLaws.{risen_since}
 use Rattle.script_streams.specs.Writing.{PassesOn}
 use Rattle.script_streams.specs.Telling.{Sink, Told, Tells}
 

@@ -1,7 +1,7 @@
 -- What a script's reader has given of what it held and read.
 use Rattle.std.specs.Prelude.{◌≡◌, ℕ, ◌+◌, ◌-◌, ◌*◌, ◌^◌, ◌<◌, ◌≤◌, List, [], ◌∷◌, ◌++◌, length, take, drop, Option, Result, Ok, Err}
 use Rattle.std.specs.Io.KnownBytes.{Consumes, IsAtEnd}
-use Rattle.failure_count.specs.Counts.{HasRisen}
+use Rattle.diagnostics.specs.Counts.{HasRisen}
 use Rattle.script_streams.specs.Lines.{IsLine, KeepsLine}
 use Rattle.script_streams.specs.declared.kept_line.KeptLine.{KeptLine}
 use Rattle.script_streams.specs.declared.reader.ScriptBuffer.{ScriptBuffer}

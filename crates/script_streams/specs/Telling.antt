@@ -1,7 +1,7 @@
 -- What an output has taken of the text that it was told.
 use Rattle.std.specs.Prelude.{◌≡◌, ℕ, ◌≤◌, Bool, true, false, List, ◌++◌, Option, Result, Ok, Err}
 use Rattle.std.specs.Io.KnownBytes.{Appends}
-use Rattle.failure_count.specs.Counts.{HasRisen}
+use Rattle.diagnostics.specs.Counts.{HasRisen}
 use Rattle.script_streams.specs.declared.reply.Reply.{Reply}
 use Rattle.script_streams.specs.declared.reply.Unwritten.{Unwritten}
 use Rattle.script_streams.specs.declared.streams.StreamFault.{StreamFault}

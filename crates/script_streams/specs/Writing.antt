@@ -1,7 +1,7 @@
 -- One text that goes to an output in as many writes as it takes.
 use Rattle.std.specs.Prelude.{◌≡◌, ℕ, Bool, true, false, List, ◌++◌, Option, Result, Ok, Err}
 use Rattle.std.specs.Io.KnownBytes.{Appends}
-use Rattle.failure_count.specs.Counts.{HasRisen}
+use Rattle.diagnostics.specs.Counts.{HasRisen}
 use Rattle.script_streams.specs.declared.streams.StreamFault.{StreamFault}
 
 -- a text was written whole, or a front of it until a write failed

@@ -1,9 +1,9 @@
 //! Where a script comes from, and where replies go.
 ghost use Rattle.std.specs.Prelude.{◌≡◌, ℕ, ◌<◌, ◌≤◌, List, Option, None, length, IfOk, OnOk, OnErr, is_some, nat_lt};
 ghost use Rattle.std.specs.Io.KnownBytes.{ReadConsumes, WriteAppends};
-ghost use Rattle.failure_count.specs.Counts.{HasRisen};
+ghost use Rattle.diagnostics.specs.Counts.{HasRisen};
 
-use failure_count::after_failure;
+use diagnostics::after_failure;
 use std::io::{ErrorKind, Read, Write};
 use thiserror::Error;
 

@@ -8,8 +8,8 @@ ghost use Rattle.shared_disk.specs.Steady.{are_steady, holds_part, is_in_one};
 ghost use Rattle.shared_disk.specs.SteadyLaws.{both_first};
 
 use crate::shared::SharedDisk;
+use diagnostics::after_failure;
 use disk_model::{Disk, DiskFault};
-use failure_count::after_failure;
 use intake::ByteRange;
 
 /// A disk between two looks. It gives the front as the last look saw it, and of its ranges what is read now, without the lock. Any

@@ -2,8 +2,8 @@
 ghost use Rattle.std.specs.Prelude.{◌≡◌};
 ghost use Rattle.shown_progress.specs.Counted.{disk_below};
 
+use diagnostics::Onlooker;
 use disk_model::{Disk, DiskFault};
-use onlooker::Onlooker;
 
 /// A disk as it is. An onlooker is told of each byte that is read of it.
 #[derive(Drop)]

@@ -1,7 +1,7 @@
 // A reader whose bytes are counted.
 ghost use Rattle.std.specs.Prelude.{◌≡◌};
 
-use onlooker::Onlooker;
+use diagnostics::Onlooker;
 use std::io;
 use std::io::Read;
 

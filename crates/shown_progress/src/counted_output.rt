@@ -1,7 +1,7 @@
 // An output whose bytes are counted.
 ghost use Rattle.std.specs.Prelude.{◌≡◌};
 
-use onlooker::Onlooker;
+use diagnostics::Onlooker;
 use script_streams::{Output, StreamFault};
 
 /// An output as it is. An onlooker is told of each byte that it takes.

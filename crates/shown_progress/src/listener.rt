@@ -1,5 +1,5 @@
 // What a command tells, and to whom.
-use onlooker::{Onlooker, Trouble};
+use diagnostics::{Onlooker, Trouble};
 
 /// Keeps the last trouble that it is told of, and passes on how far the work is, unless it is hushed.
 #[derive(Drop)]

@@ -1,6 +1,6 @@
 // A line on a terminal that says how far the work is.
 use crate::work_text::{Work, tell_work};
-use onlooker::{Onlooker, Trouble};
+use diagnostics::{Onlooker, Trouble};
 use script_streams::{Output, Reply, write_whole};
 use std::time::Clock;
 

@@ -1,6 +1,6 @@
 //! How far a command is: what is shown on a terminal, and when; and that each byte that passes is told once.
+use diagnostics::{Call, Onlooker, Trouble};
 use disk_model::{Disk, DiskFault, MemDisk};
-use onlooker::{Call, Onlooker, Trouble};
 use script_streams::{Output, Reply, WriteOutput};
 use shown_progress::{CountedDisk, CountedInput, CountedOutput, Listener, Meter, Work, tell_work};
 use std::alloc::Global;

@@ -1,6 +1,6 @@
 use Rattle.std.proofs.Common.{[], refl, sym, ◌∙◌, arith, rules}
 use Rattle.std.proofs.lemmas.List.{append-nil}
-use Rattle.failure_count.specs.CountLaws.{next_risen}
+use Rattle.diagnostics.specs.CountLaws.{next_risen}
 use Rattle.script_streams.specs.TellLaws.{tells_nothing}
 use Rattle.inspector_cli.proofs.CopyLemmas.{quiet_read}
 use Rattle.inspector_cli.proofs.copying.copy_piece.Goals as goal

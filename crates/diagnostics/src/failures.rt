@@ -1,7 +1,5 @@
-//! A count of failures: what a disk's calls and a stream's calls say of it.
-#![tactic(auto)]
-
-ghost use Rattle.failure_count.specs.Counts.{HasRisen, IsNextCount};
+// A count of failures: what a disk's calls and a stream's calls say of it.
+ghost use Rattle.diagnostics.specs.Counts.{HasRisen, IsNextCount};
 
 /// The count after one more failure. At the greatest number of 64 bits it stays.
 pub fn after_failure(count: u64) -> u64

@@ -1,7 +1,7 @@
 -- Counts over several calls, and two counts as one.
 use Rattle.std.proofs.Common.{ℕ, ◌-◌, ◌^◌, ◌<◌, ◌≤◌, ⊎_elim, arith}
 use Rattle.std.proofs.lemmas.Bool.{cases_lt}
-use Rattle.failure_count.specs.Counts.{HasRisen, IsNextCount, joined}
+use Rattle.diagnostics.specs.Counts.{HasRisen, IsNextCount, joined}
 
 rises : (a b c most : ℕ) → a ≤ b → b ≤ c → (b < most → b < c) → a < most → a < c
 rises a b c most later grows rose small = ⊎_elim (λ below. omega (arith, rose below)) (λ above. omega arith) (cases_lt b most)

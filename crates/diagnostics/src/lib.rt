@@ -1,8 +1,10 @@
-//! What looks on while a command runs: it is told how far the work is, and why the system failed a call on a file.
+//! What is told of a command while it runs: how far its work is, why the system failed a call on a file, and how often calls failed.
 #![tactic(auto)]
 
+mod failures;
 mod trouble;
 
+pub use failures::after_failure;
 pub use trouble::{Call, Trouble};
 
 /// Whoever looks on while a command runs. No clause says what it makes of what it is told.
