@@ -31,7 +31,7 @@ use Rattle.journal_snapshot.specs.ChangeLaws.{changed_cases, snapshot_bytes_are}
 use Rattle.journal_snapshot.specs.Changing.{staying, added}
 use Rattle.journal_snapshot.specs.Filling.{Fills}
 use Rattle.journal_snapshot.specs.Halves.{IsWrittenAs}
-use Rattle.journal_snapshot.specs.Holding.{Holds, SameHeaders}
+use Rattle.journal_snapshot.specs.Holding.{Holds}
 use Rattle.journal_snapshot.specs.Measuring.{AreShort, IsMeasure}
 use Rattle.journal_snapshot.specs.declared.change.Change.TheVariants.{Nothing}
 use Rattle.journal_snapshot.specs.declared.measure.Measure.{Measure}
@@ -114,7 +114,7 @@ holds_images h formatted copied settled from s own shape at cases apart same_cas
 pub holds_fresh : {N : Type 0} (h : disk.Ghosts N) (onto : N) (from : List ℕ) (s : Standing) (shape : Shape) → HoldsImages h onto from s shape → Holds h onto (fresh shape A 1 1)
 holds_fresh h onto from s shape images = record {
   stands = λ c may. subst (λ (b : List ℕ). Stands b (fresh shape A 1 1)) (sym (images.settled c may)) images.stands;
-  headers = λ c may. subst (SameHeaders shape (h.seen onto)) (sym (images.settled c may)) (record { first = refl; second = refl });
+  front = λ c may. ap (λ (l : List ℕ). part l 0 (data_start shape)) (images.settled c may);
 }
 
 labels_in : (keeps : Bool) (version : ℕ) (cs : List Case) → AreLabelled version cs → AreLabelled (copy_version keeps version) (placed 0 cs)

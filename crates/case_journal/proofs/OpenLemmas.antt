@@ -5,10 +5,9 @@ use Rattle.disk_model.specs.Places.{part}
 use Rattle.disk_model.specs.Disk.{Only}
 use Rattle.disk_model.specs.PartLaws.{part_before}
 use Rattle.disk_model.specs.declared.disk.Disk as disk
-use Rattle.journal_layout.specs.declared.shape.Half.TheVariants.{A, B}
 use Rattle.journal_layout.specs.declared.faults.OpenFault.{OpenFault}
 use Rattle.journal_layout.specs.declared.faults.OpenFault.TheVariants.{Disk, OutOfMemory, NotAnArchive, UnknownVersion, Damaged}
-use Rattle.journal_layout.specs.Layout.{disk_length, half_start, half_length}
+use Rattle.journal_layout.specs.Layout.{disk_length, half_length, data_start}
 use Rattle.journal_layout.specs.Case.{Case}
 use Rattle.journal_layout.specs.Folding.{Folded, nothing_yet}
 use Rattle.journal_layout.specs.Front.{front_opening}
@@ -140,10 +139,7 @@ module _ {D : Type 0} (g : disk.Ghosts D) where
             let seen : g.seen new ≡ g.seen old = second.seen still ∙ first.seen honest_old in
             record {
               stands = λ c now. subst (λ (b : List ℕ). Stands b o.journal.standing) (shows.view.is honest_old ∙ sym (left c now)) shows.gives;
-              headers = λ c now. let e : c ≡ g.seen new = left c now ∙ sym seen in record {
-                first = ap (λ (b : List ℕ). part b (half_start o.journal.standing.shape A) 32) e;
-                second = ap (λ (b : List ℕ). part b (half_start o.journal.standing.shape B) 32) e;
-              };
+              front = λ c now. ap (λ (b : List ℕ). part b 0 (data_start o.journal.standing.shape)) (left c now ∙ sym seen);
             };
       }
   keeps_by old mid new (Err fault) first second settled shows size = size

@@ -2,9 +2,10 @@
 use Rattle.std.proofs.Common.{◌≡◌, ◌⊎◌, inl, inr, ⊎_elim, cond, ◌+◌, ◌*◌, ◌<◌, ◌≤◌, ◌^◌, ◌∙◌, ℕ, Bool, true, false, List, IsTrue, Result, Ok, Err, OnOk, IfOk, length, refl, sym, ap, subst, arith}
 use Rattle.std.proofs.lemmas.Bool.{ltb-true, ltb-false, false≢true}
 use Rattle.disk_model.specs.Moments.{LeavesOnly, IsSettled}
+use Rattle.disk_model.specs.Places.{part}
 use Rattle.disk_model.specs.MomentLaws.{started}
 use Rattle.disk_model.specs.declared.disk.Disk as disk
-use Rattle.journal_layout.specs.Layout.{half_start, half_length, disk_length}
+use Rattle.journal_layout.specs.Layout.{half_start, half_length, disk_length, data_start}
 use Rattle.journal_layout.specs.Record.{Record, Drop, record_size}
 use Rattle.journal_layout.specs.FitLaws.{drops_fit}
 use Rattle.journal_layout.specs.Folding.{after}
@@ -14,7 +15,7 @@ use Rattle.journal_layout.specs.Rewriting.{snapshot_size, rewritten, fits, appen
 use Rattle.journal_layout.specs.AppendLaws.{appended_behind, appended_by_snapshot, fits_true}
 use Rattle.journal_snapshot.specs.Filling.{Fills}
 use Rattle.journal_snapshot.specs.FillLaws.{fills_nothing, fills_wider}
-use Rattle.journal_snapshot.specs.Holding.{Holds, SameHeaders}
+use Rattle.journal_snapshot.specs.Holding.{Holds}
 use Rattle.case_journal.specs.declared.compacting.JournalEnd.{JournalEnd}
 use Rattle.case_journal.specs.declared.faults.JournalFault.{JournalFault}
 use Rattle.case_journal.specs.declared.faults.JournalFault.TheVariants.{Stopped, JournalFull, NumbersSpent, OutOfMemory, Disk, OldVersion}
@@ -162,7 +163,7 @@ module _ (s : Standing) (r : Record) {D : Type 0} (g : disk.Ghosts D) (old new :
     size = size;
     holds = λ on honest. subst (Holds g new) (appended_behind s r e) (record {
       stands = stands honest;
-      headers = λ c may. subst (SameHeaders s.shape (g.seen new)) (sym (settled honest c may)) (record { first = refl; second = refl });
+      front = λ c may. ap (λ (l : List ℕ). part l 0 (data_start s.shape)) (settled honest c may);
     });
   }
 

@@ -13,7 +13,7 @@ use Rattle.journal_layout.specs.Standing.{Standing, folded_of, lengthened}
 use Rattle.journal_layout.specs.Stands.{AreRead, Stands, records_start, records_area, front_of}
 use Rattle.journal_layout.specs.RowLaws.{row_same}
 use Rattle.case_journal.specs.Append.{MayFollow}
-use Rattle.journal_snapshot.specs.Holding.{SameHeaders}
+use Rattle.journal_snapshot.specs.Holding.{SameFront, SameHeaders}
 use Rattle.journal_layout.specs.FrontLaws.{front_same}
 use Rattle.journal_layout.specs.StandLaws.{stands_limits, stands_size, stands_in_half, HasSameFront, stands_grown}
 
@@ -120,8 +120,8 @@ stands_after s r n d c stands same within fits sound spelled closed =
     } in
     stands_grown d c s r front (part_before (gate_of s) n d c same (half_start s.shape s.half) s.used (omega arith)) (omega arith) sound spelled closed stands
 
--- a change of the data blocks leaves what a disk encodes, and both headers
-pub data_apart : (s : Standing) (at n : ℕ) (d c : List ℕ) → Stands d s → SameOutside at n d c → data_start s.shape ≤ at → Stands c s × SameHeaders s.shape d c
+-- a change of the data blocks leaves what a disk encodes, and the superblock and both halves
+pub data_apart : (s : Standing) (at n : ℕ) (d c : List ℕ) → Stands d s → SameOutside at n d c → data_start s.shape ≤ at → Stands c s × SameFront s.shape d c
 data_apart s at n d c stands same low =
     let l = limits_in d s stands in
     let some = l.0.some_half in
@@ -139,5 +139,5 @@ data_apart s at n d c stands same low =
         header = stands.header;
         records = subst (λ (x : List ℕ). AreRead s.shape.data_blocks x (nothing_yet s.version) (folded_of s) (s.used - 32)) (sym area) stands.records;
       },
-      headers,
+      part_before at n d c same 0 (data_start s.shape) (omega arith),
     )

@@ -9,7 +9,7 @@ use Rattle.journal_layout.specs.Record.{Record}
 use Rattle.journal_layout.specs.Standing.{Standing}
 use Rattle.journal_layout.specs.Rewriting.{appended}
 use Rattle.journal_layout.specs.Stands.{Stands}
-use Rattle.journal_snapshot.specs.Holding.{SameHeaders, Holds}
+use Rattle.journal_snapshot.specs.Holding.{SameFront, Holds}
 use Rattle.case_journal.specs.Journaled.{Journaled}
 
 -- The disk is that of the journal. Of a journal that a disk fault has stopped only the disk's size is known.
@@ -25,8 +25,8 @@ LeavesEither g old new s r = LeavesOnly g old new (λ c. Stands c s ⊎ Stands c
 abbrev pub LeavesOutside : {D : Type 0} → disk.Ghosts D → D → D → Standing → Type 0
 LeavesOutside g old new s = LeavesOnly g old new (ChangedIn 4096 (2 * half_length s.shape) (g.may_leave old))
 
--- a change after the halves leaves what the bytes encode, and both headers
+-- a change after the halves leaves what the bytes encode, and the superblock and both halves
 abbrev pub DataIsApart : Type 0
 DataIsApart =
     (s : Standing) (at n : ℕ) (b c : List ℕ) → Stands b s → SameOutside at n b c → data_start s.shape ≤ at
-    → Stands c s × SameHeaders s.shape b c
+    → Stands c s × SameFront s.shape b c

@@ -18,7 +18,7 @@ use Rattle.journal_layout.specs.Soundness.{case_numbered}
 use Rattle.journal_layout.specs.Stands.{Stands}
 use Rattle.case_journal.specs.Journaled.{Journaled}
 use Rattle.case_journal.specs.Keeping.{Keeps}
-use Rattle.journal_snapshot.specs.Holding.{SameHeaders}
+use Rattle.journal_snapshot.specs.Holding.{SameFront}
 use Rattle.case_journal.specs.Viewing.{OnlyReads}
 use Rattle.intake.specs.Blocks.{image_in}
 use Rattle.intake.specs.Contents.{Taken, UnmovedBytes, without_streams, image_at}
@@ -89,7 +89,7 @@ module _ {D : Type 0} (g : disk.Ghosts D) where
     size = quiet.size ∙ keeps.size;
     holds = λ runs honest. record {
       stands = left_quiet (λ b c. Stands c j.standing) old new quiet (λ was. (keeps.holds runs was).stands) honest;
-      headers = left_quiet (SameHeaders j.standing.shape) old new quiet (λ was. (keeps.holds runs was).headers) honest;
+      front = left_quiet (SameFront j.standing.shape) old new quiet (λ was. (keeps.holds runs was).front) honest;
     };
   }
 

@@ -18,14 +18,11 @@ keeps_apart g d d' j at n apart keeps stays size honesty crash others low = reco
       let holds = keeps.holds runs honest in
       record {
         stands = λ c may. (let f = crash honest c may in (apart j.standing at n f.0 c (holds.stands f.0 f.1) f.2 low).0);
-        headers = λ c may. (
+        front = λ c may. (
             let f = crash honest c may in
-            let first = holds.headers f.0 f.1 in
+            let first = holds.front f.0 f.1 in
             let after = (apart j.standing at n f.0 c (holds.stands f.0 f.1) f.2 low).1 in
             let shown = (apart j.standing at n (g.seen d) (g.seen d') (holds.stands (g.seen d) (stays honest)) (others honest) low).1 in
-            record {
-              first = after.first ∙ first.first ∙ sym shown.first;
-              second = after.second ∙ first.second ∙ sym shown.second;
-            });
+            after ∙ first ∙ sym shown);
       });
 }

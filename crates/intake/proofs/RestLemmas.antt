@@ -7,7 +7,7 @@ use Rattle.disk_model.specs.Places.{SameOutside}
 use Rattle.disk_model.specs.declared.disk.Disk as disk
 use Rattle.case_journal.specs.Journaled.{Journaled}
 use Rattle.case_journal.specs.Keeping.{DataIsApart}
-use Rattle.journal_snapshot.specs.Holding.{SameHeaders}
+use Rattle.journal_snapshot.specs.Holding.{SameFront}
 use Rattle.intake.specs.Blocks.{block_start}
 use Rattle.intake.specs.Durable.{StandsFor, durable_in}
 use Rattle.intake.specs.Guarding.{Guards, LeavesCases}
@@ -62,7 +62,7 @@ module _ {D : Type 0} (g : disk.Ghosts D) where
               let holds = guards.keeps.holds runs honest in
               record {
                 stands = λ c may. holds.stands c (crash honest c may);
-                headers = λ c may. subst (λ (b : List ℕ). SameHeaders j.standing.shape b c) (sym (seen honest)) (holds.headers c (crash honest c may));
+                front = λ c may. subst (λ (b : List ℕ). SameFront j.standing.shape b c) (sym (seen honest)) (holds.front c (crash honest c may));
               });
         };
         whole = λ runs real c may. (

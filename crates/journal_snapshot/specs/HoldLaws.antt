@@ -9,8 +9,9 @@ use Rattle.disk_model.specs.Moments.{LeavesOnly, IsSettled}
 use Rattle.disk_model.specs.MomentLaws.{weakened}
 use Rattle.disk_model.specs.declared.disk.Disk as disk
 use Rattle.journal_layout.specs.declared.shape.Half.{Half}
+use Rattle.journal_layout.specs.declared.shape.Shape.{Shape}
 use Rattle.journal_layout.specs.declared.shape.Half.TheVariants.{A, B}
-use Rattle.journal_layout.specs.Layout.{half_start, half_length}
+use Rattle.journal_layout.specs.Layout.{half_start, half_length, data_start, IsWithinLimits}
 use Rattle.journal_layout.specs.Folding.{Folded}
 use Rattle.journal_layout.specs.Standing.{Standing}
 use Rattle.journal_layout.specs.Stands.{Stands}
@@ -18,7 +19,7 @@ use Rattle.journal_layout.specs.StandLaws.{stands_limits}
 use Rattle.journal_layout.specs.Rewriting.{other_half, other_start, rewritten, MayRewrite, HoldsSnapshot}
 use Rattle.journal_layout.specs.OtherHalfLaws.{the_other_half_is_apart, an_opened_half_stands}
 use Rattle.journal_snapshot.specs.Filling.{Fills}
-use Rattle.journal_snapshot.specs.Holding.{SameHeaders, Holds, StandsInOtherHalf, IsReady}
+use Rattle.journal_snapshot.specs.Holding.{SameFront, Holds, StandsInOtherHalf, IsReady}
 
 -- a half has its gate
 some_half : (b : List ℕ) (s : Standing) → Stands b s → 1 ≤ half_length s.shape
@@ -26,21 +27,22 @@ some_half b s stands =
     let some = (stands_limits b s stands).some_half in
     omega arith
 
--- the other half's header is one of both
-other_header : (s : Standing) (b c : List ℕ) → SameHeaders s.shape b c → part c (other_start s) 32 ≡ part b (other_start s) 32
-other_header s b c same = of s.half
-  where
-    of : (half : Half) → part c (half_start s.shape (other_half half)) 32 ≡ part b (half_start s.shape (other_half half)) 32
-    of A = same.second
-    of B = same.first
+-- a half begins before the data blocks
+start_low : (shape : Shape) (half : Half) → IsWithinLimits shape → half_start shape half + 1 ≤ data_start shape
+start_low shape A limits = let some = limits.some_half in omega (arith, some)
+start_low shape B limits = let some = limits.some_half in omega (arith, some)
 
--- so its gate reads the same
-pub same_gate : (s : Standing) (b c : List ℕ) → SameHeaders s.shape b c → slice_index c (other_start s) ≡ slice_index b (other_start s)
-same_gate s b c same =
-    let e : other_start s + 0 ≡ other_start s = omega arith in
-    ap (slice_index c) (sym e) ∙ sym (part_place c (other_start s) 32 0 0 (omega arith))
-    ∙ ap (λ (l : List ℕ). get_or l 0 0) (other_header s b c same)
-    ∙ part_place b (other_start s) 32 0 0 (omega arith) ∙ ap (slice_index b) e
+-- a place before the data blocks reads the same
+pub front_place : (shape : Shape) (b c : List ℕ) (p : ℕ) → p + 1 ≤ data_start shape → SameFront shape b c → slice_index c p ≡ slice_index b p
+front_place shape b c p low same =
+    let e : 0 + p ≡ p = omega arith in
+    ap (slice_index c) (sym e) ∙ sym (part_place c 0 (data_start shape) p 0 (omega (arith, low)))
+    ∙ ap (λ (l : List ℕ). get_or l p 0) same
+    ∙ part_place b 0 (data_start shape) p 0 (omega (arith, low)) ∙ ap (slice_index b) e
+
+-- so does the gate of the other half
+pub same_gate : (s : Standing) (b c : List ℕ) → IsWithinLimits s.shape → SameFront s.shape b c → slice_index c (other_start s) ≡ slice_index b (other_start s)
+same_gate s b c limits same = front_place s.shape b c (other_start s) (start_low s.shape (other_half s.half) limits) same
 
 -- a change after the gate of the other half, which is not open, leaves what is encoded
 module _ (s : Standing) (at n : ℕ) (low : other_start s + 1 ≤ at) (high : at + n ≤ other_start s + half_length s.shape) where
@@ -126,7 +128,7 @@ taken_stands g s f old new start place ready settled is within =
     let same : g.seen new ≡ now = is ∙ ap (λ (p : ℕ). overwritten (g.seen old) p (165 ∷ [])) place in
     record {
       stands = λ c may. subst (λ (x : List ℕ). Stands x (rewritten s f)) (sym (settled c may ∙ same)) stands;
-      headers = λ c may. subst (SameHeaders s.shape (g.seen new)) (sym (settled c may)) (record { first = refl; second = refl });
+      front = λ c may. ap (λ (l : List ℕ). part l 0 (data_start s.shape)) (settled c may);
     }
 
 -- the other half's gate reads closed: nothing that a crash leaves has it open
@@ -134,7 +136,8 @@ pub reads_closed : {D : Type 0} (g : disk.Ghosts D) (s : Standing) (old new : D)
     → slice_index (g.seen old) (other_start s) ≢ 165 → StandsInOtherHalf g new s
 reads_closed g s old new holds crash closed = record {
   stands = λ c may. holds.stands c (crash c may);
-  closed = λ c may. λ opened. closed (sym (same_gate s (g.seen old) c (holds.headers c (crash c may))) ∙ opened);
+  closed = λ c may. λ opened.
+      closed (sym (same_gate s (g.seen old) c (stands_limits c s (holds.stands c (crash c may))) (holds.front c (crash c may))) ∙ opened);
 }
 
 zero_is_closed : ◌≡◌ {A = ℕ} 0 165 → ⊥
@@ -167,7 +170,7 @@ closing_moments g s old new start place honest holds sized within opened fills =
     weakened g old new (ChangedIn start 1 (g.may_leave old)) (λ c. Stands c s)
     (λ c changed.
     closing_stands s changed.0 c (omega (arith, sized changed.0 changed.1)) (holds.stands changed.0 changed.1)
-    (same_gate s (g.seen old) changed.0 (holds.headers changed.0 changed.1) ∙ ap (slice_index (g.seen old)) (sym place) ∙ opened)
+    (same_gate s (g.seen old) changed.0 (stands_limits changed.0 s (holds.stands changed.0 changed.1)) (holds.front changed.0 changed.1) ∙ ap (slice_index (g.seen old)) (sym place) ∙ opened)
     (subst (λ (p : ℕ). SameOutside p 1 changed.0 c) place changed.2))
     (fills.moments honest)
 
@@ -175,5 +178,5 @@ closing_moments g s old new start place honest holds sized within opened fills =
 pub holds_on : {D : Type 0} (g : disk.Ghosts D) (s : Standing) (old new : D) → g.seen new ≡ g.seen old → ((c : List ℕ) → g.may_leave new c → g.may_leave old c) → Holds g old s → Holds g new s
 holds_on g s old new seen crash holds = record {
   stands = λ c may. holds.stands c (crash c may);
-  headers = λ c may. subst (λ (b : List ℕ). SameHeaders s.shape b c) (sym seen) (holds.headers c (crash c may));
+  front = λ c may. subst (λ (b : List ℕ). SameFront s.shape b c) (sym seen) (holds.front c (crash c may));
 }
