@@ -1,15 +1,20 @@
 // Archives, made, and taken from their files.
-ghost use Rattle.std.specs.Prelude.{◌+◌, ◌*◌, ◌≤◌, IfOk, OnErr};
+ghost use Rattle.std.specs.Prelude.{◌+◌, ◌*◌, ◌≤◌, Ok, IfOk, IsTrue, OnErr, OnOk};
+ghost use Rattle.case_journal.specs.Settling.{SettlesGates};
 ghost use Rattle.case_journal.specs.Viewing.{OnlyReads};
+ghost use Rattle.journal_layout.specs.Standing.{Standing};
+ghost use Rattle.journal_layout.specs.Stands.{Stands};
 ghost use Rattle.diagnostics.specs.Counts.{HasRisen};
 
 use crate::archive_path::ArchivePath;
 use crate::failures::{FileWord, Refusal};
 use crate::making::format_over;
 use crate::part_file::{clear, give_name, is_named, is_same, part_of};
+use case_journal::settle;
 use diagnostics::Onlooker;
 use disk_model::{Disk, FileDisk, FileFault};
-use journal_layout::Shape;
+use journal_layout::{OpenFault, Shape};
+use std::alloc::Global;
 use std::fs;
 use std::fs::{File, Metadata, TryLockError};
 use std::rt::Files;
@@ -110,17 +115,42 @@ fn disk_of<R: AllocGlobal + Files<File = File>>(
     let file = take_file(rt, place, access)?;
     match access {
         Access::Looking => FileDisk::from_shared(file),
-        Access::Changing => settled(FileDisk::from_locked(rt.alloc(), file)?),
+        Access::Changing => settled(rt.alloc(), FileDisk::from_locked(rt.alloc(), file)?),
     }
 }
 
-// Has the archive's superblock and journal written again. An earlier process may have failed to write some of it, and reads
-// don't tell. What is built on them then is as durable as they are.
-fn settled(disk: FileDisk) -> Result<FileDisk, FileFault> {
+// Has the gates written again that an earlier process may have failed to write: reads don't tell. If the system tells of a lost
+// write, another program may have written any byte, as one that restored the file: then the superblock and all of the journal
+// are written again. What is built on them is as durable as they are.
+fn settled(alloc: Global, disk: FileDisk) -> Result<FileDisk, FileFault> {
     let mut disk = disk;
-    let front = front_of(&mut disk)?;
-    disk.write_again(front)?;
+    if disk.has_lost_writes() {
+        let front = front_of(&mut disk)?;
+        disk.write_again(front)?;
+    } else {
+        settle_gates(alloc, &mut disk)?;
+    }
     Ok(disk)
+}
+
+// The gates alone. An archive that can't be opened is only read: it is left to the opening that comes next, which says why.
+fn settle_gates<D: Disk>(alloc: Global, disk: &mut D) -> Result<(), FileFault>
+    ensures settles { (s : Standing) → IsTrue (D.is_honest disk.old) → Stands (D.seen disk.old) s
+        → OnOk result (SettlesGates D.Disk disk.old disk.new s (Ok tt)) }
+    ensures quiet { IsTrue (D.is_honest disk.old) → ((s : Standing) → Stands (D.seen disk.old) s → ⊥)
+        → OnlyReads D.Disk disk.old disk.new }
+{
+    let fault = match settle(alloc, disk) {
+        Ok(()) => return Ok(()),
+        Err(fault) => fault,
+    };
+    match fault {
+        OpenFault::Disk => Err(FileFault::Settle),
+        OpenFault::OutOfMemory => Err(FileFault::OutOfMemory),
+        OpenFault::NotAnArchive => Ok(()),
+        OpenFault::UnknownVersion(_) => Ok(()),
+        OpenFault::Damaged { .. } => Ok(()),
+    }
 }
 
 // How many bytes the superblock and the journal take. 0 where there is no archive.

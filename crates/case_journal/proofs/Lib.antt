@@ -9,5 +9,6 @@ pub mod PublishLemmas
 pub mod PutLemmas
 pub mod RoomLemmas
 pub mod SeqLemmas
+pub mod SettleLemmas
 pub mod StandLemmas
 pub mod ViewLemmas

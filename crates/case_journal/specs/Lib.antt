@@ -11,4 +11,5 @@ pub mod Publishing
 pub mod Putting
 pub mod Refusing
 pub mod Rooming
+pub mod Settling
 pub mod Viewing

@@ -13,6 +13,7 @@ mod live_entries;
 mod open;
 mod publish;
 mod room;
+mod settling;
 
 pub use faults::{FormatFault, JournalFault};
 pub use formatting::format;
@@ -20,3 +21,4 @@ pub use journal::Journal;
 pub use journal_layout::{BadShape, Entry, Kind, Name, OpenFault, Shape};
 pub use laws::data_blocks_keep;
 pub use open::Opened;
+pub use settling::settle;

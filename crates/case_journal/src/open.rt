@@ -1,5 +1,6 @@
 // Opening a journal: the front of the archive, and then the records of the half that is taken.
-ghost use Rattle.std.specs.Prelude.{◌≡◌, ℕ, List, ◌+◌, ◌-◌, ◌≤◌, false, length, IsTrue, IfOk, OnOk, IsOkUnless, Ok, Err};
+ghost use Rattle.std.specs.Prelude.{◌≡◌, ℕ, List, ◌+◌, ◌-◌, ◌<◌, ◌≤◌, ◌^◌, false, length, IsTrue, IfOk, IfSome, OnOk, IsOkUnless, Ok, Err, option_map};
+ghost use Rattle.std.specs.List.{All};
 ghost use Rattle.disk_model.specs.Disk.{HasCause, HasRisen, Only};
 ghost use Rattle.disk_model.specs.Moments.{LeavesOnly, IsSettled};
 ghost use Rattle.disk_model.specs.Keeping.{KeepsDisk};
@@ -9,6 +10,7 @@ ghost use Rattle.journal_layout.specs.Standing.{Standing};
 ghost use Rattle.journal_layout.specs.Live.{AreLive, AreLabelled};
 ghost use Rattle.case_journal.specs.Keeping.{Keeps};
 ghost use Rattle.case_journal.specs.Opening.{journal_of};
+ghost use Rattle.case_journal.specs.Settling.{ShowsLast, gates_of};
 ghost use Rattle.case_journal.specs.Viewing.{IsView, Shows, ShowsOpening, OnlyReads, IsOpenRefusal, FindsStanding};
 ghost use Rattle.journal_records.specs.Kept.{AreNames, IsSpareMap};
 
@@ -72,10 +74,23 @@ fn read_records<D: Disk>(
 pub struct Opened {
     /// The open journal.
     pub journal: Journal,
+    /// The place of the gate of its last record, if it has one.
+    pub last_gate: Option<u64>,
     /// The names of its cases.
     pub names: BTreeSet<Name>,
     /// The data blocks that no case of it has.
     pub free: FreeMap,
+}
+
+// The place that is so many bytes after another one, if there is one.
+fn place_after(at: u64, size: Option<u64>) -> Option<u64>
+    requires { IfSome size (λ n. at + n < 2 ^ 64) }
+    ensures { result ≡ option_map (λ n. at + n) size }
+{
+    match size {
+        Some(size) => Some(at + size),
+        None => None,
+    }
 }
 
 // Reads the journal of a disk, whose front was read.
@@ -84,6 +99,9 @@ fn read_journal<D: Disk>(alloc: Global, disk: &mut D) -> Result<Opened, OpenFaul
         → ShowsOpening D.Disk disk.new (journal_of result) }
     ensures size { IfOk result (λ o. D.size disk.new ≡ disk_length o.journal.standing.shape) }
     ensures runs { IfOk result (λ o. o.journal.stopped ≡ false) }
+    ensures last { (b : List ℕ) → IsView D.Disk disk.old b
+        → IfOk result (λ o. ShowsLast D.Disk disk.new o.journal.standing o.last_gate) }
+    ensures gates { IfOk result (λ o. All (λ p. p + 1 ≤ D.size disk.new) (gates_of o.journal.standing o.last_gate)) }
     ensures names { IfOk result (λ o. AreNames o.journal.standing.cases o.names) }
     ensures free { IfOk result (λ o. IsSpareMap o.journal.standing.shape.data_blocks o.journal.standing.cases o.free) }
     ensures quiet { OnlyReads D.Disk disk.old disk.new }
@@ -106,6 +124,7 @@ fn read_journal<D: Disk>(alloc: Global, disk: &mut D) -> Result<Opened, OpenFaul
             used: HEADER + read.size,
             stopped: false,
         },
+        last_gate: place_after(at, read.last),
         names: read.names,
         free: read.free,
     })
@@ -128,6 +147,9 @@ impl Journal {
         // Version 2 of the layout keeps labels, and no other.
         ensures labels { IfOk result (λ o. AreLabelled o.journal.standing.version o.journal.standing.cases) }
         ensures runs { IfOk result (λ o. o.journal.stopped ≡ false) }
+        // Where the gate of the last record is.
+        ensures last { IfOk result (λ o. ShowsLast D.Disk disk.old o.journal.standing o.last_gate) }
+        ensures gates { IfOk result (λ o. All (λ p. p + 1 ≤ D.size disk.new) (gates_of o.journal.standing o.last_gate)) }
         // The set has the names of the cases, and the map the data blocks that none of them has.
         ensures names { IfOk result (λ o. AreNames o.journal.standing.cases o.names) }
         ensures free { IfOk result (λ o. IsSpareMap o.journal.standing.shape.data_blocks o.journal.standing.cases o.free) }

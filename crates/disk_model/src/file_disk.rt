@@ -97,14 +97,17 @@ impl From<io::Error> for FileFault {
 ///
 /// When Linux fails to write a page to the device, it keeps the page's new bytes in memory, takes them for written, and tells of
 /// it in one sync. An earlier process may have met that, or have been killed before it. So opening a file makes durable what
-/// still waits, and whoever is to build on bytes of an earlier process has them written again first (`write_again`). For the
-/// same reason no sync succeeds after one that failed: the file has to be opened again.
+/// still waits, and whoever is to build on bytes of an earlier process has those written again first that it may have failed to
+/// write. If the opening's own sync tells of a lost write (`has_lost_writes`), these may be any bytes (`write_again`). For the same
+/// reason no sync succeeds after one that failed: the file has to be opened again.
 ///
 /// Nothing is promised of its bytes, or of what a crash leaves of them: it is not honest by proof, so what else is
 /// proved over a disk holds of it where the file system keeps to the disk model.
 #[derive(Drop)]
 pub struct FileDisk {
     disk: Gathering<RawFile>,
+    // Whether a sync at its opening failed.
+    has_lost_writes: bool,
 }
 
 impl FileDisk {
@@ -186,6 +189,12 @@ impl FileDisk {
         self.file().sync_all().map_err(|_| FileFault::Settle)
     }
 
+    /// Whether the operating system told at the opening that an earlier write was lost. Any byte that was written before may be
+    /// missing on the device then, also one of another program.
+    pub fn has_lost_writes(&self) -> bool {
+        self.has_lost_writes
+    }
+
     /// The last call on the file that failed, of those that its methods as a disk made.
     pub fn trouble(&self) -> Option<Trouble> {
         self.disk.below().trouble()
@@ -209,10 +218,11 @@ impl FileDisk {
         if !metadata.is_file() {
             return Err(FileFault::Special);
         }
-        settle(&file)?;
+        let has_lost_writes = settle(&file)?;
         let raw = RawFile::new(file, metadata.len());
         Ok(FileDisk {
             disk: Gathering::synced(raw, gathered),
+            has_lost_writes,
         })
     }
 }
@@ -240,6 +250,7 @@ fn made<R: AllocGlobal + Files<File = File>>(
     file.set_len(length).map_err(|_| FileFault::Length)?;
     Ok(FileDisk {
         disk: Gathering::written(RawFile::new(file, length), Some(gathered)),
+        has_lost_writes: false,
     })
 }
 
@@ -277,12 +288,13 @@ fn make_durable<R: Files<File = File>>(rt: &R, path: &str, file: &File) -> Resul
 }
 
 // Makes durable what an earlier process has left to be written. The first sync may tell of a write that it never saw synced:
-// nothing was promised of it, so the second one decides.
-fn settle(file: &File) -> Result<(), FileFault> {
-    if file.sync_all().is_err() {
-        file.sync_all().map_err(|_| FileFault::Settle)?;
+// nothing was promised of it, so the second one decides. Answers whether the first one failed.
+fn settle(file: &File) -> Result<bool, FileFault> {
+    if file.sync_all().is_ok() {
+        return Ok(false);
     }
-    Ok(())
+    file.sync_all().map_err(|_| FileFault::Settle)?;
+    Ok(true)
 }
 
 // Writes the first bytes of the file over themselves.

@@ -1,5 +1,5 @@
 -- What the records of a journal say together: its cases and the number of the next one.
-use Rattle.std.specs.Prelude.{ℕ, ◌+◌, Bool, not, List, [], ◌∷◌, ◌++◌, map, if◌then◌else◌, ◌==◌, nat_eq}
+use Rattle.std.specs.Prelude.{ℕ, ◌+◌, Bool, not, List, [], ◌∷◌, ◌++◌, map, if◌then◌else◌, ◌==◌, nat_eq, Option, Some, None}
 use Rattle.std.specs.List.{filter, list_any, flat_map}
 use Rattle.std.specs.Str.{bytes_eq}
 use Rattle.journal_layout.specs.Case.{Case}
@@ -67,6 +67,15 @@ replayed (r ∷ rest) f = replayed rest (after r f)
 abbrev pub sizes : List Record → ℕ
 sizes [] = 0
 sizes (r ∷ rest) = record_size r + sizes rest
+
+-- where the last record begins once these are read from a place on, of which the one before them begins there, if there is one
+abbrev pub last_from : List Record → ℕ → Option ℕ → Option ℕ
+last_from [] at last = last
+last_from (r ∷ rest) at last = last_from rest (at + record_size r) (Some at)
+
+-- where the last of a list of records begins, if there is one
+abbrev pub last_start : List Record → Option ℕ
+last_start records = last_from records 0 None
 
 -- the blocks of the cases
 abbrev pub used_blocks : List Case → List ℕ

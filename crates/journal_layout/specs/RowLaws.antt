@@ -1,8 +1,8 @@
 -- Laws of records in a row.
-use Rattle.std.proofs.Common.{◌≡◌, ℕ, ◌+◌, ◌-◌, ◌<◌, ◌≤◌, List, [], ◌∷◌, ◌++◌, length, take, drop, refl, sym, ap, ◌∙◌, arith}
+use Rattle.std.proofs.Common.{◌≡◌, ℕ, ◌+◌, ◌-◌, ◌<◌, ◌≤◌, List, [], ◌∷◌, ◌++◌, length, take, drop, Option, Some, refl, sym, ap, ◌∙◌, arith}
 use Rattle.std.proofs.lemmas.List.{drop-drop, drop-take, take-take, length-drop}
 use Rattle.journal_layout.specs.Record.{Record, record_size}
-use Rattle.journal_layout.specs.Folding.{Folded, after, replayed, sizes}
+use Rattle.journal_layout.specs.Folding.{Folded, after, replayed, sizes, last_from}
 use Rattle.journal_layout.specs.Stands.{StandsFirst, StandInRow}
 
 -- what a row and one record more say, and their bytes
@@ -13,6 +13,11 @@ replayed_push (s ∷ rest) r f = replayed_push rest r (after s f)
 pub sizes_push : (rs : List Record) (r : Record) → sizes (rs ++ r ∷ []) ≡ sizes rs + record_size r
 sizes_push [] r = omega arith
 sizes_push (s ∷ rest) r = omega (arith, sizes_push rest r)
+
+-- and that record begins behind them
+pub last_push : (rs : List Record) (r : Record) (at : ℕ) (last : Option ℕ) → last_from (rs ++ r ∷ []) at last ≡ Some (at + sizes rs)
+last_push [] r at last = ap Some (omega arith)
+last_push (s ∷ rest) r at last = last_push rest r (at + record_size s) (Some at) ∙ ap Some (omega arith)
 
 -- a record after a row makes it longer
 pub row_push : (limit : ℕ) (bytes : List ℕ) (f : Folded) (rs : List Record) (r : Record)

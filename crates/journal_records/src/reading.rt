@@ -1,10 +1,10 @@
 // The records of a half, one after another.
-ghost use Rattle.std.specs.Prelude.{◌≡◌, ◌+◌, ◌^◌, ◌<◌, ◌≤◌, length, map, IfOk, IfErr};
+ghost use Rattle.std.specs.Prelude.{◌≡◌, ◌+◌, ◌^◌, ◌<◌, ◌≤◌, length, map, IfOk, IfErr, IfSome};
 ghost use Rattle.std.specs.Map.{values_of};
 ghost use Rattle.journal_layout.specs.Case.{case_of};
 ghost use Rattle.journal_layout.specs.Folding.{nothing_yet};
 ghost use Rattle.journal_records.specs.Kept.{Says, AreNames, IsSpareMap};
-ghost use Rattle.journal_records.specs.Said.{said_of, TellsFaulty, ReadsAll};
+ghost use Rattle.journal_records.specs.Said.{said_of, EndsIn, TellsFaulty, ReadsAll};
 ghost use Rattle.journal_layout.specs.Stands.{AreRead};
 
 use crate::cases::Cases;
@@ -25,23 +25,33 @@ pub struct Replayed {
     pub free: FreeMap,
     /// The number of the next case, 1 to 2^32.
     pub next: u64,
+    /// Where the last record begins, in bytes from where the first one begins, if there is one.
+    pub last: Option<u64>,
     /// The bytes of the records. The gate after them is not open.
     pub size: u64,
 }
 
-// Reads the records up to the first gate that is not open, and tells their bytes.
-fn read_records(cases: &mut Cases, alloc: Global, bytes: &[u8], at: u64) -> Result<usize, OpenFault>
+// Reads the records up to the first gate that is not open. Tells where the last one begins, if there is one, and their bytes.
+fn read_records(
+    cases: &mut Cases,
+    alloc: Global,
+    bytes: &[u8],
+    at: u64,
+) -> Result<(Option<u64>, usize), OpenFault>
     requires some { 1 ≤ length bytes.now }
     requires disk { at + length bytes.now ≤ 2 ^ 63 }
     requires limit { length cases.old.free ≤ 16777216 }
     requires says { Says (nothing_yet cases.old.version) (length cases.old.free) cases.old }
     ensures { ReadsAll (length cases.old.free) cases.old.version at bytes.now result cases.new }
 {
+    let mut last = None;
     let mut size = 0;
     while bytes[size] == GATE_OPEN {
-        size += cases.read_record(alloc, &bytes[size..], at + size as u64)?;
+        let more = cases.read_record(alloc, &bytes[size..], at + size as u64)?;
+        last = Some(size as u64);
+        size += more;
     }
-    Ok(size)
+    Ok((last, size))
 }
 
 // The live cases, in the order of their numbers.
@@ -67,12 +77,13 @@ pub fn replay(
     requires blocks { data_blocks ≤ 16777216 }
     ensures read { IfOk result (λ r. AreRead data_blocks bytes.now (nothing_yet version) (said_of version r) r.size) }
     ensures fault { IfErr result (TellsFaulty data_blocks version at bytes.now) }
+    ensures last { IfOk result (λ r. EndsIn data_blocks version bytes.now r.last r.size) }
     ensures names { IfOk result (λ r. AreNames (map case_of r.entries.items) r.names) }
     ensures free { IfOk result (λ r. IsSpareMap data_blocks (map case_of r.entries.items) r.free) }
-    ensures bounds { IfOk result (λ r. (1 ≤ r.next) × (r.next ≤ 2 ^ 32) × (r.size + 1 ≤ length bytes.now)) }
+    ensures bounds { IfOk result (λ r. (1 ≤ r.next) × (r.next ≤ 2 ^ 32) × (r.size + 1 ≤ length bytes.now) × IfSome r.last (λ n. n < r.size)) }
 {
     let mut cases = Cases::new(alloc, version, data_blocks)?;
-    let size = read_records(&mut cases, alloc, bytes, at)?;
+    let (last, size) = read_records(&mut cases, alloc, bytes, at)?;
     let Cases {
         version: _,
         live,
@@ -88,6 +99,7 @@ pub fn replay(
         names,
         free,
         next,
+        last,
         size: size as u64,
     })
 }

@@ -2,6 +2,7 @@ use Rattle.std.proofs.lemmas.Result.{err_from_is_err_and}
 use Rattle.case_journal.specs.Opening.{journal_of}
 use Rattle.case_journal.specs.Viewing.{ShowsOpening}
 use Rattle.case_journal.proofs.OpenLemmas.{some_view, view_after, view_before, finds_by, keeps_by, live_by, labels_by}
+use Rattle.case_journal.proofs.SettleLemmas.{last_by}
 use Rattle.case_journal.proofs.journal.Journal.open.Goals as goal
 use Rattle.case_journal.proofs.journal.Journal.open.Given as given
 
@@ -34,3 +35,9 @@ returns-clause-live g c = live_by g.D.Disk c.args.disk.now c.read_journal.result
 
 pub returns-clause-labels : goal.returns-clause-labels
 returns-clause-labels g c = labels_by g.D.Disk c.args.disk.now c.read_journal.result (shows g c)
+
+pub returns-clause-last : goal.returns-clause-last
+returns-clause-last g c =
+    let b = some_view g.D.Disk c.args.disk.now (g.met.D.Disk.whole c.args.disk.now) in
+    last_by g.D.Disk c.args.disk.now c.settle.new.disk c.read_journal.new.disk c.read_journal.result c.settle.ensures.quiet c.read_journal.ensures.quiet
+    (c.read_journal.ensures.last b.0 (view_after g.D.Disk c.args.disk.now c.settle.new.disk b.0 c.settle.ensures.quiet b.1))
