@@ -1,9 +1,8 @@
 // What the words of `ask` ask for.
-use crate::asked::{Asked, checked, place_of};
-use archive_files::Refusal;
+use crate::asked::{Asked, checked};
+use archive_files::{ArchivePath, Refusal};
 use case_listing::{foreseen_by, names_a_case};
-use clap::ArgMatches;
-use command_words::{digits_of, line_of, usage_told};
+use command_words::{Given, digits_of, line_of, usage_told};
 use line_help::rows_of;
 use script_lines::{Question, parse_question};
 use std::alloc::{AllocError, Global};
@@ -35,14 +34,10 @@ pub(crate) struct AskedLine<'a> {
     words: Vec<&'a str>,
     // The last word of the line, if its bytes are said as a text: their digits.
     digits: Option<Vec<u8>>,
-    form: Form,
+    pub(crate) form: Form,
 }
 
 impl AskedLine<'_> {
-    pub(crate) fn form(&self) -> Form {
-        self.form
-    }
-
     // The words of the line.
     pub(crate) fn words(&self, alloc: Global) -> Result<Vec<&str>, AllocError> {
         let mut words = Vec::new(alloc);
@@ -74,17 +69,20 @@ impl AskedLine<'_> {
 }
 
 // What the words of `ask` ask for.
-pub(crate) fn ask_words<'a>(alloc: Global, found: &ArgMatches<'a>) -> Result<Asked<'a>, Refusal> {
-    let archive = place_of(found)?;
-    let words = found.get_strs("words").unwrap_or(&[]);
-    let form = form_of(found);
+pub(crate) fn ask_words<'a>(
+    alloc: Global,
+    given: &Given<'a>,
+    archive: ArchivePath<'a>,
+) -> Result<Asked<'a>, Refusal> {
+    let words = given.words.as_slice();
+    let form = form_of(given);
     if let Some(policy) = foreseen_by(alloc, words)? {
-        refuse_forms(found, form)?;
+        refuse_forms(given, form)?;
         return Ok(Asked::WouldRetire { archive, policy });
     }
     let line = AskedLine {
         words: words.to_vec(alloc)?,
-        digits: digits_said(alloc, found)?,
+        digits: digits_said(alloc, given)?,
         form,
     };
     let question = line.question(alloc)?;
@@ -99,20 +97,20 @@ pub(crate) fn ask_words<'a>(alloc: Global, found: &ArgMatches<'a>) -> Result<Ask
 }
 
 // The reply to `would-retire` has no rows and no text: people read it as it is.
-fn refuse_forms(found: &ArgMatches<'_>, form: Form) -> Result<(), Refusal> {
+fn refuse_forms(given: &Given<'_>, form: Form) -> Result<(), Refusal> {
     if form == Form::Rows {
         return Err(Refusal::NoLine(ROWS));
     }
-    match found.get_str("text") {
+    match given.text("text") {
         Some(_) => Err(Refusal::NoLine(TEXT)),
         None => Ok(()),
     }
 }
 
-fn form_of(found: &ArgMatches<'_>) -> Form {
-    if found.get_flag("json") {
+fn form_of(given: &Given<'_>) -> Form {
+    if given.flag("json") {
         Form::Rows
-    } else if found.get_flag("plain") {
+    } else if given.flag("plain") {
         Form::Plain
     } else {
         Form::Reply
@@ -120,11 +118,11 @@ fn form_of(found: &ArgMatches<'_>) -> Form {
 }
 
 // The digits of the text that `find` looks for, if one is said.
-fn digits_said(alloc: Global, found: &ArgMatches<'_>) -> Result<Option<Vec<u8>>, Refusal> {
-    let Some(text) = found.get_str("text") else {
+fn digits_said(alloc: Global, given: &Given<'_>) -> Result<Option<Vec<u8>>, Refusal> {
+    let Some(text) = given.text("text") else {
         return Ok(None);
     };
-    if first_of(found.get_strs("words").unwrap_or(&[])) != "find" {
+    if first_of(given.words.as_slice()) != "find" {
         return Err(Refusal::NoLine(TEXT));
     }
     Ok(Some(digits_of(alloc, text)?))

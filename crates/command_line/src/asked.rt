@@ -1,14 +1,12 @@
 // What the words ask for.
 use crate::ask_words::{AskedLine, ask_words};
 use crate::endings::Ending;
-use crate::info_words::info_words;
 use crate::list_words::list_words;
 use archive_files::{ArchivePath, CopyWords, NewArchive, Refusal, StoreWords, WordPart};
 use arrayvec::ArrayVec;
 use case_info::InfoWords;
 use case_listing::ListWords;
-use clap::ArgMatches;
-use command_words::{is_text, program, push_escaped, push_text};
+use command_words::{Given, is_text, push_escaped, push_text};
 use core_handler::{HandleWords, label_in};
 use inspector_cli::StoreOptions;
 use journal_layout::Shape;
@@ -117,69 +115,95 @@ pub(crate) fn read_words<'a>(
     alloc: Global,
     words: &'a [String],
 ) -> Result<(Asked<'a>, bool), Ending> {
-    let matches = program(alloc)?.try_get_matches_from(words)?;
-    match matches.subcommand() {
-        Some((name, found)) => Ok((asked_of(alloc, name, found)?, found.get_flag("quiet"))),
-        None => Ok((Asked::Nothing, true)),
-    }
+    let given = Given::read(alloc, words)?;
+    Ok((asked_of(alloc, &given)?, given.flag("quiet")))
 }
 
 // What the words of a command ask for.
-fn asked_of<'a>(alloc: Global, name: &str, found: &ArgMatches<'a>) -> Result<Asked<'a>, Refusal> {
-    match name {
-        "format" => format_words(found),
-        "run" => run_words(found),
-        "memory" => memory_words(found),
-        "store" => store_words(alloc, found),
-        "extract" => extract_words(found),
-        "handle" => handle_words(alloc, found),
-        "list" => list_asked(found),
-        "ask" => ask_words(alloc, found),
-        _ => care_words(name, found),
+fn asked_of<'a>(alloc: Global, given: &Given<'a>) -> Result<Asked<'a>, Refusal> {
+    match given.command {
+        "format" => format_words(given),
+        "memory" => Ok(Asked::Memory {
+            settings: settings_of(given)?,
+            shape: shape_of(given),
+        }),
+        "handle" => handle_words(alloc, given),
+        _ => over_archive(alloc, given, place_of(given)?),
     }
 }
 
-// The same of the commands that only look, or care for an archive.
-fn care_words<'a>(name: &str, found: &ArgMatches<'a>) -> Result<Asked<'a>, Refusal> {
-    match name {
-        "info" => info_words(found),
-        "look" => look_words(found),
-        "check" => check_words(found),
-        "copy" => copy_words(found),
-        "resize" => resize_words(found),
-        "salvage" => salvage_words(found),
+// The same of a command over the archive in a file.
+fn over_archive<'a>(
+    alloc: Global,
+    given: &Given<'a>,
+    archive: ArchivePath<'a>,
+) -> Result<Asked<'a>, Refusal> {
+    match given.command {
+        "run" => Ok(Asked::Run {
+            archive,
+            settings: settings_of(given)?,
+        }),
+        "store" => store_words(alloc, given, archive),
+        "extract" => Ok(Asked::Extract {
+            archive,
+            case: text_of(given, "case")?,
+            file: text_if(given, "file")?,
+        }),
+        "list" => Ok(Asked::List {
+            archive,
+            wanted: list_words(given)?,
+        }),
+        "ask" => ask_words(alloc, given, archive),
+        "info" => Ok(Asked::Info {
+            archive,
+            case: text_if(given, "case")?,
+            wanted: InfoWords {
+                all_threads: given.flag("threads"),
+                is_json: given.flag("json"),
+            },
+        }),
+        "look" => Ok(Asked::Look { archive }),
+        "check" => Ok(Asked::Check {
+            archive,
+            sees_images: given.flag("images"),
+        }),
+        "copy" => Ok(Asked::Copy {
+            archive,
+            new: text_of(given, "new")?,
+            wanted: copy_of(given),
+        }),
+        "resize" => Ok(Asked::Resize {
+            archive,
+            wanted: copy_of(given),
+        }),
+        "salvage" => Ok(Asked::Salvage {
+            archive,
+            new: text_of(given, "new")?,
+        }),
         _ => Ok(Asked::Nothing),
     }
 }
 
-fn format_words<'a>(found: &ArgMatches<'a>) -> Result<Asked<'a>, Refusal> {
-    let archive = text_of(found, "archive")?;
+fn format_words<'a>(given: &Given<'a>) -> Result<Asked<'a>, Refusal> {
     Ok(Asked::Format {
-        archive,
-        wanted: new_archive_of(found),
+        archive: text_of(given, "archive")?,
+        wanted: NewArchive {
+            shape: shape_of(given),
+            keeps_labels: keeps_labels(given),
+            is_sparse: given.flag("sparse"),
+        },
     })
 }
 
-fn run_words<'a>(found: &ArgMatches<'a>) -> Result<Asked<'a>, Refusal> {
-    let archive = place_of(found)?;
-    let settings = settings_of(found)?;
-    Ok(Asked::Run { archive, settings })
-}
-
-fn memory_words<'a>(found: &ArgMatches<'a>) -> Result<Asked<'a>, Refusal> {
-    let settings = settings_of(found)?;
-    Ok(Asked::Memory {
-        shape: shape_of(found),
-        settings,
-    })
-}
-
-fn store_words<'a>(alloc: Global, found: &ArgMatches<'a>) -> Result<Asked<'a>, Refusal> {
-    let archive = place_of(found)?;
-    let file = text_of(found, "file")?;
-    let wanted = wanted_of(alloc, found)?;
-    let settings = settings_of(found)?;
-    let log = found.get_str("log").map(checked).transpose()?;
+fn store_words<'a>(
+    alloc: Global,
+    given: &Given<'a>,
+    archive: ArchivePath<'a>,
+) -> Result<Asked<'a>, Refusal> {
+    let file = text_of(given, "file")?;
+    let wanted = wanted_of(alloc, given)?;
+    let settings = settings_of(given)?;
+    let log = text_if(given, "log")?;
     Ok(Asked::Store {
         archive,
         file,
@@ -190,90 +214,51 @@ fn store_words<'a>(alloc: Global, found: &ArgMatches<'a>) -> Result<Asked<'a>, R
 }
 
 // What is stored, and what goes for it.
-fn wanted_of(alloc: Global, found: &ArgMatches<'_>) -> Result<StoreWords, Refusal> {
-    let policy = policy_of(found)?;
-    let begin = first_line(alloc, found)?;
-    let label = label_of(alloc, found)?;
+fn wanted_of(alloc: Global, given: &Given<'_>) -> Result<StoreWords, Refusal> {
+    let policy = policy_of(given)?;
+    let begin = first_line(alloc, given)?;
+    let label = label_of(alloc, given)?;
+    let limit = given.number::<u64>("limit").unwrap_or(0);
     Ok(StoreWords {
         policy,
         begin,
         options: StoreOptions {
             label,
-            pin: found.get_flag("pin"),
-            fit: found.get_flag("fit"),
-            cut: cut_of(found),
-            length: limit_of(found, "length")?,
+            pin: given.flag("pin"),
+            fit: given.flag("fit"),
+            // The most bytes that are kept of a file that has more: those of the limit, if it may be cut.
+            cut: given.flag("cut").then_some(limit),
+            length: limit_of(given, "length")?,
             burst: None,
         },
     })
 }
 
-fn extract_words<'a>(found: &ArgMatches<'a>) -> Result<Asked<'a>, Refusal> {
-    let archive = place_of(found)?;
-    let case = text_of(found, "case")?;
-    let file = found.get_str("file").map(checked).transpose()?;
-    Ok(Asked::Extract {
-        archive,
-        case,
-        file,
-    })
-}
-
-fn list_asked<'a>(found: &ArgMatches<'a>) -> Result<Asked<'a>, Refusal> {
-    let archive = place_of(found)?;
-    let wanted = list_words(found)?;
-    Ok(Asked::List { archive, wanted })
-}
-
-fn look_words<'a>(found: &ArgMatches<'a>) -> Result<Asked<'a>, Refusal> {
-    Ok(Asked::Look {
-        archive: place_of(found)?,
-    })
-}
-
-fn check_words<'a>(found: &ArgMatches<'a>) -> Result<Asked<'a>, Refusal> {
-    Ok(Asked::Check {
-        archive: place_of(found)?,
-        sees_images: found.get_flag("images"),
-    })
-}
-
-fn copy_words<'a>(found: &ArgMatches<'a>) -> Result<Asked<'a>, Refusal> {
-    let archive = place_of(found)?;
-    let new = text_of(found, "new")?;
-    let keeps_labels = found.get_one::<u32>("layout") == Some(2);
-    Ok(Asked::Copy {
-        archive,
-        new,
-        wanted: copy_of(found, keeps_labels),
-    })
-}
-
-fn resize_words<'a>(found: &ArgMatches<'a>) -> Result<Asked<'a>, Refusal> {
-    Ok(Asked::Resize {
-        archive: place_of(found)?,
-        wanted: copy_of(found, false),
-    })
-}
-
-fn salvage_words<'a>(found: &ArgMatches<'a>) -> Result<Asked<'a>, Refusal> {
-    let archive = place_of(found)?;
-    let new = text_of(found, "new")?;
-    Ok(Asked::Salvage { archive, new })
-}
-
-fn copy_of(found: &ArgMatches<'_>, keeps_labels: bool) -> CopyWords {
+fn copy_of(given: &Given<'_>) -> CopyWords {
     CopyWords {
-        half_blocks: found.get_one::<u32>("half"),
-        data_blocks: found.get_one::<u32>("data"),
-        keeps_labels,
-        is_sparse: found.get_flag("sparse"),
+        half_blocks: given.number("half"),
+        data_blocks: given.number("data"),
+        keeps_labels: keeps_labels(given),
+        is_sparse: given.flag("sparse"),
     }
 }
 
+// Whether the archive that is made is of the version that keeps labels.
+fn keeps_labels(given: &Given<'_>) -> bool {
+    given.number::<u32>("layout") == Some(2)
+}
+
 // The text of a word that has to be there.
-fn text_of<'a>(found: &ArgMatches<'a>, id: &str) -> Result<&'a str, Refusal> {
-    checked(found.get_str(id).unwrap_or(""))
+fn text_of<'a>(given: &Given<'a>, name: &str) -> Result<&'a str, Refusal> {
+    checked(given.text(name).unwrap_or(""))
+}
+
+// The text of a word that may be left out.
+pub(crate) fn text_if<'a>(given: &Given<'a>, name: &str) -> Result<Option<&'a str>, Refusal> {
+    match given.text(name) {
+        Some(word) => Ok(Some(checked(word)?)),
+        None => Ok(None),
+    }
 }
 
 // A word that has to be text.
@@ -289,62 +274,45 @@ fn checked_part<'a>(word: &'a str, part: WordPart) -> Result<&'a str, Refusal> {
     }
 }
 
-pub(crate) fn place_of<'a>(found: &ArgMatches<'a>) -> Result<ArchivePath<'a>, Refusal> {
+fn place_of<'a>(given: &Given<'a>) -> Result<ArchivePath<'a>, Refusal> {
     Ok(ArchivePath {
-        path: text_of(found, "archive")?,
-        waits: !found.get_flag("no-wait"),
+        path: text_of(given, "archive")?,
+        waits: !given.flag("no-wait"),
     })
 }
 
-fn new_archive_of(found: &ArgMatches<'_>) -> NewArchive {
-    NewArchive {
-        shape: shape_of(found),
-        keeps_labels: found.get_one::<u32>("layout") == Some(2),
-        is_sparse: found.get_flag("sparse"),
-    }
-}
-
-fn shape_of(found: &ArgMatches<'_>) -> Shape {
+fn shape_of(given: &Given<'_>) -> Shape {
     Shape {
-        half_blocks: found.get_one::<u32>("half").unwrap_or(0),
-        data_blocks: found.get_one::<u32>("data").unwrap_or(0),
+        half_blocks: given.number::<u32>("half").unwrap_or(0),
+        data_blocks: given.number::<u32>("data").unwrap_or(0),
     }
 }
 
-fn settings_of<'a>(found: &ArgMatches<'a>) -> Result<SessionWords<'a>, Refusal> {
+fn settings_of<'a>(given: &Given<'a>) -> Result<SessionWords<'a>, Refusal> {
     Ok(SessionWords {
-        template: text_of(found, "template")?,
-        uses_pid: found.get_flag("uses-pid"),
-        limit: found.get_one::<u64>("limit").unwrap_or(0),
+        template: text_of(given, "template")?,
+        uses_pid: given.flag("uses-pid"),
+        limit: given.number::<u64>("limit").unwrap_or(0),
     })
-}
-
-// The most bytes that are kept of a file that has more: those of the limit, if it may be cut.
-fn cut_of(found: &ArgMatches<'_>) -> Option<u64> {
-    if found.get_flag("cut") {
-        Some(found.get_one::<u64>("limit").unwrap_or(0))
-    } else {
-        None
-    }
 }
 
 // The line of a script that begins the stream: of an executable where it has a name, else of a core with its pairs. A
 // core's pairs say nothing of an executable, so both together are refused.
-fn first_line(alloc: Global, found: &ArgMatches<'_>) -> Result<Vec<u8>, Refusal> {
-    let pairs = found.get_strs("pairs").unwrap_or(&[]);
-    let escapes = found.get_flag("escape");
-    match found.get_str("exec") {
+fn first_line(alloc: Global, given: &Given<'_>) -> Result<Vec<u8>, Refusal> {
+    let pairs = given.words.as_slice();
+    let escapes = given.flag("escape");
+    match given.text("exec") {
         None => core_line(alloc, pairs, escapes),
-        Some(name) if pairs.is_empty() => exec_line(alloc, name, escapes),
+        Some(name) if pairs.is_empty() => valued_line(alloc, b"begin exec 0 ", name, escapes),
         Some(_) => Err(Refusal::BadLine),
     }
 }
 
 // What the archive is to be brought down to, of the limits that are there.
-fn policy_of(found: &ArgMatches<'_>) -> Result<Option<Policy>, Refusal> {
-    let keep = limit_of(found, "keep")?;
-    let bytes = limit_of(found, "bytes")?;
-    let before = limit_of(found, "before")?;
+fn policy_of(given: &Given<'_>) -> Result<Option<Policy>, Refusal> {
+    let keep = limit_of(given, "keep")?;
+    let bytes = limit_of(given, "bytes")?;
+    let before = limit_of(given, "before")?;
     if keep.is_none() && bytes.is_none() && before.is_none() {
         return Ok(None);
     }
@@ -356,8 +324,8 @@ fn policy_of(found: &ArgMatches<'_>) -> Result<Option<Policy>, Refusal> {
 }
 
 // A limit, whose number is as a script has it.
-fn limit_of(found: &ArgMatches<'_>, id: &str) -> Result<Option<u64>, Refusal> {
-    let Some(number) = found.get_str(id) else {
+fn limit_of(given: &Given<'_>, name: &str) -> Result<Option<u64>, Refusal> {
+    let Some(number) = given.text(name) else {
         return Ok(None);
     };
     match parse_number(number.as_bytes()) {
@@ -368,67 +336,45 @@ fn limit_of(found: &ArgMatches<'_>, id: &str) -> Result<Option<u64>, Refusal> {
 
 // The label of the case that is stored, where one is asked for. It is read as the line `label` of a script has it, and what no
 // line can say is refused before anything is stored.
-fn label_of(alloc: Global, found: &ArgMatches<'_>) -> Result<Option<ArrayVec<u8, 64>>, Refusal> {
-    let Some(text) = found.get_str("label") else {
+fn label_of(alloc: Global, given: &Given<'_>) -> Result<Option<ArrayVec<u8, 64>>, Refusal> {
+    let Some(text) = given.text("label") else {
         return Ok(None);
     };
-    let mut line = b"label 1 ".to_vec(alloc)?;
-    push_value(&mut line, text, found.get_flag("escape"))?;
+    let line = valued_line(alloc, b"label 1 ", text, given.flag("escape"))?;
     Ok(Some(label_in(&line)?))
 }
 
 // What the words of `handle` ask for. The first word that is no pair names the configuration.
-fn handle_words<'a>(alloc: Global, found: &ArgMatches<'a>) -> Result<Asked<'a>, Refusal> {
-    let words = found.get_strs("pairs").unwrap_or(&[]);
+fn handle_words<'a>(alloc: Global, given: &Given<'a>) -> Result<Asked<'a>, Refusal> {
+    let words = given.words.as_slice();
     let (config, pairs) = match words.split_first() {
         Some((first, rest)) if !first.contains('=') => (Some(checked(first)?), rest),
         _ => (None, words),
     };
-    let stated = StatedLength::of(found.get_str("length"), pairs);
+    let stated = stated_length(given.text("length"), pairs);
+    let length = match stated {
+        Some(number) => parse_number(number.as_bytes()),
+        None => None,
+    };
     let (begin, left_out) = known_pairs(alloc, pairs)?;
-    let archive = found.get_str("archive").map(checked).transpose()?;
     Ok(Asked::Handle(HandleWords {
         config,
-        archive,
+        archive: text_if(given, "archive")?,
         begin,
         left_out,
-        length: stated.length,
-        faulty_length: stated.faulty,
-        is_check: found.get_flag("check"),
+        length,
+        faulty_length: if length.is_none() { stated } else { None },
+        is_check: given.flag("check"),
     }))
 }
 
-// The length of a core, as an option or the last pair of that name states it.
-#[derive(Clone, Copy)]
-struct StatedLength<'a> {
-    length: Option<u64>,
-    // What is there, and is no number.
-    faulty: Option<&'a str>,
-}
-
-impl<'a> StatedLength<'a> {
-    fn of(option: Option<&'a str>, pairs: &[&'a str]) -> Self {
-        let mut stated = option;
-        for pair in pairs {
-            stated = length_pair(pair).or(stated);
-        }
-        let Some(number) = stated else {
-            return StatedLength {
-                length: None,
-                faulty: None,
-            };
-        };
-        match parse_number(number.as_bytes()) {
-            Some(length) => StatedLength {
-                length: Some(length),
-                faulty: None,
-            },
-            None => StatedLength {
-                length: None,
-                faulty: Some(number),
-            },
-        }
+// What states the length of a core: the last pair of that name, or else the option.
+fn stated_length<'a>(option: Option<&'a str>, pairs: &[&'a str]) -> Option<&'a str> {
+    let mut stated = option;
+    for pair in pairs {
+        stated = length_pair(pair).or(stated);
     }
+    stated
 }
 
 // The value of the pair that states a length.
@@ -460,14 +406,10 @@ fn known_pairs<'a>(
 fn takes_pair(line: &mut Vec<u8>, pair: &str) -> Result<bool, AllocError> {
     push_text(line, " ")?;
     match push_pair(line, pair, true) {
-        Ok(()) => Ok(begins_core(line)),
+        Ok(()) => Ok(matches!(parse_text(line), Command::Plain(Request::BeginCore { .. }))),
         Err(Refusal::OutOfMemory) => Err(AllocError),
         Err(_) => Ok(false),
     }
-}
-
-fn begins_core(line: &[u8]) -> bool {
-    matches!(parse_text(line), Command::Plain(Request::BeginCore { .. }))
 }
 
 // The line that begins a core, with a space before each of its pairs.
@@ -480,10 +422,15 @@ fn core_line(alloc: Global, pairs: &[&str], escapes: bool) -> Result<Vec<u8>, Re
     Ok(line)
 }
 
-// The line that begins an executable.
-fn exec_line(alloc: Global, name: &str, escapes: bool) -> Result<Vec<u8>, Refusal> {
-    let mut line = b"begin exec 0 ".to_vec(alloc)?;
-    push_value(&mut line, name, escapes)?;
+// A line that ends with a value.
+fn valued_line(
+    alloc: Global,
+    start: &[u8],
+    value: &str,
+    escapes: bool,
+) -> Result<Vec<u8>, Refusal> {
+    let mut line = start.to_vec(alloc)?;
+    push_value(&mut line, value, escapes)?;
     Ok(line)
 }
 

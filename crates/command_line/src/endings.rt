@@ -2,8 +2,9 @@
 ghost use Rattle.std.specs.Prelude.{◌≡◌, ◌≤◌};
 
 use archive_files::{Failure, Refusal, reason_of, tell_failure};
-use clap::error::ErrorKind;
-use command_words::{Context, meaning_when, tell_how_it_is_asked, tell_meaning, tell_no_line};
+use command_words::{
+    Context, Unread, meaning_when, tell_how_it_is_asked, tell_meaning, tell_no_line,
+};
 use diagnostics::Trouble;
 use line_help::LineHelp;
 use script_streams::{Output, Reply, write_whole};
@@ -12,28 +13,21 @@ use std::alloc::{AllocError, Global};
 // Why the program did not do what its words ask for.
 #[derive(Drop)]
 pub(crate) enum Ending {
-    // The words are outside the grammar, or ask for help.
-    Words(clap::Error),
+    // The words ask for this help.
+    Help(String),
+    // The words are outside the grammar, as this text says.
+    Wrong(String),
     // It failed, or was refused.
     Failed(Failure),
 }
 
-impl Ending {
-    // Whether it is no help that was asked for.
-    pub(crate) fn is_refusal(&self) -> bool {
-        match self {
-            Ending::Words(error) => error.use_stderr(),
-            Ending::Failed(_) => true,
+impl From<Unread> for Ending {
+    fn from(unread: Unread) -> Self {
+        match unread {
+            Unread::Help(text) => Ending::Help(text),
+            Unread::Wrong(text) => Ending::Wrong(text),
+            Unread::OutOfMemory => Ending::from(Refusal::OutOfMemory),
         }
-    }
-}
-
-impl From<clap::Error> for Ending {
-    fn from(error: clap::Error) -> Self {
-        if error.kind() == ErrorKind::OutOfMemory {
-            return Ending::from(Refusal::OutOfMemory);
-        }
-        Ending::Words(error)
     }
 }
 
@@ -83,7 +77,17 @@ pub(crate) fn tell_ending<O: Output, E: Output>(
     ensures quiet { result ≡ 0 → errors.new ≡ errors.old }
 {
     match ending {
-        Ending::Words(error) => tell_words(alloc, error, clues.line, output, errors),
+        Ending::Help(text) => match write_whole(output, text.as_bytes()) {
+            Ok(()) => 0,
+            Err(_) => 1,
+        },
+        Ending::Wrong(text) => {
+            let _ = write_whole(errors, text.as_bytes());
+            if let Some(line) = clues.line {
+                tell_how_it_is_asked(line, errors);
+            }
+            2
+        }
         Ending::Failed(failure) => {
             tell_why(alloc, failure, clues, errors);
             tell_failure(alloc, failure, output, errors)
@@ -137,36 +141,4 @@ fn tell_words_of<E: Output>(reason: &[u8], clues: Clues<'_>, errors: &mut E) {
     tell_meaning(&mut reply, clues.context, reason, clues.trouble);
     reply.tell(b"\n");
     let _ = reply.finish();
-}
-
-// Says why the words are refused, or what they can be.
-fn tell_words<O: Output, E: Output>(
-    alloc: Global,
-    error: &clap::Error,
-    line: Option<&'static LineHelp>,
-    output: &mut O,
-    errors: &mut E,
-) -> u8
-    ensures most { result ≤ 2 }
-    ensures quiet { result ≡ 0 → errors.new ≡ errors.old }
-{
-    let Ok(text) = format!(in alloc; "{error}") else {
-        return tell_failure(
-            alloc,
-            &Failure::Refused(Refusal::OutOfMemory),
-            output,
-            errors,
-        );
-    };
-    if error.use_stderr() {
-        let _ = write_whole(errors, text.as_bytes());
-        if let Some(line) = line {
-            tell_how_it_is_asked(line, errors);
-        }
-        return 2;
-    }
-    match write_whole(output, text.as_bytes()) {
-        Ok(()) => 0,
-        Err(_) => 1,
-    }
 }

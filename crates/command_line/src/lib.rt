@@ -4,7 +4,6 @@
 mod ask_words;
 mod asked;
 mod endings;
-mod info_words;
 mod list_words;
 mod words;
 

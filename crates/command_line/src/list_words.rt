@@ -1,35 +1,37 @@
 // What the words of `list` ask for.
-use crate::asked::checked;
+use crate::asked::text_if;
 use archive_files::Refusal;
 use case_listing::ListWords;
 use case_tables::{Wanted, read_signal};
-use clap::ArgMatches;
+use command_words::Given;
 use journal_layout::Kind;
 
 // What these words ask for.
-pub(crate) fn list_words<'a>(found: &ArgMatches<'a>) -> Result<ListWords<'a>, Refusal> {
-    let last = found.get_one::<u64>("last");
+pub(crate) fn list_words<'a>(given: &Given<'a>) -> Result<ListWords<'a>, Refusal> {
+    let last = given.number::<u64>("last");
     Ok(ListWords {
         wanted: Wanted {
-            kind: found.get_str("kind").map(kind_said).transpose()?,
-            name: text_said(found, "name")?,
-            pid: found.get_one::<u64>("pid").map(pid_said).transpose()?,
-            signal: found.get_str("signal").map(signal_said).transpose()?,
+            kind: given.text("kind").map(kind_said).transpose()?,
+            name: text_said(given, "name")?,
+            pid: given.number::<u64>("pid").map(pid_said).transpose()?,
+            signal: given.text("signal").map(signal_said).transpose()?,
             since: None,
             until: None,
-            label: text_said(found, "label")?,
-            pinned: found.get_flag("pinned"),
+            label: text_said(given, "label")?,
+            pinned: given.flag("pinned"),
             last: last.map(|count| usize::try_from(count).unwrap_or(usize::MAX)),
         },
-        since: found.get_str("since"),
-        until: found.get_str("until"),
-        is_json: found.get_flag("json"),
+        since: given.text("since"),
+        until: given.text("until"),
+        is_json: given.flag("json"),
     })
 }
 
-fn text_said<'a>(found: &ArgMatches<'a>, id: &str) -> Result<Option<&'a [u8]>, Refusal> {
-    let text = found.get_str(id).map(checked).transpose()?;
-    Ok(text.map(|text| text.as_bytes()))
+fn text_said<'a>(given: &Given<'a>, name: &str) -> Result<Option<&'a [u8]>, Refusal> {
+    match text_if(given, name)? {
+        Some(text) => Ok(Some(text.as_bytes())),
+        None => Ok(None),
+    }
 }
 
 fn kind_said(text: &str) -> Result<Kind, Refusal> {

@@ -10,7 +10,7 @@ use archive_files::{
     look, make_archive, names_output, resize_archive_file, run_over, salvage, take_disk,
     tell_trouble,
 };
-use case_info::{InfoWords, ask_rows, info_archive, info_case};
+use case_info::{ask_rows, info_archive, info_case};
 use case_listing::{ask_case, ask_plain, extract_case, list, would_retire};
 use command_words::{
     Context, Watched, asked_help, context_of, in_order, line_in_place_of_a_command, tell_help,
@@ -157,7 +157,7 @@ fn answer_words<R: AllocGlobal + Files<File = File> + Clock, I: Read, O: Output,
             Ok(answer_asked(rt, asked, input, output, note, listener)?)
         }
         Err(ending) => {
-            if ordered.is_some() && ending.is_refusal() {
+            if ordered.is_some() && !matches!(ending, Ending::Help(_)) {
                 tell_lost_words(rt);
             }
             Err(aside_of_an_image(words, ending))
@@ -189,8 +189,14 @@ fn answer_asked<R: AllocGlobal + Files<File = File> + Clock, I: Read, O: Output,
         } => {
             let naming = naming_of(settings)?;
             let request = StoreRequest::of(wanted, &naming, settings.limit);
-            store(
-                rt, archive, file, request, log, input, output, note, onlooker,
+            let teller = Teller {
+                alloc: rt.alloc(),
+                log: Log {
+                    path: log.unwrap_or(""),
+                },
+            };
+            store_told(
+                rt, teller, archive, file, request, input, output, note, onlooker,
             )
         }
         Asked::Extract {
@@ -207,9 +213,14 @@ fn answer_asked<R: AllocGlobal + Files<File = File> + Clock, I: Read, O: Output,
         } => answer_line(rt, archive, &line, question, output, onlooker),
         Asked::Info {
             archive,
-            case,
+            case: Some(case),
             wanted,
-        } => info(rt, archive, case, wanted, output),
+        } => info_case(rt, archive, case, wanted, output),
+        Asked::Info {
+            archive,
+            case: None,
+            wanted,
+        } => info_archive(rt, archive, wanted.is_json, output),
         Asked::WouldRetire { archive, policy } => would_retire(rt, archive, &policy, output),
         Asked::Look { archive } => look(rt, archive, &mut ReadInput::new(input), output),
         Asked::Check {
@@ -239,25 +250,11 @@ fn answer_line<R: AllocGlobal + Files<File = File>, O: Output, W: Onlooker>(
     onlooker: &mut W,
 ) -> Result<(), Failure> {
     let words = line.words(rt.alloc())?;
-    match (line.form(), question) {
+    match (line.form, question) {
         (Form::Rows, question) => ask_rows(rt, place, &words, question, output, onlooker),
         (Form::Plain, question) => ask_plain(rt, place, &words, question, output, onlooker),
         (Form::Reply, Some(question)) => ask(rt, place, question, output, onlooker),
         (Form::Reply, None) => ask_case(rt, place, &words, output, onlooker),
-    }
-}
-
-// Tells what is known of a case, or of the archive.
-fn info<R: AllocGlobal + Files<File = File>, O: Output>(
-    rt: &R,
-    place: ArchivePath<'_>,
-    case: Option<&str>,
-    wanted: InfoWords,
-    output: &mut O,
-) -> Result<(), Failure> {
-    match case {
-        Some(case) => info_case(rt, place, case, wanted, output),
-        None => info_archive(rt, place, wanted.is_json, output),
     }
 }
 
@@ -322,29 +319,6 @@ fn run_memory<R: AllocGlobal, I: Read, O: Output>(
         output,
     );
     Ok(ended?)
-}
-
-// Stores a file, or the standard input, and tells a log of it, if one is named. What can't be read of the case goes to a note.
-fn store<R: AllocGlobal + Files<File = File>, I: Read, O: Output, W: Onlooker>(
-    rt: &R,
-    place: ArchivePath<'_>,
-    file: &str,
-    request: StoreRequest,
-    log: Option<&str>,
-    input: &mut I,
-    output: &mut O,
-    note: &mut Collected,
-    onlooker: &mut W,
-) -> Result<(), Failure> {
-    let teller = Teller {
-        alloc: rt.alloc(),
-        log: Log {
-            path: log.unwrap_or(""),
-        },
-    };
-    store_told(
-        rt, teller, place, file, request, input, output, note, onlooker,
-    )
 }
 
 // How cores are named.

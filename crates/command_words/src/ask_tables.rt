@@ -1,8 +1,26 @@
-// The words of `ask`. They are in a table of their own, as those of `list` are.
-use crate::tables::{Takes, Word};
+// The words of `ask`.
+use crate::ask_help::ASK_HELP;
+use crate::list_tables::JSON;
+use crate::tables::{ARCHIVE, CommandWords, NO_WAIT, Takes, Word};
+
+pub(crate) static ASK: CommandWords = CommandWords {
+    name: "ask",
+    about: "carries out one line of a script over an archive, and writes its reply; the status is 1 where it is refused",
+    after_help: Some(ASK_HELP),
+    words: &[ARCHIVE, LINE, JSON, NO_WAIT, TEXT, PLAIN],
+};
+
+// The words of a line.
+const LINE: Word = Word {
+    id: "words",
+    shown: "WORD",
+    takes: Takes::Words(1),
+    default: None,
+    help: "the line, as `delete 3`, `pin 3`, `retire keep=10` or `free`",
+};
 
 // What `find` looks for.
-pub(crate) const TEXT: Word = Word {
+const TEXT: Word = Word {
     id: "text",
     shown: "TEXT",
     takes: Takes::Text,
@@ -11,10 +29,10 @@ pub(crate) const TEXT: Word = Word {
 };
 
 // Whether people read the reply.
-pub(crate) const PLAIN: Word = Word {
+const PLAIN: Word = Word {
     id: "plain",
     shown: "",
-    takes: Takes::Flag,
+    takes: Takes::FlagWithoutJson,
     default: None,
     help: "tells the reply for people: what it has as \\xHH is the byte itself, if that is a space or prints",
 };

@@ -1,35 +1,35 @@
 // The commands that care for an archive.
-use crate::tables::{ARCHIVE, CommandWords, NO_WAIT, Takes, Word};
+use crate::tables::{ARCHIVE, CommandWords, NEW_BLOCKS, NO_WAIT, Takes, Word};
 
-// They are a table of their own: one table of all commands is too large for the prover.
-pub(crate) static CARE_COMMANDS: [CommandWords; 4] = [
-    CommandWords {
-        name: "check",
-        about: "tells what an archive holds and that it is sound, or where it is damaged",
-        after_help: None,
-        words: &[ARCHIVE, IMAGES, NO_WAIT],
-    },
-    CommandWords {
-        name: "copy",
-        about: "copies an archive into a new file, each case under its number; its size may be another",
-        after_help: None,
-        words: &[
-            ARCHIVE, NEW, NEW_HALF, NEW_DATA, NEW_LAYOUT, NEW_SPARSE, NO_WAIT, QUIET,
-        ],
-    },
-    CommandWords {
-        name: "resize",
-        about: "makes an archive larger or smaller: copies it into a file beside it, which takes its place",
-        after_help: None,
-        words: &[ARCHIVE, NEW_HALF, NEW_DATA, NEW_SPARSE, NO_WAIT, QUIET],
-    },
-    CommandWords {
-        name: "salvage",
-        about: "copies the cases of a damaged archive into a new file, and tells of each whether it is whole",
-        after_help: None,
-        words: &[ARCHIVE, NEW, NO_WAIT, QUIET],
-    },
-];
+pub(crate) static CHECK: CommandWords = CommandWords {
+    name: "check",
+    about: "tells what an archive holds and that it is sound, or where it is damaged",
+    after_help: None,
+    words: &[ARCHIVE, IMAGES, NO_WAIT],
+};
+
+pub(crate) static COPY: CommandWords = CommandWords {
+    name: "copy",
+    about: "copies an archive into a new file, each case under its number; its size may be another",
+    after_help: None,
+    words: &[
+        ARCHIVE, NEW, NEW_HALF, NEW_DATA, NEW_LAYOUT, NEW_SPARSE, NO_WAIT, QUIET,
+    ],
+};
+
+pub(crate) static RESIZE: CommandWords = CommandWords {
+    name: "resize",
+    about: "makes an archive larger or smaller: copies it into a file beside it, which takes its place",
+    after_help: None,
+    words: &[ARCHIVE, NEW_HALF, NEW_DATA, NEW_SPARSE, NO_WAIT, QUIET],
+};
+
+pub(crate) static SALVAGE: CommandWords = CommandWords {
+    name: "salvage",
+    about: "copies the cases of a damaged archive into a new file, and tells of each whether it is whole",
+    after_help: None,
+    words: &[ARCHIVE, NEW, NO_WAIT, QUIET],
+};
 
 // Whether nothing is shown of how far it is.
 pub(crate) const QUIET: Word = Word {
@@ -62,7 +62,7 @@ const NEW: Word = Word {
 const NEW_HALF: Word = Word {
     id: "half",
     shown: "N",
-    takes: Takes::NewBlocks,
+    takes: NEW_BLOCKS,
     default: None,
     help: "blocks of 4096 bytes in each half of the new journal; as many as there are, if this is left out",
 };
@@ -71,7 +71,7 @@ const NEW_HALF: Word = Word {
 const NEW_DATA: Word = Word {
     id: "data",
     shown: "N",
-    takes: Takes::NewBlocks,
+    takes: NEW_BLOCKS,
     default: None,
     help: "data blocks of 4096 bytes of the new archive; as many as there are, if this is left out",
 };
@@ -80,7 +80,7 @@ const NEW_DATA: Word = Word {
 const NEW_LAYOUT: Word = Word {
     id: "layout",
     shown: "VERSION",
-    takes: Takes::NewLayout,
+    takes: Takes::Within(2, 2),
     default: None,
     help: "2: the copy keeps labels, whatever the archive's version is",
 };

@@ -1,42 +1,24 @@
 // The grammar of the program's words: what the tables say of them.
-use crate::ask_tables::{PLAIN, TEXT};
-use crate::care_tables::CARE_COMMANDS;
-use crate::info_tables::INFO_COMMANDS;
-use crate::length_table::LENGTH;
-use crate::list_tables::LIST_WORDS;
-use crate::tables::{COMMANDS, CommandWords, Takes, Word};
-use clap::{Arg, ArgAction, Command, Error, value_parser};
+use crate::commands::commands;
+use crate::tables::{CommandWords, Takes, Word};
+use clap::builder::ValueParser;
+use clap::{Arg, ArgAction, ArgMatches, Command, Error};
 use std::alloc::Global;
 
-/// The program and its commands, as `clap` reads them.
-///
-/// # Errors
-///
-/// The error of `clap` if there is no memory for them.
-pub fn program<'a>(alloc: Global) -> Result<Command<'a>, Error> {
-    let mut command = whole_program(alloc)?;
-    for words in &COMMANDS {
-        command = command.subcommand(whole_command(alloc, words)?)?;
-    }
-    with_care(alloc, with_info(alloc, command)?)
+// What these words are by the grammar.
+pub(crate) fn matches_of<'a>(alloc: Global, words: &'a [String]) -> Result<ArgMatches<'a>, Error> {
+    let subcommands = subcommands_of(alloc)?;
+    whole_program(alloc)?
+        .subcommands(subcommands)?
+        .try_get_matches_from(words)
 }
 
-// The same with `info`.
-fn with_info<'a>(alloc: Global, command: Command<'a>) -> Result<Command<'a>, Error> {
-    let mut command = command;
-    for words in &INFO_COMMANDS {
-        command = command.subcommand(command_of(alloc, words)?)?;
+fn subcommands_of<'a>(alloc: Global) -> Result<Vec<Command<'a>>, Error> {
+    let mut subcommands = Vec::new(alloc);
+    for words in commands() {
+        subcommands.push(command_of(alloc, words)?)?;
     }
-    Ok(command)
-}
-
-// The same with the commands that care for an archive.
-fn with_care<'a>(alloc: Global, command: Command<'a>) -> Result<Command<'a>, Error> {
-    let mut command = command;
-    for words in &CARE_COMMANDS {
-        command = command.subcommand(command_of(alloc, words)?)?;
-    }
-    Ok(command)
+    Ok(subcommands)
 }
 
 // What help shows after the commands.
@@ -45,99 +27,85 @@ const STATUSES: &str =
      (`no REASON` on standard output, of `extract` on standard error) or a session ends before its script \
      (`fault NAME` on standard error); 2 where these words are refused.";
 
+static PROGRAM: CommandWords = CommandWords {
+    name: "corekeep",
+    about: "keeps images of programs and their memory as numbered cases in an archive",
+    after_help: Some(STATUSES),
+    words: &[],
+};
+
 // The program, before its commands.
 fn whole_program<'a>(alloc: Global) -> Result<Command<'a>, Error> {
     Ok(
-        named_program(alloc)?
-            .after_help(STATUSES)
+        command_of(alloc, &PROGRAM)?
+            .bin_name("corekeep")?
+            .version("0.1.0, archives of layout versions 1 and 2")
             .no_binary_name(true)
             .subcommand_required(true),
     )
 }
 
-// The program's name, its version and what it is for.
-fn named_program<'a>(alloc: Global) -> Result<Command<'a>, Error> {
-    let command = Command::new(alloc, "corekeep")
-        .bin_name("corekeep")?
-        .version("0.1.0, archives of layout versions 1 and 2")
-        .about("keeps images of programs and their memory as numbered cases in an archive");
-    Ok(command)
-}
-
-// A command and all of its words.
-fn whole_command<'a>(alloc: Global, words: &CommandWords) -> Result<Command<'a>, Error> {
-    let command = command_of(alloc, words)?;
-    match words.name {
-        "list" => with_list_words(alloc, command),
-        "ask" => with_ask_words(alloc, command),
-        "store" | "handle" => Ok(command.arg(argument(alloc, &LENGTH))?),
-        _ => Ok(command),
-    }
-}
-
-// The reply is told as JSON or for people, not as both.
-fn with_ask_words<'a>(alloc: Global, command: Command<'a>) -> Result<Command<'a>, Error> {
-    let plain = argument(alloc, &PLAIN).conflicts_with("json")?;
-    let command = command.arg(argument(alloc, &TEXT))?;
-    Ok(command.arg(plain)?)
-}
-
-fn with_list_words<'a>(alloc: Global, command: Command<'a>) -> Result<Command<'a>, Error> {
-    let mut command = command;
-    for word in &LIST_WORDS {
-        command = command.arg(argument(alloc, word))?;
-    }
-    Ok(command)
-}
-
-// A command and its words in the table of commands.
+// A command and its words.
 fn command_of<'a>(alloc: Global, words: &CommandWords) -> Result<Command<'a>, Error> {
-    let mut command = Command::new(alloc, words.name).about(words.about);
-    if let Some(help) = words.after_help {
-        command = command.after_help(help);
+    let arguments = arguments_of(alloc, words.words)?;
+    let command = Command::new(alloc, words.name)
+        .about(words.about)
+        .args(arguments)?;
+    match words.after_help {
+        Some(help) => Ok(command.after_help(help)),
+        None => Ok(command),
     }
-    for word in words.words {
-        command = command.arg(argument(alloc, word))?;
+}
+
+fn arguments_of<'a>(alloc: Global, words: &[Word]) -> Result<Vec<Arg<'a>>, Error> {
+    let mut arguments = Vec::new(alloc);
+    for word in words {
+        arguments.push(argument(alloc, word)?)?;
     }
-    Ok(command)
+    Ok(arguments)
 }
 
 // A word of a command.
-fn argument<'a>(alloc: Global, word: &Word) -> Arg<'a> {
-    let argument = Arg::new(alloc, word.id).help(word.help);
+fn argument<'a>(alloc: Global, word: &Word) -> Result<Arg<'a>, Error> {
+    let argument = Arg::new(alloc, word.id)
+        .help(word.help)
+        .action(action_of(word.takes));
     match word.takes {
-        Takes::Flag => argument.long(word.id).action(ArgAction::SetTrue),
-        Takes::Words => several(argument.value_name(word.shown))
-            .num_args(1..)
-            .required(true),
-        Takes::Pairs => several(argument.value_name(word.shown)).num_args(0..),
-        Takes::Place => argument
-            .value_name(word.shown)
-            .required(true)
-            .action(ArgAction::Set),
-        Takes::NewPlace => argument.value_name(word.shown).action(ArgAction::Set),
-        Takes::Text => named(argument, word),
-        Takes::Blocks => named(argument, word)
-            .required(true)
-            .value_parser(value_parser!(u32)),
-        Takes::NewBlocks => named(argument, word).value_parser(value_parser!(u32)),
-        Takes::NewLayout => named(argument, word).value_parser(value_parser!(u32).range(2..=2)),
-        Takes::Bytes => named(argument, word).value_parser(value_parser!(u64)),
-        Takes::Layout => named(argument, word).value_parser(value_parser!(u32).range(1..=2)),
+        Takes::Flag => Ok(argument.long(word.id)),
+        Takes::FlagWithoutJson => Ok(argument.long(word.id).conflicts_with("json")?),
+        Takes::Place => Ok(argument.value_name(word.shown).required(true)),
+        Takes::NewPlace => Ok(argument.value_name(word.shown)),
+        Takes::Words(least) => Ok(
+            argument
+                .value_name(word.shown)
+                .num_args(least..)
+                .required(least > 0),
+        ),
+        Takes::Text => Ok(named(argument, word)),
+        Takes::Blocks => Ok(
+            named(argument, word)
+                .value_parser(ValueParser::signed(0, 4_294_967_295))
+                .required(true),
+        ),
+        Takes::Within(least, most) => Ok(named(argument, word).value_parser(ValueParser::signed(
+            least, most,
+        ))),
+        Takes::Bytes => Ok(named(argument, word).value_parser(ValueParser::unsigned(0, u64::MAX))),
     }
 }
 
-// A word that may be there several times.
-fn several<'a>(argument: Arg<'a>) -> Arg<'a> {
-    argument.action(ArgAction::Append)
+// What its uses do.
+fn action_of(takes: Takes) -> ArgAction {
+    match takes {
+        Takes::Flag | Takes::FlagWithoutJson => ArgAction::SetTrue,
+        Takes::Words(_) => ArgAction::Append,
+        _ => ArgAction::Set,
+    }
 }
 
 // A value after its name.
 fn named<'a>(argument: Arg<'a>, word: &Word) -> Arg<'a> {
-    let argument = argument
-        .long(word.id)
-        .value_name(word.shown)
-        .action(ArgAction::Set);
+    let argument = argument.long(word.id).value_name(word.shown);
     match word.default {
         Some(value) => argument.default_value(value),
         None => argument,

@@ -1,7 +1,5 @@
 // `corekeep help LINE`: what a line of a script is for.
-use crate::care_tables::CARE_COMMANDS;
-use crate::info_tables::INFO_COMMANDS;
-use crate::tables::COMMANDS;
+use crate::commands::commands;
 use line_help::{LineHelp, help_of, rows_of};
 use script_streams::{Output, Reply, StreamFault};
 
@@ -55,15 +53,12 @@ pub fn usage_told(name: &str) -> &'static str {
 }
 
 fn is_command(name: &str) -> bool {
-    COMMANDS.iter().any(|command| command.name == name) || informs(name) || cares(name)
-}
-
-fn informs(name: &str) -> bool {
-    INFO_COMMANDS.iter().any(|command| command.name == name)
-}
-
-fn cares(name: &str) -> bool {
-    CARE_COMMANDS.iter().any(|command| command.name == name)
+    for command in commands() {
+        if command.name == name {
+            return true;
+        }
+    }
+    false
 }
 
 /// Tells what a line is for.

@@ -1,13 +1,13 @@
-// The words of `info`. They are in a table of their own: one table of all commands is too large for the prover.
+// The words of `info`.
 use crate::list_tables::JSON;
 use crate::tables::{ARCHIVE, CommandWords, NO_WAIT, Takes, Word};
 
-pub(crate) static INFO_COMMANDS: [CommandWords; 1] = [CommandWords {
+pub(crate) static INFO: CommandWords = CommandWords {
     name: "info",
     about: "tells what is known of a case, on one screen, or of an archive",
     after_help: None,
     words: &[ARCHIVE, INFO_CASE, THREADS, JSON, NO_WAIT],
-}];
+};
 
 // The case that is shown.
 const INFO_CASE: Word = Word {

@@ -4,12 +4,13 @@
 mod ask_help;
 mod ask_tables;
 mod care_tables;
+mod commands;
 mod contexts;
+mod given;
 mod grammar;
 mod handler_words;
 mod helps;
 mod info_tables;
-mod length_table;
 mod line_texts;
 mod list_tables;
 mod notes;
@@ -22,7 +23,7 @@ mod watched;
 mod wrong_words;
 
 pub use contexts::{Context, context_of, meaning_when};
-pub use grammar::program;
+pub use given::{Given, Unread};
 pub use handler_words::in_order;
 pub use helps::{
     asked_help, line_in_place_of_a_command, tell_help, tell_how_it_is_asked, usage_told,

@@ -1,10 +1,15 @@
-// The words of `list`. They are in a table of their own: what looks through the table of commands would else take too long to prove.
-use crate::tables::{Takes, Word};
+// The words of `list`.
+use crate::tables::{ARCHIVE, CommandWords, NO_WAIT, Takes, Word};
 
-// The words of `list` but for those that `look` takes too.
-pub(crate) static LIST_WORDS: [Word; 10] = [
-    JSON, KIND, NAME_PART, PID, SIGNAL, SINCE, UNTIL, LABEL_PART, PINNED, LAST,
-];
+pub(crate) static LIST: CommandWords = CommandWords {
+    name: "list",
+    about: "lists the cases of an archive",
+    after_help: None,
+    words: &[
+        ARCHIVE, NO_WAIT, JSON, KIND, NAME_PART, PID, SIGNAL, SINCE, UNTIL, LABEL_PART, PINNED,
+        LAST,
+    ],
+};
 
 // Whether it is told as JSON.
 pub(crate) const JSON: Word = Word {

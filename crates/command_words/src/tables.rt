@@ -1,7 +1,5 @@
 // The program's commands and their words, as tables.
-use crate::ask_help::ASK_HELP;
 use crate::care_tables::QUIET;
-use crate::list_tables::JSON;
 
 // What replaces a word.
 #[derive(Clone, Copy)]
@@ -10,25 +8,24 @@ pub(crate) enum Takes {
     Place,
     // A word that may be left out.
     NewPlace,
-    // One word or more.
-    Words,
-    // Any number of words.
-    Pairs,
+    // At least so many words.
+    Words(usize),
     // Its name, or nothing.
     Flag,
+    // The same, and not beside `--json`.
+    FlagWithoutJson,
     // A text after its name.
     Text,
     // A number below 2^32 after its name, which has to be there.
     Blocks,
-    // The same, which may be left out.
-    NewBlocks,
-    // 2 after its name.
-    NewLayout,
+    // A number after its name, from one to another.
+    Within(i64, i64),
     // A number below 2^64 after its name.
     Bytes,
-    // 1 or 2 after its name.
-    Layout,
 }
+
+// A number below 2^32 after its name, which may be left out.
+pub(crate) const NEW_BLOCKS: Takes = Takes::Within(0, 4_294_967_295);
 
 // A word of a command: how the program knows it, how help shows its value, and what it takes where it is left out.
 pub(crate) struct Word {
@@ -48,68 +45,59 @@ pub(crate) struct CommandWords {
     pub(crate) words: &'static [Word],
 }
 
-// The commands, in the order in which help shows them.
-pub(crate) static COMMANDS: [CommandWords; 9] = [
-    CommandWords {
-        name: "format",
-        about: "makes an archive in a new file, with no case in it",
-        after_help: None,
-        words: &[NEW_ARCHIVE, SPARSE, LAYOUT, HALF, DATA, QUIET],
-    },
-    CommandWords {
-        name: "run",
-        about: "runs the script on standard input over an archive, and writes its replies to standard output",
-        after_help: None,
-        words: &[ARCHIVE, NO_WAIT, TEMPLATE, USES_PID, LIMIT],
-    },
-    CommandWords {
-        name: "store",
-        about: "stores a core file as a case of an archive, named by the template, or an executable",
-        after_help: None,
-        words: &[
-            ARCHIVE, FILE, PAIRS, EXEC, PIN, LABEL, ESCAPE, KEEP, BYTES, BEFORE, FIT, CUT, NO_WAIT,
-            TEMPLATE, USES_PID, LIMIT, LOG, QUIET,
-        ],
-    },
-    CommandWords {
-        name: "handle",
-        about: "stores a core from standard input as a configuration says, and tells its outcome to a log: the kernel's handler",
-        after_help: None,
-        words: &[HANDLER_PAIRS, HANDLER_ARCHIVE, CHECK],
-    },
-    CommandWords {
-        name: "list",
-        about: "lists the cases of an archive",
-        after_help: None,
-        words: &[ARCHIVE, NO_WAIT],
-    },
-    CommandWords {
-        name: "ask",
-        about: "carries out one line of a script over an archive, and writes its reply; the status is 1 where it is refused",
-        after_help: Some(ASK_HELP),
-        words: &[ARCHIVE, LINE, JSON, NO_WAIT],
-    },
-    CommandWords {
-        name: "look",
-        about: "answers the lines on standard input that change nothing, while others may store cores",
-        after_help: Some(
-            "It ends with its input: on a terminal by Ctrl-D. `ask --help` lists the lines.",
-        ),
-        words: &[ARCHIVE, NO_WAIT],
-    },
-    CommandWords {
-        name: "extract",
-        about: "writes the image of a case, byte for byte, and nothing else; what is refused is told on standard error",
-        after_help: None,
-        words: &[ARCHIVE, CASE, NEW_FILE, NO_WAIT, QUIET],
-    },
-    CommandWords {
-        name: "memory",
-        about: "runs the script on standard input over a fresh archive in memory, which is gone at its end",
-        after_help: None,
-        words: &[HALF, DATA, TEMPLATE, USES_PID, LIMIT],
-    },
-];
+pub(crate) static FORMAT: CommandWords = CommandWords {
+    name: "format",
+    about: "makes an archive in a new file, with no case in it",
+    after_help: None,
+    words: &[NEW_ARCHIVE, SPARSE, LAYOUT, HALF, DATA, QUIET],
+};
+
+pub(crate) static RUN: CommandWords = CommandWords {
+    name: "run",
+    about: "runs the script on standard input over an archive, and writes its replies to standard output",
+    after_help: None,
+    words: &[ARCHIVE, NO_WAIT, TEMPLATE, USES_PID, LIMIT],
+};
+
+pub(crate) static STORE: CommandWords = CommandWords {
+    name: "store",
+    about: "stores a core file as a case of an archive, named by the template, or an executable",
+    after_help: None,
+    words: &[
+        ARCHIVE, FILE, PAIRS, EXEC, PIN, LABEL, ESCAPE, KEEP, BYTES, BEFORE, FIT, CUT, NO_WAIT,
+        TEMPLATE, USES_PID, LIMIT, LOG, QUIET, LENGTH,
+    ],
+};
+
+pub(crate) static HANDLE: CommandWords = CommandWords {
+    name: "handle",
+    about: "stores a core from standard input as a configuration says, and tells its outcome to a log: the kernel's handler",
+    after_help: None,
+    words: &[HANDLER_PAIRS, HANDLER_ARCHIVE, CHECK, LENGTH],
+};
+
+pub(crate) static LOOK: CommandWords = CommandWords {
+    name: "look",
+    about: "answers the lines on standard input that change nothing, while others may store cores",
+    after_help: Some(
+        "It ends with its input: on a terminal by Ctrl-D. `ask --help` lists the lines.",
+    ),
+    words: &[ARCHIVE, NO_WAIT],
+};
+
+pub(crate) static EXTRACT: CommandWords = CommandWords {
+    name: "extract",
+    about: "writes the image of a case, byte for byte, and nothing else; what is refused is told on standard error",
+    after_help: None,
+    words: &[ARCHIVE, CASE, NEW_FILE, NO_WAIT, QUIET],
+};
+
+pub(crate) static MEMORY: CommandWords = CommandWords {
+    name: "memory",
+    about: "runs the script on standard input over a fresh archive in memory, which is gone at its end",
+    after_help: None,
+    words: &[HALF, DATA, TEMPLATE, USES_PID, LIMIT],
+};
 
 // The file of an archive to be made.
 const NEW_ARCHIVE: Word = Word {
@@ -142,7 +130,7 @@ const SPARSE: Word = Word {
 const LAYOUT: Word = Word {
     id: "layout",
     shown: "VERSION",
-    takes: Takes::Layout,
+    takes: Takes::Within(1, 2),
     default: Some("1"),
     help: "the version of the layout: 1, which programs of before labels open too, or 2, which keeps labels",
 };
@@ -212,9 +200,9 @@ const FILE: Word = Word {
 
 // What is known of a core.
 const PAIRS: Word = Word {
-    id: "pairs",
+    id: "words",
     shown: "KEY=VALUE",
-    takes: Takes::Pairs,
+    takes: Takes::Words(0),
     default: None,
     help: "what is known of the core; KEY is comm, exe, host, pid, tid, sig, uid, gid, mode, time or limit, and a byte of a text outside 0x21 to 0x7e, or a backslash, is \\xHH, unless --escape is there",
 };
@@ -230,9 +218,9 @@ const LOG: Word = Word {
 
 // The configuration of a handler, and what is known of a core.
 const HANDLER_PAIRS: Word = Word {
-    id: "pairs",
+    id: "words",
     shown: "WORD",
-    takes: Takes::Pairs,
+    takes: Takes::Words(0),
     default: None,
     help: "the configuration's file (else /etc/corekeep.conf), and then KEY=VALUE as `store --escape` takes them; a pair that is none is told and left out",
 };
@@ -336,15 +324,6 @@ const CUT: Word = Word {
     help: "keeps the first bytes of FILE, if it has more than the limit or finds no room",
 };
 
-// The words of a line.
-const LINE: Word = Word {
-    id: "words",
-    shown: "WORD",
-    takes: Takes::Words,
-    default: None,
-    help: "the line, as `delete 3`, `pin 3`, `retire keep=10` or `free`",
-};
-
 // A case.
 const CASE: Word = Word {
     id: "case",
@@ -361,4 +340,13 @@ const NEW_FILE: Word = Word {
     takes: Takes::NewPlace,
     default: None,
     help: "a new file for the image, which goes to standard output where this is left out",
+};
+
+// How many bytes FILE has.
+const LENGTH: Word = Word {
+    id: "length",
+    shown: "N",
+    takes: Takes::Text,
+    default: None,
+    help: "what is stored has exactly N bytes: if it ends before, or goes on, nothing is stored (`no Short`, `no TooLong`)",
 };
