@@ -12,3 +12,4 @@ pub mod PieceLemmas
 pub mod MoreLemmas
 pub mod FramesLemmas
 pub mod BuildLemmas
+pub mod StoredLemmas

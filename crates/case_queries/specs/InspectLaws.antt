@@ -54,7 +54,7 @@ module _ {D : Type 0} (g : disk.Ghosts D) (old : Parts D) (seq : ℕ) (q : Query
   inspected new asks = of_archive new (state_of old).stopped refl asks
 
   -- what is asked of a case that may be asked
-  asked_kind : (kind : Kind) → MayAsk (state_of old) seq q kind → kind_asked (state_of old) seq q ≡ Ok kind
+  pub asked_kind : (kind : Kind) → MayAsk (state_of old) seq q kind → kind_asked (state_of old) seq q ≡ Ok kind
   asked_kind kind may =
       ap (λ (b : Bool). cond b (Err (codes "Stopped")) (kind_found q (case_numbered seq (state_of old).cases))) may.runs
       ∙ ap (kind_found q) may.has ∙ may.asked

@@ -14,3 +14,4 @@ pub mod PieceWords
 pub mod Pieces
 pub mod FrontIds
 pub mod Finding
+pub mod Stored
