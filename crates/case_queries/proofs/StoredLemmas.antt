@@ -1,7 +1,7 @@
 -- A line that may ask a case is answered of what is stored.
-use Rattle.std.proofs.Common.{◌≡◌, ◌⊎◌, inl, inr, ⊎_elim, ℕ, ◌-◌, ◌^◌, ◌<◌, ◌≤◌, ◌==◌, Bool, true, false, cond, List, [], ◌∷◌, length, map, Option, None, Some, Result, Ok, Err, refl, sym, ap, subst, ◌∙◌, arith}
+use Rattle.std.proofs.Common.{◌≡◌, ◌⊎◌, inl, inr, ⊎_elim, ℕ, ◌-◌, ◌^◌, ◌≤◌, ◌==◌, Bool, true, false, cond, List, [], ◌∷◌, map, Option, None, Some, Result, Ok, Err, refl, sym, ap, subst, ◌∙◌, arith}
 use Rattle.std.proofs.lemmas.Bool.{cases_lt, eq-eqb, false≢true}
-use Rattle.std.specs.Prelude.{IsTrue, option_map}
+use Rattle.std.specs.Prelude.{IsTrue}
 use Rattle.std.specs.List.{All, filter}
 use Rattle.std.proofs.lemmas.List.Elements.{All-cons, All-head, All-nil, All-tail, All-weaker}
 use Rattle.address_space.specs.Source.{ExecutableView}
@@ -9,6 +9,7 @@ use Rattle.archive_replies.specs.Reasons.{reason_of}
 use Rattle.disk_model.specs.Disk.{HasRisen}
 use Rattle.disk_model.specs.declared.disk.Disk as disk
 use Rattle.image_replies.specs.Core.{core_fault_of}
+use Rattle.image_replies.specs.Reasons.{core_reason}
 use Rattle.image_replies.specs.declared.core_image.CoreFault.{CoreFault}
 use Rattle.intake.specs.Blocks.{image_in}
 use Rattle.intake.specs.Contents.{Contents, image_at}
@@ -22,12 +23,12 @@ use Rattle.journal_layout.specs.declared.entry.Kind.{Kind}
 use Rattle.script_lines.specs.Queries.{QuerySaid, ask_symbol}
 use Rattle.script_streams.specs.Replies.{no_reply, reply_of}
 use Rattle.memory_replies.specs.Answers.{memory_reply}
-use Rattle.case_queries.specs.Collecting.{Collects, CollectsAll, Wanted, is_wanted, wanted_case, wanted_of, with_executable}
+use Rattle.case_queries.specs.Collecting.{Collects, Wanted, is_wanted, wanted_case, wanted_of}
 use Rattle.case_queries.specs.InspectLaws.{asked_kind, steps_of}
 use Rattle.case_queries.specs.Inspecting.{MayAsk, Told, answer_of, reads_executables}
 use Rattle.case_queries.specs.Seeing.{LooksAt, SeesImage}
 use Rattle.case_queries.specs.Steps.{Asks, ShowsBy, ShowsCore, ShowsWithExecutables}
-use Rattle.case_queries.specs.Stored.{AnswersAreOfTheCase, AreStored, IsAnsweredOfTheCase, IsHindered, IsStored, of_core, of_fault, of_image}
+use Rattle.case_queries.specs.Stored.{AnswersAreOfTheCase, AreStored, IsAnsweredOfTheCase, IsHindered, IsStored, WhatIsStoredHasOneAnswer, of_core, of_fault, of_image}
 
 -- the case of a number has its own image
 abbrev HasImage : ℕ → (Case → List ℕ) → List Case → List ℕ → Type 0
@@ -179,3 +180,41 @@ module _ {D : Type 0} (g : disk.Ghosts D) where
   pub answered : AnswersAreOfTheCase g
   answered old new seq q kind reply honest may inspects =
       asked old new seq q kind reply honest may (subst (λ (k : Result Kind (List ℕ)). Asks g old seq q k reply new) (asked_kind g old seq q reply kind may) (steps_of g old seq q reply new inspects))
+
+  -- What is stored under a number is one image.
+  one_image : (a : Parts D) (seq : ℕ) (i j : List ℕ) → IsStored g.seen a seq i → IsStored g.seen a seq j → j ≡ i
+  one_image a seq i j x y =
+      let cases : Some y.entry ≡ Some x.entry = sym y.has ∙ x.has in
+      let same : y.entry ≡ x.entry = cc in
+      y.bytes ∙ ap (λ (c : Case). image_in (state_of a).shape (g.seen a.disk) c.blocks c.len) same ∙ sym x.bytes
+
+  one_list : (a : Parts D) (ws : List Wanted) (xs ys : List ExecutableView) → AreStored g.seen a ws xs → AreStored g.seen a ws ys → ys ≡ xs
+  one_list a [] xs ys p q = q ∙ sym p
+  one_list a (w ∷ ws) [] ys p q = absurd p
+  one_list a (w ∷ ws) (x ∷ xs) [] p q = absurd q
+  one_list a (w ∷ ws) (x ∷ xs) (y ∷ ys) p q =
+      let path : y.path ≡ x.path = q.0 ∙ sym p.0 in
+      let image : y.image ≡ x.image = one_image a w.0 x.image y.image p.1 q.1 in
+      let head : y ≡ x =
+      ap (λ (n : List ℕ). record { path = n; image = y.image }) path ∙ ap (λ (i : List ℕ). record { path = x.path; image = i }) image in
+      ap (λ (z : ExecutableView). z ∷ ys) head ∙ ap (λ (zs : List ExecutableView). x ∷ zs) (one_list a ws xs ys p.2 q.2)
+
+  pub one : WhatIsStoredHasOneAnswer g
+  one a seq q kind reply reply' (of_image i x off told) (of_image j y off' told') =
+      told' ∙ ap (λ (b : List ℕ). reply_of (answer_of kind q b [])) (one_image a seq i j x y) ∙ sym told
+  one a seq q kind reply reply' (of_image i x off told) (of_fault j y on fault is told') = absurd (false≢true (sym off ∙ on))
+  one a seq q kind reply reply' (of_image i x off told) (of_core j y on sound xs are told') = absurd (false≢true (sym off ∙ on))
+  one a seq q kind reply reply' (of_fault i x on fault is told) (of_image j y off told') = absurd (false≢true (sym off ∙ on))
+  one a seq q kind reply reply' (of_fault i x on fault is told) (of_fault j y on' fault' is' told') =
+      let faults : Some fault' ≡ Some fault = sym is' ∙ ap core_fault_of (one_image a seq i j x y) ∙ is in
+      let same : fault' ≡ fault = cc in
+      told' ∙ ap (λ (f : CoreFault). no_reply (core_reason f)) same ∙ sym told
+  one a seq q kind reply reply' (of_fault i x on fault is told) (of_core j y on' sound xs are told') =
+      absurd (let e : None ≡ Some fault = sym sound ∙ ap core_fault_of (one_image a seq i j x y) ∙ is in cc)
+  one a seq q kind reply reply' (of_core i x on sound xs are told) (of_image j y off told') = absurd (false≢true (sym off ∙ on))
+  one a seq q kind reply reply' (of_core i x on sound xs are told) (of_fault j y on' fault is told') =
+      absurd (let e : None ≡ Some fault = sym sound ∙ sym (ap core_fault_of (one_image a seq i j x y)) ∙ is in cc)
+  one a seq q kind reply reply' (of_core i x on sound xs are told) (of_core j y on' sound' ys are' told') =
+      let image = one_image a seq i j x y in
+      let list = one_list a (wanted_of i (state_of a).cases) xs ys are (subst (λ (b : List ℕ). AreStored g.seen a (wanted_of b (state_of a).cases) ys) image are') in
+      told' ∙ ap (λ (b : List ℕ). reply_of (answer_of kind q b ys)) image ∙ ap (λ (zs : List ExecutableView). reply_of (answer_of kind q i zs)) list ∙ sym told

@@ -54,3 +54,9 @@ abbrev pub AnswersAreOfTheCase : {D : Type 0} → disk.Ghosts D → Type 0
 AnswersAreOfTheCase {D} g =
     (old new : Parts D) (seq : ℕ) (q : QuerySaid) (kind : Kind) (reply : List ℕ) → IsTrue (g.is_honest old.disk) → MayAsk (state_of old) seq q kind
     → Inspects g old seq q reply new → IsAnsweredOfTheCase g.seen old seq q kind reply ⊎ IsHindered g old reply new
+
+-- And what is stored has one such answer.
+abbrev pub WhatIsStoredHasOneAnswer : {D : Type 0} → disk.Ghosts D → Type 0
+WhatIsStoredHasOneAnswer {D} g =
+    (a : Parts D) (seq : ℕ) (q : QuerySaid) (kind : Kind) (reply reply' : List ℕ) → IsAnsweredOfTheCase g.seen a seq q kind reply → IsAnsweredOfTheCase g.seen a seq q kind reply'
+    → reply' ≡ reply

@@ -1,10 +1,12 @@
 // What the definitions that the contracts cite say together.
-ghost use Rattle.case_queries.specs.Stored.{AnswersAreOfTheCase};
+ghost use Rattle.case_queries.specs.Stored.{AnswersAreOfTheCase, WhatIsStoredHasOneAnswer};
 
 use disk_model::Disk;
 
 /// On an honest disk a line that may ask a case is answered of the bytes that the case's image has, each at its place, and of the
-/// executables as they are stored; or the reply is `no OutOfMemory` or `no Disk`. It does nothing.
+/// executables as they are stored; or the reply is `no OutOfMemory` or `no Disk`. And what is stored has one such answer. It does
+/// nothing.
 pub fn answers_are_of_the_case<D: Disk>()
-    ensures { AnswersAreOfTheCase D.Disk }
+    ensures answered { AnswersAreOfTheCase D.Disk }
+    ensures one { WhatIsStoredHasOneAnswer D.Disk }
 {}
