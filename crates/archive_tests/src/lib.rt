@@ -5,7 +5,11 @@
 #[cfg(test)]
 mod bench;
 #[cfg(test)]
+mod compactions;
+#[cfg(test)]
 mod courses;
+#[cfg(test)]
+mod disks;
 #[cfg(test)]
 mod refused;
 #[cfg(test)]

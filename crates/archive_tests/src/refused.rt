@@ -2,6 +2,7 @@
 //! refuses each allocation in turn, and then a test that has met one ends in an error of its own.
 use crate::bench::{SETTINGS, SHAPE, formatted, fresh, has_image, is_image, opened};
 use crate::rows::{Call, OK, Row, answers_on, has_cases, is_free, make};
+use case_journal::{Journal, JournalFault};
 use disk_model::{Disk, MemDisk};
 use intake::{Archive, ArchiveFault};
 use journal_layout::OpenFault;
@@ -129,20 +130,46 @@ fn is_one_refused<D: Disk>(rt: &impl Abort, archive: &mut Archive<D>) -> Result<
     Ok(refused)
 }
 
+/// The journal on a disk is written anew, the second time where memory was refused: then it is as before. Answers whether it was.
+fn is_compaction_refused(
+    rt: &(impl AllocGlobal + Abort),
+    disk: &mut MemDisk,
+) -> Result<bool, Fail> {
+    let Ok(found) = Journal::open(rt.alloc(), disk) else {
+        return Err(Fail::from("the journal was not opened"));
+    };
+    let mut journal = found.journal;
+    let used = journal.use_bytes();
+    match journal.compact(disk) {
+        Ok(()) => Ok(false),
+        Err(JournalFault::Disk) => Err(Fail::from("the disk in memory found none for a write")),
+        Err(fault) => {
+            assert_eq!(rt;
+                (fault, journal.use_bytes()),
+                (JournalFault::OutOfMemory, used)
+            );
+            assert_eq!(rt; journal.compact(disk), Ok(()));
+            Ok(true)
+        }
+    }
+}
+
 #[test]
 fn a_refused_call_is_made_the_next_time(rt: HostRuntime) -> Result<(), Fail> {
     let (mut archive, first) = opened_at_last(&rt, formatted(rt.alloc(), SHAPE)?)?;
     let second = is_one_refused(&rt, &mut archive)?;
-    let (archive, third) = opened_at_last(&rt, archive.close())?;
+    let mut disk = archive.close();
+    let third = is_compaction_refused(&rt, &mut disk)?;
+    let (archive, fourth) = opened_at_last(&rt, disk)?;
     assert!(rt; has_cases(&archive, &[(1, true), (4, false)]) && is_free(&archive, 1));
-    if first || second || third {
+    if first || second || third || fourth {
         Err("a call was refused, and accepted the next time")?;
     }
     Ok(())
 }
 
 /// From here on `scripts/fail-alloc` refuses all memory in a run of its own: it knows the place by the size that is asked for.
-fn no_memory_from_here(alloc: Global) -> Result<(), AllocError> {
+pub fn no_memory_from_here(alloc: Global) -> Result<(), AllocError> {
     let _mark: Vec<u8> = Vec::with_capacity(alloc, 54_321)?;
     Ok(())
 }
@@ -172,5 +199,18 @@ fn bytes_looks_and_refusals_take_no_memory(rt: HostRuntime) -> Result<(), Fail> 
     no_memory_from_here(rt.alloc())?;
     answers_on(&rt, &mut archive, &WITHOUT_MEMORY)?;
     assert_eq!(rt; Ok(archive.close().length()), SHAPE.length());
+    Ok(())
+}
+
+#[test]
+fn looks_at_a_journal_take_no_memory(rt: HostRuntime) -> Result<(), Fail> {
+    let mut disk = formatted(rt.alloc(), SHAPE)?;
+    let Ok(found) = Journal::open(rt.alloc(), &mut disk) else {
+        return Err(Fail::from("the journal was not opened"));
+    };
+    no_memory_from_here(rt.alloc())?;
+    let journal = &found.journal;
+    assert_eq!(rt; (journal.next_seq(), journal.use_bytes()), (1, 32));
+    assert!(rt; journal.entries().is_empty() && journal.shape() == SHAPE);
     Ok(())
 }

@@ -2,6 +2,7 @@
 use crate::bench::{
     SETTINGS, begin, crashed, has_image, is_image, label, name_of, opened, put, put_nothing, store,
 };
+use crate::compactions::is_written_anew;
 use crate::courses::Course;
 use crate::script::{Image, SHAPE, State, Step};
 use disk_model::{Disk, Fuse, MemDisk, OneFault, Pick};
@@ -12,11 +13,11 @@ use std::alloc::Global;
 use std::process::Abort;
 use std::test::Fail;
 
-// Of what was written since the last sync nothing is left, or its first bytes, or all of it.
-static CUT: [Pick; 3] = [Pick::Nothing, Pick::FirstHalf, Pick::Whole];
+/// Of what was written since the last sync nothing is left, or its first bytes, or all of it.
+pub static CUT: [Pick; 3] = [Pick::Nothing, Pick::FirstHalf, Pick::Whole];
 
-// In its place are the bytes of open gates, or others.
-static FILLED: [Pick; 2] = [Pick::Fill(0xa5), Pick::Fill(0x37)];
+/// In its place are the bytes of open gates, or others.
+pub static FILLED: [Pick; 2] = [Pick::Fill(0xa5), Pick::Fill(0x37)];
 
 // Begins the stream of an image.
 fn begin_image<D: Disk>(
@@ -83,18 +84,18 @@ fn take<D: Disk>(archive: &mut Archive<D>, step: &Step) -> Result<Result<(), Arc
     }
 }
 
-// How a run of the script ended.
+/// How a run of the script ended.
 #[derive(Clone, Copy)]
-enum Ending {
-    // All calls were made.
+pub enum Ending {
+    /// All calls were made.
     Whole,
-    // The disk failed: how many calls that change the cases were answered before, and how many there are with the one
-    // that failed.
+    /// The disk failed: how many calls that change the cases were answered before, and how many there are with the one
+    /// that failed.
     Failed { before: usize, after: usize },
 }
 
-// Makes the calls up to the first that the disk fails.
-fn run<D: Disk>(archive: &mut Archive<D>, course: Course) -> Result<Ending, Fail> {
+/// Makes the calls up to the first that the disk fails.
+pub fn run<D: Disk>(archive: &mut Archive<D>, course: Course) -> Result<Ending, Fail> {
     let mut done = 0usize;
     for step in course.steps() {
         let after = done.saturating_add(usize::from(step.changes()));
@@ -205,8 +206,8 @@ fn is_after<D: Disk>(archive: &mut Archive<D>, course: Course, done: usize) -> R
     Ok(true)
 }
 
-// Opens the archive, which shows the state after one of these numbers of changes.
-fn check_disk(
+/// Opens the archive, which shows the state after one of these numbers of changes.
+pub fn check_disk(
     alloc: Global,
     disk: MemDisk,
     course: Course,
@@ -220,8 +221,8 @@ fn check_disk(
     Err(Fail::from("the archive shows neither state"))
 }
 
-// The same of what each of these crashes leaves.
-fn check_crashes(
+/// The same of what each of these crashes leaves.
+pub fn check_crashes(
     alloc: Global,
     disk: &MemDisk,
     picks: &[Pick],
@@ -327,6 +328,7 @@ fn stop_after(
 ) -> Result<Option<usize>, Fail> {
     let disk = Fuse::new(crashed(begun, Pick::Nothing)?, limit);
     let (ending, disk) = open_and_run(alloc, disk, course)?;
+    let calls = disk.calls();
     let left = disk.into_inner();
     match ending {
         Ending::Whole => {
@@ -335,6 +337,9 @@ fn stop_after(
             Ok(None)
         }
         Ending::Failed { before, after } => {
+            if calls != limit.saturating_add(1) {
+                return Err(Fail::from("the disk was called after the stop"));
+            }
             check_crashes(alloc, &left, picks, course, before, after)?;
             Ok(Some(before))
         }
@@ -394,7 +399,8 @@ fn a_stop_within_an_upgrade_or_a_label_leaves_the_cases_from_before_or_after(
     stop_everywhere(rt.alloc(), Course::Labels, &FILLED)
 }
 
-// Fails this call of the disk alone. Answers how many changes were answered, or `None` where nothing failed.
+// Fails this call of the disk alone, and then has the journal written anew. Answers how many changes were answered, or `None`
+// where nothing failed.
 fn fault_at(
     alloc: Global,
     course: Course,
@@ -409,7 +415,12 @@ fn fault_at(
     if disk.calls() != call {
         return Err(Fail::from("the disk was called after the fault"));
     }
-    check_disk(alloc, disk.into_inner(), course, before, after)?;
+    let mut left = disk.into_inner();
+    check_disk(alloc, crashed(&left, Pick::Whole)?, course, before, after)?;
+    if !is_written_anew(alloc, &mut left)? {
+        return Err(Fail::from("the disk failed once more"));
+    }
+    check_disk(alloc, left, course, before, after)?;
     Ok(Some(before))
 }
 
