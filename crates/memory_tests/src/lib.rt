@@ -1,22 +1,16 @@
-//! Tests of the readers of images: what no line shows, calls that are refused memory or take none, and memory without tables. The
-//! lines that ask them are rows of `examples/rows`.
+//! Tests of the readers of images: what no line shows, calls that take no memory, and memory without tables. The lines that ask
+//! them are rows of `examples/rows`.
 #![tactic(auto)]
 
 #[cfg(test)]
 mod elf;
 #[cfg(test)]
-mod lookups;
-#[cfg(test)]
 mod memory;
 #[cfg(test)]
 mod notes;
-#[cfg(test)]
-mod refused;
 #[cfg(test)]
 mod registers;
 #[cfg(test)]
 mod shown;
 #[cfg(test)]
 mod small;
-#[cfg(test)]
-mod symbol_refused;

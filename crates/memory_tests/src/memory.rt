@@ -157,3 +157,20 @@ static CHAIN: [Look; 4] = [
 fn frames_lead_to_one_another(rt: HostRuntime) -> Result<(), Fail> {
     image_shows(&rt, &stack_core(rt.alloc())?, &CHAIN)
 }
+
+/// The link at 0x1000 leads to the frame pointer that it is below.
+static ROUND: [Dumped; 1] = [(
+    0x1000,
+    &[0x10, 0x10, 0, 0, 0, 0, 0, 0, 0, 5, 1, 0, 0, 0, 0, 0],
+)];
+
+static ROUND_ENDS: [Look; 1] = [Look::Frames(
+    0x1010,
+    &[(0x10400, 0x1010), (0x10500, 0x1010)],
+    Stop::NotRising,
+)];
+
+#[test]
+fn frames_that_do_not_rise_end(rt: HostRuntime) -> Result<(), Fail> {
+    core_shows(&rt, &ROUND, &ROUND_ENDS)
+}

@@ -1,7 +1,6 @@
 //! What tests compare of an address space.
 use address_space::{AddressSpace, FileSpot, Piece, PieceKind, Source};
 use backtrace::{Frames, Stop};
-use elf_view::{Elf, Want};
 use std::process::Abort;
 
 /// How many addresses there are.
@@ -9,7 +8,7 @@ const ADDRESSES: u128 = 0x1_0000_0000_0000_0000;
 
 /// A piece: its kind, first address and length; its bytes or the name of the file that is mapped there; its place in the
 /// file.
-pub(crate) type Shown<'a> = (&'static str, u64, u64, &'a [u8], u64);
+type Shown<'a> = (&'static str, u64, u64, &'a [u8], u64);
 
 /// What is at a piece.
 fn shown(piece: Piece<'_>) -> Shown<'_> {
@@ -38,7 +37,7 @@ fn pieces_of<'a>(space: &AddressSpace<'a>, first: u64, length: u64) -> [Option<S
 }
 
 /// The first four places of a needle, which is not empty.
-pub(crate) fn found(space: &AddressSpace<'_>, needle: &[u8]) -> [Option<u64>; 4] {
+fn found(space: &AddressSpace<'_>, needle: &[u8]) -> [Option<u64>; 4] {
     if needle.is_empty() {
         return [None; 4];
     }
@@ -58,7 +57,7 @@ fn texts(space: &AddressSpace<'_>, least: u64) -> [Option<(u64, u128)>; 4] {
 }
 
 /// What is at an address: its byte, or a word.
-pub(crate) fn source_of(space: &AddressSpace<'_>, address: u64) -> (&'static str, u8) {
+fn source_of(space: &AddressSpace<'_>, address: u64) -> (&'static str, u8) {
     match space.at(address) {
         Source::Byte(byte) => ("byte", byte),
         Source::FromFile(byte) => ("from a file", byte),
@@ -83,14 +82,6 @@ fn has_frames(
     }
     assert!(rt; frames.next().is_none());
     assert_eq!(rt; frames.stop(), Some(stop));
-}
-
-/// Attaches an executable as `/bin/cat`, and says whether there was memory for it.
-pub(crate) fn attach_cat<'a>(space: &mut AddressSpace<'a>, file: &'a [u8]) -> bool {
-    match Elf::read(file, Want::Exec) {
-        Ok(exec) => space.attach(b"/bin/cat", exec).is_ok(),
-        Err(_) => false,
-    }
 }
 
 /// A look at an address space, with what it finds.
