@@ -22,6 +22,8 @@
    With FAULT_READS a read of standard input gives at most so many bytes, so that a script comes in many reads, and its
    replies go in many writes.
 
+   FAULT_MODES names a file to which each pread adds how the file is open that it reads: r for reading alone, or w.
+
    FAULT_TRACE names a file to which is added what the archive's file and standard output took: for each pwrite, fsync and
    write of descriptor 1 that did something a record of three numbers of 8 bytes, the first letter of its kind (W, S or A),
    its place and how many bytes, and then the bytes. */
@@ -55,6 +57,7 @@ static long calls;
 static size_t most_read;
 static useconds_t slow;
 static int trace = -1;
+static int modes = -1;
 
 #define REAL(type, name) type real = (type)dlsym(RTLD_NEXT, name)
 
@@ -71,6 +74,8 @@ static void read_settings(void) {
     most_read = reads ? (size_t)atol(reads) : 0;
     if (path)
         trace = open(path, O_WRONLY | O_CREAT | O_APPEND | O_CLOEXEC, 0600);
+    if ((path = getenv("FAULT_MODES")))
+        modes = open(path, O_WRONLY | O_CREAT | O_APPEND | O_CLOEXEC, 0600);
 }
 
 static int begins(const char *text, const char *word) {
@@ -142,6 +147,14 @@ static void tell(char kind, off_t at, ssize_t size, const void *bytes) {
     if (trace < 0 || size < 0)
         return;
     if (real(trace, numbers, sizeof numbers) != sizeof numbers || real(trace, bytes, (size_t)size) != size)
+        abort();
+}
+
+/* Adds how a file is open that is read. */
+static void tell_mode(int file) {
+    REAL(write_type, "write");
+    int flags = fcntl(file, F_GETFL);
+    if (modes >= 0 && (flags < 0 || real(modes, (flags & O_ACCMODE) == O_RDONLY ? "r" : "w", 1) != 1))
         abort();
 }
 
@@ -257,7 +270,9 @@ ssize_t write(int file, const void *from, size_t size) {
 
 ssize_t pread64(int file, void *into, size_t size, off_t at) {
     REAL(pread_type, "pread64");
-    if (!is_met("pread"))
+    int met = is_met("pread");
+    tell_mode(file);
+    if (!met)
         return real(file, into, size, at);
     return fault.kind == FAILS ? failed() : real(file, into, moved(size), at);
 }

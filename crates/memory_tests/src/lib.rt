@@ -5,6 +5,8 @@
 #[cfg(test)]
 mod elf;
 #[cfg(test)]
+mod lookups;
+#[cfg(test)]
 mod memory;
 #[cfg(test)]
 mod notes;

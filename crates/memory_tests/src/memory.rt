@@ -23,7 +23,7 @@ fn load(segment: &Dumped) -> LoadPart<'static> {
 }
 
 /// From here on `scripts/fail-alloc` refuses all memory in a run of its own: it knows the place by the size that is asked for.
-fn no_memory_from_here(alloc: Global) -> Result<(), AllocError> {
+pub(crate) fn no_memory_from_here(alloc: Global) -> Result<(), AllocError> {
     let _mark: Vec<u8> = Vec::with_capacity(alloc, 54_321)?;
     Ok(())
 }
