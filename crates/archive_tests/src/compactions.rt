@@ -32,7 +32,7 @@ fn left_by(alloc: Global, course: Course) -> Result<MemDisk, Fail> {
     }
 }
 
-// Stops the disk after `limit` calls of an opening and what it is for. Answers whether it was stopped.
+// Stops the disk after `limit` calls, those of the opening too, while the journal is written anew. Answers whether it was stopped.
 fn is_stopped(alloc: Global, course: Course, begun: &MemDisk, limit: u64) -> Result<bool, Fail> {
     let mut disk = Fuse::new(crashed(begun, Pick::Nothing)?, limit);
     let whole = is_written_anew(alloc, &mut disk)?;
@@ -48,22 +48,27 @@ fn is_stopped(alloc: Global, course: Course, begun: &MemDisk, limit: u64) -> Res
     Ok(!whole)
 }
 
+// Stops it after each number of calls, up to the first behind which the journal is written anew.
+fn stop_everywhere(alloc: Global, course: Course) -> Result<(), Fail> {
+    let begun = left_by(alloc, course)?;
+    for limit in 0..100 {
+        if is_stopped(alloc, course, &begun, limit)? {
+            continue;
+        }
+        if limit < 10 {
+            return Err(Fail::from("too few calls were stopped"));
+        }
+        return Ok(());
+    }
+    Err(Fail::from("the journal was never written anew"))
+}
+
 #[test]
 fn a_stop_while_a_journal_is_written_anew_leaves_the_cases(rt: HostRuntime) -> Result<(), Fail> {
-    for course in [
-        Course::Streams,
-        Course::Anew,
-        Course::Deleted,
-        Course::Labels,
-    ] {
-        let begun = left_by(rt.alloc(), course)?;
-        let mut limit = 0u64;
-        while limit < 100 && is_stopped(rt.alloc(), course, &begun, limit)? {
-            limit += 1;
-        }
-        assert!(rt; 10 < limit && limit < 100);
-    }
-    Ok(())
+    stop_everywhere(rt.alloc(), Course::Streams)?;
+    stop_everywhere(rt.alloc(), Course::Anew)?;
+    stop_everywhere(rt.alloc(), Course::Deleted)?;
+    stop_everywhere(rt.alloc(), Course::Labels)
 }
 
 // How many calls of its disk it takes to write a journal anew once it is open.
