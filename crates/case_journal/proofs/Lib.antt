@@ -1,5 +1,7 @@
 pub mod AppendLemmas
 pub mod CompactLemmas
+pub mod DoubtLemmas
+pub mod EnoughLemmas
 pub mod EntryLemmas
 pub mod FormatLemmas
 pub mod KeptLemmas

@@ -19,6 +19,7 @@ use Rattle.journal_layout.specs.LiveLaws.{stands_live}
 use Rattle.journal_layout.specs.Standing.{Standing}
 use Rattle.journal_layout.specs.Stands.{AreRead, AreFaulty, Stands, records_start, records_area}
 use Rattle.journal_records.specs.Said.{TellsFaulty}
+use Rattle.case_journal.specs.DoubtLaws.{settled_doubts}
 use Rattle.case_journal.specs.declared.front.ArchiveFront.{ArchiveFront}
 use Rattle.case_journal.specs.Journaled.{Journaled}
 use Rattle.case_journal.specs.Keeping.{Keeps}
@@ -132,6 +133,12 @@ module _ {D : Type 0} (g : disk.Ghosts D) where
   keeps_by old mid new (Ok o) first second settled shows size =
       record {
         size = size;
+        doubts = λ honest.
+            let still : IsTrue (g.is_honest mid) = subst IsTrue second.honesty honest in
+            let honest_old : IsTrue (g.is_honest old) = subst IsTrue first.honesty still in
+            let seen : g.seen new ≡ g.seen old = second.seen still ∙ first.seen honest_old in
+            settled_doubts g new o.journal.standing (subst (λ (b : List ℕ). Stands b o.journal.standing) (shows.view.is honest_old ∙ sym seen) shows.gives)
+            (λ c now. settled honest_old c (second.crash still c now) ∙ sym seen);
         holds = λ runs honest.
             let still : IsTrue (g.is_honest mid) = subst IsTrue second.honesty honest in
             let honest_old : IsTrue (g.is_honest old) = subst IsTrue first.honesty still in

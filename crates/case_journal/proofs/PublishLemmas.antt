@@ -64,7 +64,7 @@ module _ (s : Standing) (r : Record) (gate : ℕ) (behind : List ℕ) (p : Publi
   abbrev pub once : List ℕ
   once = overwritten d (gate + 1) behind
 
-  once_same : SameOutside gate (1 + length behind) d once
+  pub once_same : SameOutside gate (1 + length behind) d once
   once_same = widened (gate + 1) (length behind) d once (overwritten_outside d (gate + 1) behind lies) gate (1 + length behind) (omega arith) (omega arith)
 
   first_length : length behind ≡ length (behind_gate r) + 1
@@ -110,7 +110,7 @@ module _ (s : Standing) (r : Record) (gate : ℕ) (behind : List ℕ) (p : Publi
       let f = overwritten_length d (gate + 1) behind within in
       omega arith
 
-  opened_gate : (c : List ℕ) → SameOutside gate 1 once c → slice_index c gate ≡ 165 → part c gate (record_size r) ≡ spelling r
+  pub opened_gate : (c : List ℕ) → SameOutside gate 1 once c → slice_index c gate ≡ 165 → part c gate (record_size r) ≡ spelling r
   opened_gate c same opened =
       let first = first_length in
       let long = p.long in
@@ -120,7 +120,7 @@ module _ (s : Standing) (r : Record) (gate : ℕ) (behind : List ℕ) (p : Publi
       ∙ ap (λ (l : List ℕ). l ++ part c (gate + 1) k) (one_place c gate (long_enough c same) ∙ ap (λ (x : ℕ). x ∷ []) opened)
       ∙ ap (λ (l : List ℕ). 165 ∷ l) (behind_part c same)
 
-  after_gate : (c : List ℕ) → SameOutside gate 1 once c → slice_index c gate ≡ 165 → Stands c (lengthened s r)
+  pub after_gate : (c : List ℕ) → SameOutside gate 1 once c → slice_index c gate ≡ 165 → Stands c (lengthened s r)
   after_gate c same opened =
       let place = p.place in
       let in_half = p.in_half in
@@ -129,7 +129,7 @@ module _ (s : Standing) (r : Record) (gate : ℕ) (behind : List ℕ) (p : Publi
       (ap (λ (k : ℕ). part c k (record_size r)) (sym place) ∙ opened_gate c same opened)
       (λ again. zero_is_closed (sym (next_gate c same) ∙ ap (λ (k : ℕ). slice_index c (k + record_size r)) place ∙ again))
 
-  unopened : (c : List ℕ) → SameOutside gate 1 once c → (slice_index c gate ≡ 165 → ⊥) → Stands c s
+  pub unopened : (c : List ℕ) → SameOutside gate 1 once c → (slice_index c gate ≡ 165 → ⊥) → Stands c s
   unopened c same closed =
       let place = p.place in
       let in_half = p.in_half in

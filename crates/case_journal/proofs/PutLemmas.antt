@@ -20,6 +20,7 @@ use Rattle.case_journal.specs.declared.compacting.JournalEnd.{JournalEnd}
 use Rattle.case_journal.specs.declared.faults.JournalFault.{JournalFault}
 use Rattle.case_journal.specs.declared.faults.JournalFault.TheVariants.{Stopped, JournalFull, NumbersSpent, OutOfMemory, Disk, OldVersion}
 use Rattle.case_journal.specs.Journaled.{Journaled, running, after_append}
+use Rattle.case_journal.specs.Doubting.{DoubtsGates}
 use Rattle.case_journal.specs.Keeping.{Keeps, LeavesEither}
 use Rattle.case_journal.specs.Append.{RecordFits, MayFollow, AppendStep}
 use Rattle.case_journal.specs.Compacting.{SnapshotStep, RunsSnapshot, CompactStep, PutLeaves, snapshot_end, compacted, moved, noted}
@@ -84,6 +85,7 @@ module _ (s : Standing) (r : Record) where
     moments = λ honest. subst (λ (x : Standing). LeavesOnly g old new (λ c. Stands c s ⊎ Stands c x)) (appended_by_snapshot s r e) (runs.moments honest);
     half = in_other_half g old new (fits s r) e runs.half;
     fills = runs.fills;
+    doubts = runs.doubts;
     later = runs.later;
   }
     where
@@ -93,10 +95,14 @@ module _ (s : Standing) (r : Record) where
       in_other_half g old new false e fills = fills
 
   pub kept_in_other_half : {D : Type 0} (g : disk.Ghosts D) (old new : D) (res : Result JournalEnd JournalFault) → fits s r ≡ false → g.size new ≡ disk_length s.shape → g.is_honest new ≡ g.is_honest old
-      → (IsTrue (g.is_honest old) → OnOk res (Holds g new (rewritten s (after r (folded_of s))))) → OnOk res (Keeps g new (running (appended s r)))
-  kept_in_other_half g old new (Ok p) e size honesty holds =
-      record { size = size; holds = λ on honest. subst (Holds g new) (appended_by_snapshot s r e) (holds (sym honesty ∙ honest)) }
-  kept_in_other_half g old new (Err f) e size honesty holds = tt
+      → (IsTrue (g.is_honest old) → OnOk res (Holds g new (rewritten s (after r (folded_of s))))) → (IsTrue (g.is_honest old) → DoubtsGates g new s.shape)
+      → OnOk res (Keeps g new (running (appended s r)))
+  kept_in_other_half g old new (Ok p) e size honesty holds doubts = record {
+    size = size;
+    holds = λ on honest. subst (Holds g new) (appended_by_snapshot s r e) (holds (sym honesty ∙ honest));
+    doubts = λ honest. doubts (sym honesty ∙ honest);
+  }
+  kept_in_other_half g old new (Err f) e size honesty holds doubts = tt
 
 -- the next record goes after a header then
 pub put_lies : (s : Standing) (r : Record) (res : Result JournalEnd JournalFault) → 32 ≤ s.used → PutStep s r res → IfOk res (λ (p : JournalEnd). 32 ≤ p.used)
@@ -132,13 +138,14 @@ module _ (j : Journaled) (runs : j.stopped ≡ false) where
   compact_moved p step = ap (moved j) step.1 ∙ ap (λ (t : Bool). record { standing = compacted j.standing; stopped = t }) runs
 
   -- a refusal keeps the disk
-  pub refused_keeps : {D : Type 0} (g : disk.Ghosts D) (d d' : D) (e : JournalFault) → Keeps g d j → g.size d' ≡ g.size d → PutLeaves (Err e) d d' → Keeps g d' (noted e j)
-  refused_keeps g d d' Disk keeps size refusal = record { size = size ∙ keeps.size; holds = λ on honest. absurd (false≢true (sym on)) }
-  refused_keeps g d d' JournalFull keeps size refusal = subst (λ x. Keeps g x j) (sym refusal) keeps
-  refused_keeps g d d' OutOfMemory keeps size refusal = subst (λ x. Keeps g x j) (sym refusal) keeps
-  refused_keeps g d d' Stopped keeps size refusal = subst (λ x. Keeps g x j) (sym refusal) keeps
-  refused_keeps g d d' NumbersSpent keeps size refusal = subst (λ x. Keeps g x j) (sym refusal) keeps
-  refused_keeps g d d' OldVersion keeps size refusal = subst (λ x. Keeps g x j) (sym refusal) keeps
+  pub refused_keeps : {D : Type 0} (g : disk.Ghosts D) (d d' : D) (e : JournalFault) → Keeps g d j → g.size d' ≡ g.size d → g.is_honest d' ≡ g.is_honest d
+      → (IsTrue (g.is_honest d) → DoubtsGates g d' j.standing.shape) → PutLeaves (Err e) d d' → Keeps g d' (noted e j)
+  refused_keeps g d d' Disk keeps size honesty doubts refusal = record { size = size ∙ keeps.size; holds = λ on honest. absurd (false≢true (sym on)); doubts = λ honest. doubts (sym honesty ∙ honest) }
+  refused_keeps g d d' JournalFull keeps size honesty doubts refusal = subst (λ x. Keeps g x j) (sym refusal) keeps
+  refused_keeps g d d' OutOfMemory keeps size honesty doubts refusal = subst (λ x. Keeps g x j) (sym refusal) keeps
+  refused_keeps g d d' Stopped keeps size honesty doubts refusal = subst (λ x. Keeps g x j) (sym refusal) keeps
+  refused_keeps g d d' NumbersSpent keeps size honesty doubts refusal = subst (λ x. Keeps g x j) (sym refusal) keeps
+  refused_keeps g d d' OldVersion keeps size honesty doubts refusal = subst (λ x. Keeps g x j) (sym refusal) keeps
 
 -- what a drop leaves has room: it is refused as full only where no generation is left
 pub full_by_generation : {D : Type 0} (g : disk.Ghosts D) (d : D) (j : Journaled) (seqs : List ℕ) → Keeps g d j → j.stopped ≡ false → IsTrue (g.is_honest d) → g.may_leave d (g.seen d)
@@ -158,9 +165,10 @@ module _ (s : Standing) (r : Record) {D : Type 0} (g : disk.Ghosts D) (old new :
   behind_moments e moments = subst (λ (x : Standing). LeavesOnly g old new (λ c. Stands c s ⊎ Stands c x)) (appended_behind s r e) moments
 
   pub behind_keeps : fits s r ≡ true → g.size new ≡ disk_length s.shape → (IsTrue (g.is_honest new) → IsSettled g new) → (IsTrue (g.is_honest new) → (c : List ℕ) → g.may_leave new c → Stands c (lengthened s r))
-      → Keeps g new (running (appended s r))
-  behind_keeps e size settled stands = record {
+      → (IsTrue (g.is_honest new) → DoubtsGates g new s.shape) → Keeps g new (running (appended s r))
+  behind_keeps e size settled stands doubts = record {
     size = size;
+    doubts = doubts;
     holds = λ on honest. subst (Holds g new) (appended_behind s r e) (record {
       stands = stands honest;
       front = λ c may. ap (λ (l : List ℕ). part l 0 (data_start s.shape)) (settled honest c may);
@@ -195,5 +203,6 @@ nothing_runs g d j r only keeps runs = record {
   moments = λ honest. started g d (λ (b : List ℕ). Stands b j.standing ⊎ Stands b (appended j.standing r)) (λ c was. inl ((keeps.holds runs honest).stands c (only c was)));
   half = fills_nothing g (written_at j.standing r) (written_long j.standing r) d only;
   fills = fills_nothing g 4096 (2 * half_length j.standing.shape) d only;
+  doubts = keeps.doubts;
   later = omega arith;
 }

@@ -1,5 +1,5 @@
 -- Bytes that are written again at some places, and the gate of the last record.
-use Rattle.std.proofs.Common.{◌≡◌, ◌≢◌, ◌⊎◌, inl, inr, ⊎_elim, ℕ, zero, suc, ◌+◌, ◌-◌, ◌<◌, ◌≤◌, List, [], ◌∷◌, ◌++◌, append_assoc, length, take, drop, slice_index, get_or, Option, None, Some, IfSome, option_map, Result, Ok, Err, IfOk, OnOk, IsTrue, refl, sym, ap, ◌∙◌, subst, arith}
+use Rattle.std.proofs.Common.{◌≡◌, ◌≢◌, ◌⊎◌, inl, inr, ⊎_elim, ℕ, zero, suc, ◌+◌, ◌<◌, ◌≤◌, List, ◌++◌, append_assoc, length, take, drop, Option, None, Some, IfSome, option_map, Result, Ok, Err, IfOk, OnOk, IsTrue, refl, sym, ap, ◌∙◌, subst, arith}
 use Rattle.std.specs.List.{All}
 use Rattle.std.proofs.lemmas.List.Elements.{All-from_recursion}
 use Rattle.std.proofs.lemmas.List.{drop-drop, take-append-drop}
@@ -12,11 +12,11 @@ use Rattle.journal_snapshot.specs.Filling.{Fills}
 use Rattle.disk_model.specs.Moments.{LeavesOnly, IsSettled}
 use Rattle.journal_layout.specs.declared.faults.OpenFault.{OpenFault}
 use Rattle.journal_layout.specs.declared.faults.OpenFault.TheVariants.{Disk, OutOfMemory, NotAnArchive, UnknownVersion, Damaged}
-use Rattle.journal_layout.specs.Folding.{last_start}
 use Rattle.journal_layout.specs.Layout.{disk_length, half_length, IsWithinLimits}
 use Rattle.journal_layout.specs.Standing.{Standing}
-use Rattle.journal_layout.specs.Stands.{Stands, records_start}
+use Rattle.journal_layout.specs.Stands.{Stands}
 use Rattle.case_journal.specs.Settling.{SameBut, Touched, WritesAgain, HasLastGate, ShowsLast, SettlesGates, Settles, gate_behind, gates_of, or_behind}
+use Rattle.case_journal.specs.DoubtLaws.{some_last}
 use Rattle.case_journal.specs.Viewing.{OnlyReads, FindsStanding, IsOpenRefusal}
 use Rattle.case_journal.specs.Journaled.{Journaled}
 use Rattle.case_journal.specs.declared.open.Opened.{Opened}
@@ -110,18 +110,6 @@ gates_low s last size limits is used low =
     let behind : gate_behind s + 1 ≤ size = omega (arith, ends, used, is) in
     All-from_recursion (λ (p : ℕ). p + 1 ≤ size) (gates_of s last)
     (omega (arith, is), (omega (arith, is, some), (omega (arith, is, some), (or_low (gate_behind s) size last behind low, (behind, tt)))))
-
--- a list of bytes that encodes an archive has a last gate, or none
-pub some_last : (b : List ℕ) (s : Standing) → Stands b s → (last : Option ℕ) × HasLastGate b s last
-some_last b s stands =
-    let inside = last_start stands.records.records in (
-      option_map (λ (n : ℕ). records_start s.shape s.half + n) inside,
-      record {
-        inside = inside;
-        ends = record { records = stands.records.records; row = stands.records.row; ends = refl; size = stands.records.size };
-        place = refl;
-      },
-    )
 
 module _ {D : Type 0} (g : disk.Ghosts D) where
   pub last_by : (old mid new : D) (r : Result Opened OpenFault) → OnlyReads g old mid → OnlyReads g mid new

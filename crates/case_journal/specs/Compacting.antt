@@ -15,6 +15,7 @@ use Rattle.disk_model.specs.Moments.{LeavesOnly}
 use Rattle.journal_layout.specs.Stands.{Stands}
 use Rattle.journal_snapshot.specs.Filling.{Fills}
 use Rattle.case_journal.specs.declared.compacting.JournalEnd.{JournalEnd}
+use Rattle.case_journal.specs.Doubting.{DoubtsGates}
 use Rattle.case_journal.specs.Refusing.{LeavesDisk}
 use Rattle.case_journal.specs.Journaled.{Journaled, running, halted}
 use Rattle.case_journal.specs.declared.faults.JournalFault.{JournalFault}
@@ -113,4 +114,5 @@ pub record RunsSnapshot {D : Type 0} (g : disk.Ghosts D) (old new : D) (s : Stan
   pub moments : IsTrue (g.is_honest old) → LeavesOnly g old new (λ c. Stands c s ⊎ Stands c (rewritten s f))
   pub half : Fills g old new (other_start s) (half_length s.shape)
   pub fills : Fills g old new 4096 (2 * half_length s.shape)
+  pub doubts : IsTrue (g.is_honest old) → DoubtsGates g new s.shape
   pub later : g.failures old ≤ g.failures new

@@ -10,12 +10,15 @@ use Rattle.journal_layout.specs.Standing.{Standing}
 use Rattle.journal_layout.specs.Rewriting.{appended}
 use Rattle.journal_layout.specs.Stands.{Stands}
 use Rattle.journal_snapshot.specs.Holding.{SameFront, Holds}
+use Rattle.case_journal.specs.Doubting.{DoubtsGates}
 use Rattle.case_journal.specs.Journaled.{Journaled}
 
--- The disk is that of the journal. Of a journal that a disk fault has stopped only the disk's size is known.
+-- The disk is that of the journal. Of a journal that a disk fault has stopped only the disk's size is known, and what may be in doubt.
 pub record Keeps {D : Type 0} (g : disk.Ghosts D) (d : D) (j : Journaled) : Type 0 where
   pub size : g.size d ≡ disk_length j.standing.shape
   pub holds : j.stopped ≡ false → IsTrue (g.is_honest d) → Holds g d j.standing
+  -- stopped or not
+  pub doubts : IsTrue (g.is_honest d) → DoubtsGates g d j.standing.shape
 
 -- Before or after: a crash at any moment of an append leaves bytes that encode one of the two.
 abbrev pub LeavesEither : {D : Type 0} → disk.Ghosts D → D → D → Standing → Record → Type 0

@@ -1,5 +1,7 @@
 pub mod Append
 pub mod Compacting
+pub mod Doubting
+pub mod DoubtLaws
 pub mod Entering
 pub mod Formatted
 pub mod Journaled

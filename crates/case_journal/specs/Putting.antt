@@ -9,6 +9,7 @@ use Rattle.journal_snapshot.specs.Filling.{Fills}
 use Rattle.case_journal.specs.declared.compacting.JournalEnd.{JournalEnd}
 use Rattle.case_journal.specs.declared.faults.JournalFault.{JournalFault}
 use Rattle.case_journal.specs.declared.faults.JournalFault.TheVariants.{JournalFull, Disk}
+use Rattle.case_journal.specs.Doubting.{DoubtsGates}
 use Rattle.case_journal.specs.Append.{RecordFits, RecordOverflows, MayFollow}
 use Rattle.case_journal.specs.Keeping.{LeavesEither}
 
@@ -44,4 +45,5 @@ pub record RunsAppend {D : Type 0} (g : disk.Ghosts D) (old new : D) (s : Standi
   pub moments : IsTrue (g.is_honest old) → LeavesEither g old new s r
   pub half : Fills g old new (written_at s r) (written_long s r)
   pub fills : Fills g old new 4096 (2 * half_length s.shape)
+  pub doubts : IsTrue (g.is_honest old) → DoubtsGates g new s.shape
   pub later : g.failures old ≤ g.failures new

@@ -18,6 +18,7 @@ ghost use Rattle.journal_snapshot.specs.Filling.{Fills};
 ghost use Rattle.journal_snapshot.specs.Holding.{Holds};
 ghost use Rattle.journal_snapshot.specs.Halves.{IsWrittenAs, half_bytes};
 ghost use Rattle.case_journal.specs.Append.{RefusalLeaves};
+ghost use Rattle.case_journal.specs.Doubting.{DoubtsGates};
 ghost use Rattle.case_journal.specs.Compacting.{SnapshotStep, HasHeader, RunsSnapshot, CompactStep, MeasuresSnapshot, IsWriteAnswer, compacted, noted, moved, PutLeaves};
 ghost use Rattle.case_journal.specs.Keeping.{Keeps, LeavesOutside};
 
@@ -89,6 +90,8 @@ pub(crate) fn write_snapshot<D: Disk>(
     ensures taken { (s : Standing) (f : Folded) → IsWrittenAs s f target change.now entries.now
         → IsTrue (D.is_honest disk.old) → Holds D.Disk disk.old s
         → OnOk result (Holds D.Disk disk.new (rewritten s f)) }
+    ensures doubts { (s : Standing) (f : Folded) → IsWrittenAs s f target change.now entries.now
+        → IsTrue (D.is_honest disk.old) → Holds D.Disk disk.old s → DoubtsGates D.Disk disk.new s.shape }
     ensures fills { Fills D.Disk disk.old disk.new target.start half }
     ensures written { IsTrue (D.is_honest disk.old) → OnOk result (part (D.seen disk.new) (target.start + 1) (length (half_bytes target change.now entries.now)) ≡ half_bytes target change.now entries.now) }
     ensures only { IsWriteAnswer result }

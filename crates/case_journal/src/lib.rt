@@ -19,6 +19,6 @@ pub use faults::{FormatFault, JournalFault};
 pub use formatting::format;
 pub use journal::Journal;
 pub use journal_layout::{BadShape, Entry, Kind, Name, OpenFault, Shape};
-pub use laws::data_blocks_keep;
+pub use laws::{data_blocks_keep, settling_is_enough};
 pub use open::Opened;
 pub use settling::settle;

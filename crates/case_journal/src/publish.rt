@@ -6,6 +6,8 @@ ghost use Rattle.disk_model.specs.Moments.{LeavesOnly, IsSettled};
 ghost use Rattle.journal_layout.specs.Record.{Record};
 ghost use Rattle.journal_layout.specs.Standing.{Standing, lengthened};
 ghost use Rattle.journal_layout.specs.Stands.{Stands};
+ghost use Rattle.journal_snapshot.specs.Holding.{Holds};
+ghost use Rattle.case_journal.specs.Doubting.{DoubtsGates};
 ghost use Rattle.case_journal.specs.Publishing.{Publishes};
 
 use disk_model::{Disk, DiskFault, write_stable};
@@ -22,6 +24,9 @@ pub(crate) fn publish<D: Disk>(disk: &mut D, gate: u64, behind: &[u8]) -> Result
     ensures made { (s : Standing) (r : Record) → Publishes s r gate behind.now
         → IsTrue (D.is_honest disk.old) → ((c : List ℕ) → D.may_leave disk.old c → Stands c s)
         → OnOk result ((c : List ℕ) → D.may_leave disk.new c → Stands c (lengthened s r)) }
+    // Whenever it ends, only the gate is in doubt, or what is behind it while it is closed.
+    ensures doubts { (s : Standing) (r : Record) → Publishes s r gate behind.now
+        → IsTrue (D.is_honest disk.old) → Holds D.Disk disk.old s → DoubtsGates D.Disk disk.new s.shape }
     ensures outside { IsTrue (D.is_honest disk.old)
         → LeavesOnly D.Disk disk.old disk.new (ChangedIn gate (1 + length behind.now) (D.may_leave disk.old)) }
     ensures stable { IsTrue (D.is_honest disk.old)

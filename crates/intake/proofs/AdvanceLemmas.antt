@@ -129,7 +129,7 @@ pub sound_refused : {D : Type 0} (g : disk.Ghosts D) (d d' : D) (j : Journaled) 
 sound_refused g d d' j most flags flags' streams dropped streams' slot s b b' fault.Disk sound on is gone keeps bal ends =
     subst (λ (t : Bool). IsArchiveSound g d' j most flags' streams' t) (sym ends.0)
     (subst (λ (x : List (Option StreamParts)). IsArchiveSound g d' j most flags' x true) (sym ends.1)
-    (sound_halted g d d' j j most flags flags' streams dropped b sound refl (ap length gone ∙ length-set streams slot None)))
+    (sound_halted g d d' j j most flags flags' streams dropped b sound keeps refl (ap length gone ∙ length-set streams slot None)))
 sound_refused g d d' j most flags flags' streams dropped streams' slot s b b' _ sound on is gone keeps bal ends =
     subst (λ (t : Bool). IsArchiveSound g d' j most flags' streams' t) (on ∙ sym ends.0)
     (sound_dropped g d d' j most flags flags' streams streams' slot s b sound on is (ends.1 ∙ gone) keeps bal)

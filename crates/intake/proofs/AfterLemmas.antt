@@ -55,6 +55,7 @@ sound_after g d d' j r most flags flags' streams b sound on keeps may long each 
         named = λ name. (let n = names name in let o = was.named name in omega (arith, n, o));
       };
       none = sound.none;
+      doubts = keeps.keeps.doubts;
     }
 
 -- a record was refused
@@ -97,6 +98,7 @@ module _ {D : Type 0} (g : disk.Ghosts D) (d d' : D) (j j' : Journaled) (r : Rec
           named = was.named;
         });
         none = sound.none;
+        doubts = (subst (Guards g d') is keeps).keeps.doubts;
       }))))
 
   -- the archive stays sound
@@ -109,7 +111,7 @@ module _ {D : Type 0} (g : disk.Ghosts D) (d d' : D) (j j' : Journaled) (r : Rec
   sound_refusal flags' journal_fault.Disk sound step keeps ends back =
       subst (λ (t : Bool). IsArchiveSound g d' j' most flags' streams' t) (sym ends.0)
       (subst (λ (x : List (Option StreamParts)). IsArchiveSound g d' j' most flags' x true) (sym ends.1)
-      (sound_halted g d d' j j' most flags flags' streams streams b sound (ap (λ (k : Journaled). k.standing.shape) step.2) refl))
+      (sound_halted g d d' j j' most flags flags' streams streams b sound keeps (ap (λ (k : Journaled). k.standing.shape) step.2) refl))
   sound_refusal flags' journal_fault.OldVersion sound step keeps ends back = absurd step
 
 -- its bytes

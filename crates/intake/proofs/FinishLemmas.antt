@@ -203,7 +203,7 @@ module _ {D : Type 0} (g : disk.Ghosts D) (d d' : D) (j : Journaled) (most : ℕ
   sound_unstored j' b' flags' dropped streams' journal_fault.Disk c sound gone ends refused keeps bal =
       subst (λ (t : Bool). IsArchiveSound g d' j' most flags' streams' t) (sym ends.0)
       (subst (λ (x : List (Option StreamParts)). IsArchiveSound g d' j' most flags' x true) (sym ends.1)
-      (sound_halted g d d' j j' most flags flags' streams dropped b sound (ap (λ (k : Journaled). k.standing.shape) refused.3) (ap length gone ∙ length-set streams slot None)))
+      (sound_halted g d d' j j' most flags flags' streams dropped b sound keeps (ap (λ (k : Journaled). k.standing.shape) refused.3) (ap length gone ∙ length-set streams slot None)))
   sound_unstored j' b' flags' dropped streams' journal_fault.Stopped c sound gone ends refused keeps bal = absurd (let e : true ≡ false = sym refused.0 ∙ running.journal in cc)
   sound_unstored j' b' flags' dropped streams' journal_fault.JournalFull c sound gone ends refused keeps bal = unmoved j' b' flags' dropped streams' fault.JournalFull sound gone ends refused.2 keeps bal
   sound_unstored j' b' flags' dropped streams' journal_fault.NumbersSpent c sound gone ends refused keeps bal = unmoved j' b' flags' dropped streams' fault.NumbersSpent sound gone ends refused.3 keeps bal

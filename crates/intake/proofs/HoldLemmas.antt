@@ -156,6 +156,7 @@ opened_sound g d d' j most shape flags cases streams shows keeps live on same ar
             let z : streams_named (replicate 8 None) name ≡ 0 = refl in omega (arith, n, z));
       };
       none = λ off. absurd (cc);
+      doubts = keeps.keeps.doubts;
     })
   where
     free : LeaveFree j.standing.shape.data_blocks j.standing.cases flags

@@ -39,6 +39,7 @@ use Rattle.intake.proofs.AdvanceLemmas.{closed_map}
 use Rattle.intake.proofs.CountLemmas.{in_range}
 use Rattle.intake.proofs.RestLemmas.{stands_now}
 use Rattle.intake.proofs.SoundLemmas.{sound_halted}
+use Rattle.case_journal.specs.DoubtLaws.{quiet_doubts}
 
 -- runs of blocks of which each lies below the limit end no later
 runs_within : (limit : ℕ) (runs : List Run) → All (λ (r : Run). 1 ≤ r.count) runs → ((k : ℕ) → uses (blocks_of runs) k ≤ one_if (nat_lt k limit)) → LieWithin limit runs
@@ -87,6 +88,9 @@ module _ {D : Type 0} (g : disk.Ghosts D) where
   pub keeps_quiet : (old new : D) (j : Journaled) → OnlyReads g old new → Keeps g old j → Keeps g new j
   keeps_quiet old new j quiet keeps = record {
     size = quiet.size ∙ keeps.size;
+    doubts = λ honest'. (
+        let honest : IsTrue (g.is_honest old) = subst IsTrue quiet.honesty honest' in
+        quiet_doubts g old new j.standing.shape (quiet.seen honest) (quiet.crash honest) (keeps.doubts honest));
     holds = λ runs honest. record {
       stands = left_quiet (λ b c. Stands c j.standing) old new quiet (λ was. (keeps.holds runs was).stands) honest;
       front = left_quiet (SameFront j.standing.shape) old new quiet (λ was. (keeps.holds runs was).front) honest;
@@ -124,6 +128,7 @@ module _ {D : Type 0} (g : disk.Ghosts D) where
           named = was.named;
         };
         none = sound.none;
+        doubts = (guards_quiet d d' j quiet was.keeps).keeps.doubts;
       }
 
   -- also where they were refused
@@ -132,7 +137,7 @@ module _ {D : Type 0} (g : disk.Ghosts D) where
   sound_unread d d' j most flags streams streams' b b' fault.Disk sound on quiet may ends =
       subst (λ (t : Bool). IsArchiveSound g d' j most flags streams' t) (sym ends.0)
       (subst (λ (x : List (Option StreamParts)). IsArchiveSound g d' j most flags x true) (sym ends.1)
-      (sound_halted g d d' j j most flags flags streams streams b sound refl refl))
+      (sound_halted g d d' j j most flags flags streams streams b sound (guards_quiet d d' j quiet (sound.runs on).keeps) refl refl))
   sound_unread d d' j most flags streams streams' b b' fault.OutOfMemory sound on quiet may ends =
       subst (λ (t : Bool). IsArchiveSound g d' j most flags streams' t) (on ∙ sym ends.0)
       (subst (λ (x : List (Option StreamParts)). IsArchiveSound g d' j most flags x b) (sym ends.1) (sound_read d d' j most flags streams b sound on quiet))

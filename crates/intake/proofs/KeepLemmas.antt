@@ -6,6 +6,7 @@ use Rattle.disk_model.specs.Places.{SameOutside}
 use Rattle.disk_model.specs.declared.disk.Disk as disk
 use Rattle.journal_layout.specs.Layout.{data_start}
 use Rattle.case_journal.specs.Journaled.{Journaled}
+use Rattle.case_journal.specs.DoubtLaws.{apart_doubts}
 use Rattle.case_journal.specs.Keeping.{Keeps, DataIsApart}
 
 pub keeps_apart : {D : Type 0} (g : disk.Ghosts D) (d d' : D) (j : Journaled) (at n : ℕ) → DataIsApart → Keeps g d j → (IsTrue (g.is_honest d) → g.may_leave d (g.seen d))
@@ -13,6 +14,9 @@ pub keeps_apart : {D : Type 0} (g : disk.Ghosts D) (d d' : D) (j : Journaled) (a
     → (IsTrue (g.is_honest d) → SameOutside at n (g.seen d) (g.seen d')) → data_start j.standing.shape ≤ at → Keeps g d' j
 keeps_apart g d d' j at n apart keeps stays size honesty crash others low = record {
   size = size ∙ keeps.size;
+  doubts = λ honest'. (
+      let honest : IsTrue (g.is_honest d) = subst IsTrue honesty honest' in
+      apart_doubts g d d' j.standing.shape at n apart low (crash honest) (others honest) (keeps.doubts honest));
   holds = λ runs honest'. (
       let honest : IsTrue (g.is_honest d) = subst IsTrue honesty honest' in
       let holds = keeps.holds runs honest in

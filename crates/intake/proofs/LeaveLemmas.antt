@@ -12,7 +12,7 @@ use Rattle.journal_layout.specs.Case.{Case}
 use Rattle.journal_layout.specs.Rewriting.{appended}
 use Rattle.journal_layout.specs.Standing.{store_of}
 use Rattle.journal_layout.specs.Stands.{Stands}
-use Rattle.case_journal.specs.Append.{AppendStep}
+use Rattle.case_journal.specs.Append.{AppendStep, StoreRefused}
 use Rattle.case_journal.specs.Refusing.{LeavesDisk}
 use Rattle.case_journal.specs.Journaled.{Journaled, after_append}
 use Rattle.case_journal.specs.Keeping.{Keeps, LeavesEither, LeavesOutside}
@@ -115,6 +115,15 @@ refusal_guards g d d' j j' r journal_fault.NumbersSpent step same keeps guards =
 refusal_guards g d d' j j' r journal_fault.OutOfMemory step same keeps guards = guards_untouched g d d' j' same (subst (Guards g d) (sym step.2) guards)
 refusal_guards g d d' j j' r journal_fault.Disk step same keeps guards = guards_stopped g d' j' keeps (ap (λ (k : Journaled). k.stopped) step.2)
 refusal_guards g d d' j j' r journal_fault.OldVersion step same keeps guards = absurd step
+
+-- so does a case that was refused
+pub store_guards : {D : Type 0} (g : disk.Ghosts D) (d d' : D) (j j' : Journaled) (c : Case) (jf : JournalFault) → StoreRefused j c jf j' → LeavesDisk jf d d' → Keeps g d' j' → Guards g d j → Guards g d' j'
+store_guards g d d' j j' c journal_fault.Stopped step same keeps guards = guards_untouched g d d' j' same (subst (Guards g d) (sym step.1) guards)
+store_guards g d d' j j' c journal_fault.JournalFull step same keeps guards = guards_untouched g d d' j' same (subst (Guards g d) (sym step.2) guards)
+store_guards g d d' j j' c journal_fault.NumbersSpent step same keeps guards = guards_untouched g d d' j' same (subst (Guards g d) (sym step.3) guards)
+store_guards g d d' j j' c journal_fault.OutOfMemory step same keeps guards = guards_untouched g d d' j' same (subst (Guards g d) (sym step.3) guards)
+store_guards g d d' j j' c journal_fault.Disk step same keeps guards = guards_stopped g d' j' keeps (ap (λ (k : Journaled). k.stopped) step.3)
+store_guards g d d' j j' c journal_fault.OldVersion step same keeps guards = absurd step
 
 -- and one that was done, of a record that moves no block
 pub done_guards : {D : Type 0} (g : disk.Ghosts D) (d d' : D) (j j' : Journaled) (r : Record) → j' ≡ after_append j r → g.is_honest d' ≡ g.is_honest d

@@ -45,6 +45,7 @@ sound_stored g d d' j j' most flags flags' streams streams' slot s b c sound on 
         named = named;
       };
       none = λ off. absurd (let e : true ≡ false = sym off ∙ on in cc);
+      doubts = (subst (Guards g d') now keeps).keeps.doubts;
     }))
   where
     r : IsRunning g d j most flags streams

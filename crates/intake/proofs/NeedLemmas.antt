@@ -1,12 +1,12 @@
 -- What room in the journal the record of a stream needs.
-use Rattle.std.proofs.Common.{◌≡◌, ℕ, ◌+◌, ◌≤◌, ◌^◌, Bool, true, false, not, List, length, map, Option, Some, None, refl, sym, ap, subst, ◌∙◌, arith}
+use Rattle.std.proofs.Common.{◌≡◌, ℕ, ◌+◌, ◌≤◌, ◌^◌, Bool, true, false, not, List, length, Option, Some, None, refl, sym, ap, subst, ◌∙◌, arith}
 use Rattle.std.specs.Prelude.{◌||◌, nat_lt, option_map}
 use Rattle.disk_model.specs.declared.disk.Disk as disk
 use Rattle.journal_layout.specs.Layout.{half_length}
 use Rattle.journal_layout.specs.Standing.{Standing, folded_of}
 use Rattle.case_journal.specs.Journaled.{Journaled}
 use Rattle.case_journal.specs.Rooming.{has_room}
-use Rattle.intake.specs.Needs.{has_record_room, longest_record, longest_of, lacks_room_for, lacks_record_room}
+use Rattle.intake.specs.Needs.{has_record_room, longest_of, lacks_room_for, lacks_record_room}
 use Rattle.intake.specs.Parts.{Parts, StreamParts, state_of, stream_facts}
 use Rattle.intake.specs.Slots.{stream_at}
 use Rattle.intake.specs.Sound.{IsArchiveSound, IsFineIfOpen}

@@ -14,6 +14,7 @@ use Rattle.intake.specs.Guarding.{Guards, LeavesCases}
 use Rattle.intake.specs.Live.{case_uses}
 use Rattle.intake.proofs.DurableLemmas.{durable_spared}
 use Rattle.intake.proofs.KeepLemmas.{keeps_apart}
+use Rattle.case_journal.specs.DoubtLaws.{quiet_doubts}
 
 module _ {D : Type 0} (g : disk.Ghosts D) where
   -- what a crash now leaves stands for the cases
@@ -57,6 +58,9 @@ module _ {D : Type 0} (g : disk.Ghosts D) where
       rests_call old new j only guards (record {
         keeps = record {
           size = size ∙ guards.keeps.size;
+          doubts = λ real. (
+              let honest : IsTrue (g.is_honest old) = sym honesty ∙ real in
+              quiet_doubts g old new j.standing.shape (seen honest) (crash honest) (guards.keeps.doubts honest));
           holds = λ runs real. (
               let honest : IsTrue (g.is_honest old) = sym honesty ∙ real in
               let holds = guards.keeps.holds runs honest in

@@ -90,6 +90,7 @@ sound_with g d d' j most flags flags' streams slot o o' b sound on below there k
   slots = length-set streams slot o' ∙ sound.slots;
   runs = λ _. running_with g d d' j most flags flags' streams slot o o' (sound.runs on) (let e = sound.slots in omega arith) there keeps bal fine names;
   none = λ off. absurd (let e : true ≡ false = sym off ∙ on in cc);
+  doubts = keeps.keeps.doubts;
 }
 
 -- a stream is dropped
@@ -106,12 +107,13 @@ closed_twice (x ∷ xs) = ap (λ (l : List (Option StreamParts)). None ∷ l) (c
 
 -- a disk fault stops it
 pub sound_halted : {D : Type 0} (g : disk.Ghosts D) (d d' : D) (j j' : Journaled) (most : ℕ) (flags flags' : List Bool) (streams streams' : List (Option StreamParts)) (b : Bool)
-    → IsArchiveSound g d j most flags streams b → j'.standing.shape ≡ j.standing.shape → length streams' ≡ length streams → IsArchiveSound g d' j' most flags' (closed streams') true
-sound_halted g d d' j j' most flags flags' streams streams' b sound same long = record {
+    → IsArchiveSound g d j most flags streams b → Guards g d' j' → j'.standing.shape ≡ j.standing.shape → length streams' ≡ length streams → IsArchiveSound g d' j' most flags' (closed streams') true
+sound_halted g d d' j j' most flags flags' streams streams' b sound keeps same long = record {
   shape = subst IsWithinLimits (sym same) sound.shape;
   slots = (let e : length (closed streams') ≡ length streams' = simp length-map in e ∙ long ∙ sound.slots);
   runs = λ on. absurd (let e : true ≡ false = on in cc);
   none = λ _. closed_twice streams';
+  doubts = keeps.keeps.doubts;
 }
 
 -- the blocks in use, as the state without bytes counts them

@@ -157,6 +157,7 @@ module _ {D : Type 0} (g : disk.Ghosts D) (d d' : D) (j j' : Journaled) (most : 
           named = was.named;
         });
         none = sound.none;
+        doubts = guards.keeps.doubts;
       }
 
       sound_two : Guards g d' (running (standing_upgraded j.standing)) → IsArchiveSound g d' (running (standing_upgraded j.standing)) most flags streams b
@@ -174,6 +175,7 @@ module _ {D : Type 0} (g : disk.Ghosts D) (d d' : D) (j j' : Journaled) (most : 
           named = was.named;
         });
         none = sound.none;
+        doubts = guards.keeps.doubts;
       }
 
   pub refused_guards : (jf : JournalFault) → JournalStep j (Err jf) j' → LeavesDisk jf d d' → Keeps g d' j' → Guards g d' j'
@@ -192,7 +194,7 @@ module _ {D : Type 0} (g : disk.Ghosts D) (d d' : D) (j j' : Journaled) (most : 
   refused_sound journal_fault.Disk step keeps ends =
       subst (λ (t : Bool). IsArchiveSound g d' j' most flags streams' t) (sym ends.0)
       (subst (λ (x : List (Option StreamParts)). IsArchiveSound g d' j' most flags x true) (sym ends.1)
-      (sound_halted g d d' j j' most flags flags streams streams b sound (ap (λ (k : Journaled). k.standing.shape) step.3) refl))
+      (sound_halted g d d' j j' most flags flags streams streams b sound keeps (ap (λ (k : Journaled). k.standing.shape) step.3) refl))
   refused_sound journal_fault.OldVersion step keeps ends = absurd step
 
   -- and has the same cases

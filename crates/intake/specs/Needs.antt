@@ -1,5 +1,5 @@
 -- What room in the journal the record of a stream needs.
-use Rattle.std.specs.Prelude.{ℕ, ◌+◌, ◌||◌, Bool, true, false, not, length, nat_lt, Option, None, Some, option_map}
+use Rattle.std.specs.Prelude.{ℕ, ◌+◌, ◌||◌, Bool, false, not, length, nat_lt, Option, None, Some}
 use Rattle.extents.specs.Runs.{runs_of}
 use Rattle.journal_layout.specs.Layout.{half_length}
 use Rattle.intake.specs.Parts.{StreamParts}

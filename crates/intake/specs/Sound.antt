@@ -1,12 +1,13 @@
 -- What holds of every archive: each data block is free or used once, by a case or by a stream, and no two of these have
 -- one name.
-use Rattle.std.specs.Prelude.{◌≡◌, ℕ, ◌+◌, ◌/◌, ◌^◌, ◌<◌, ◌≤◌, Bool, true, false, List, Option, None, Some, length, sum_by, nat_lt, option_map}
+use Rattle.std.specs.Prelude.{◌≡◌, ℕ, ◌+◌, ◌/◌, ◌^◌, ◌<◌, ◌≤◌, Bool, true, false, List, Option, None, Some, length, sum_by, nat_lt, option_map, IsTrue}
 use Rattle.std.specs.List.{All, count_by}
 use Rattle.disk_model.specs.declared.disk.Disk as disk
 use Rattle.extents.specs.FreeSet.{is_free, free_count, uses, one_if}
 use Rattle.journal_layout.specs.Case.{Case}
 use Rattle.journal_layout.specs.Layout.{IsWithinLimits}
 use Rattle.journal_layout.specs.Soundness.{IsWritable}
+use Rattle.case_journal.specs.Doubting.{DoubtsGates}
 use Rattle.case_journal.specs.Journaled.{Journaled}
 use Rattle.intake.specs.Step.{has_name}
 use Rattle.intake.specs.State.{blocks_by}
@@ -75,3 +76,5 @@ pub record IsArchiveSound {D : Type 0} (g : disk.Ghosts D) (d : D) (j : Journale
   pub slots : length streams ≡ 8
   pub runs : stopped ≡ false → IsRunning g d j most flags streams
   pub none : stopped ≡ true → streams ≡ closed streams
+  -- stopped or not
+  pub doubts : IsTrue (g.is_honest d) → DoubtsGates g d j.standing.shape

@@ -8,6 +8,7 @@ ghost use Rattle.journal_layout.specs.Case.{Case};
 ghost use Rattle.journal_layout.specs.Standing.{Standing};
 ghost use Rattle.journal_layout.specs.Stands.{Stands};
 ghost use Rattle.case_journal.specs.Append.{MayFollow};
+ghost use Rattle.case_journal.specs.Doubting.{DoubtsGates};
 ghost use Rattle.journal_layout.specs.Record.{Drop};
 ghost use Rattle.case_journal.specs.Viewing.{ShowsOpening, FindsStanding};
 ghost use Rattle.disk_model.specs.Disk.{HasRisen};
@@ -500,6 +501,9 @@ impl<D: Disk> Archive<D> {
         ensures value { result ≡ self.now.stopped }
         ensures stands { result ≡ false → IsTrue (D.is_honest self.now.disk) → (c : List ℕ) → D.may_leave self.now.disk c
             → StandsFor c (durable_of D.seen self.now) }
+        // Stopped or not, and so wherever a life of it ends: all that reads give and the device may not have is in gates that a settling writes
+        // again, or is read by no opening.
+        ensures doubts { IsTrue (D.is_honest self.now.disk) → DoubtsGates D.Disk self.now.disk self.now.journal.standing.shape }
     {
         self.stopped
     }

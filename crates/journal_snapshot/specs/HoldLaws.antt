@@ -156,6 +156,14 @@ closed_in_other_half g s new b stands within settled is =
       closed = λ c may. subst (λ (x : List ℕ). slice_index x (other_start s) ≢ 165) (sym (settled c may ∙ is)) shut;
     }
 
+-- and then reads give what a crash leaves
+pub closed_holds : {D : Type 0} (g : disk.Ghosts D) (s : Standing) (new : D) (b : List ℕ) → Stands b s → other_start s + 1 ≤ length b → IsSettled g new
+    → g.seen new ≡ overwritten b (other_start s) (0 ∷ []) → Holds g new s
+closed_holds g s new b stands within settled is = record {
+  stands = (closed_in_other_half g s new b stands within settled is).stands;
+  front = λ c may. ap (λ (l : List ℕ). part l 0 (data_start s.shape)) (settled c may);
+}
+
 -- a byte that is read is the one that is there
 pub read_place : (b : List ℕ) (at : ℕ) (bytes : List ℕ) → bytes ≡ part b at 1 → slice_index bytes 0 ≡ slice_index b at
 read_place b at bytes is =

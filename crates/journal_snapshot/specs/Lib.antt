@@ -1,5 +1,7 @@
 pub mod ChangeLaws
 pub mod Changing
+pub mod Doubt
+pub mod DoubtLaws
 pub mod Filling
 pub mod FillLaws
 pub mod HalfLaws

@@ -19,6 +19,8 @@ pub(crate) fn close_half<D: Disk>(disk: &mut D, start: u64) -> Result<(), DiskFa
         → Holds D.Disk disk.old s → LeavesOnly D.Disk disk.old disk.new (λ c. Stands c s) }
     ensures closed { (s : Standing) → start ≡ other_start s → IsTrue (D.is_honest disk.old)
         → Holds D.Disk disk.old s → OnOk result (StandsInOtherHalf D.Disk disk.new s) }
+    ensures holds { (s : Standing) → start ≡ other_start s → IsTrue (D.is_honest disk.old)
+        → Holds D.Disk disk.old s → OnOk result (Holds D.Disk disk.new s) }
     ensures fills { Fills D.Disk disk.old disk.new start 1 }
     ensures cause { HasCause (D.failures disk.old) (D.failures disk.new) result }
 {

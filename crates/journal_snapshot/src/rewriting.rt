@@ -3,11 +3,13 @@ ghost use Rattle.std.specs.Prelude.{◌≡◌, ◌⊎◌, ◌+◌, ◌≤◌, le
 ghost use Rattle.disk_model.specs.Disk.{HasCause};
 ghost use Rattle.disk_model.specs.Moments.{LeavesOnly};
 ghost use Rattle.disk_model.specs.Places.{part};
+ghost use Rattle.journal_layout.specs.Layout.{half_length};
 ghost use Rattle.journal_layout.specs.Folding.{Folded};
 ghost use Rattle.journal_layout.specs.Standing.{Standing};
 ghost use Rattle.journal_layout.specs.Stands.{Stands};
 ghost use Rattle.journal_layout.specs.Rewriting.{rewritten};
 ghost use Rattle.journal_snapshot.specs.Changing.{IsOrdered};
+ghost use Rattle.journal_snapshot.specs.Doubt.{DoubtsGate};
 ghost use Rattle.journal_snapshot.specs.Filling.{Fills};
 ghost use Rattle.journal_snapshot.specs.Holding.{Holds};
 ghost use Rattle.journal_snapshot.specs.Writing.{written_added, AreAtMost};
@@ -40,6 +42,9 @@ pub fn rewrite<D: Disk>(
         → Holds D.Disk disk.old s → LeavesOnly D.Disk disk.old disk.new (λ c. Stands c s ⊎ Stands c (rewritten s f)) }
     ensures taken { (s : Standing) (f : Folded) → IsWrittenAs s f target change.now entries.now → IsTrue (D.is_honest disk.old)
         → Holds D.Disk disk.old s → OnOk result (Holds D.Disk disk.new (rewritten s f)) }
+    // Whenever it ends, only the gate of that half is in doubt, or, while it is closed, what is behind it.
+    ensures doubt { (s : Standing) (f : Folded) → IsWrittenAs s f target change.now entries.now → IsTrue (D.is_honest disk.old)
+        → Holds D.Disk disk.old s → DoubtsGate D.Disk disk.new s.shape target.start (target.start + half_length s.shape) }
     ensures fills { Fills D.Disk disk.old disk.new target.start (1 + length (half_bytes target change.now entries.now)) }
     // After the gate it writes exactly the header, the records and the next gate, with zeros where the layout has zeros.
     ensures written { IsTrue (D.is_honest disk.old) → OnOk result (part (D.seen disk.new) (target.start + 1) (length (half_bytes target change.now entries.now)) ≡ half_bytes target change.now entries.now) }

@@ -6,6 +6,8 @@ use Rattle.disk_model.specs.MomentLaws.{changed_wider, changed_twice, weakened, 
 use Rattle.disk_model.specs.PartLaws.{same_twice, widened}
 use Rattle.journal_layout.specs.Standing.{lengthened}
 use Rattle.journal_layout.specs.Stands.{Stands}
+use Rattle.journal_snapshot.specs.FillLaws.{fills_of}
+use Rattle.case_journal.proofs.DoubtLemmas.{behind_doubts, gate_doubts}
 use Rattle.case_journal.proofs.PublishLemmas.{before_gate, at_gate, made, on_ok}
 use Rattle.case_journal.proofs.publish.publish.Goals as goal
 
@@ -86,3 +88,21 @@ returns-clause-outside g c honest =
     (changed.0, so_far changed.0 changed.1, widened c.args.gate 1 changed.0 b changed.2 c.args.gate (1 + length c.args.behind.now) (omega arith) (omega arith)))
     (c.write_stable-2.ensures.any_moment still) in
     then_again d old mid new P first second
+
+pub returns-in_err-write_stable-clause-doubts : goal.returns-in_err-write_stable-clause-doubts
+returns-in_err-write_stable-clause-doubts g c s r p honest holds =
+    let d = g.D.Disk in
+    let new = c.write_stable.new.disk in
+    behind_doubts s r c.args.gate c.args.behind.now p d c.args.disk.now new honest (g.met.D.Disk.seen_may_stay c.args.disk.now honest) holds
+    (fills_of d (c.args.gate + 1) (length c.args.behind.now) c.args.disk.now new (g.met.D.Disk.counts_now new) c.write_stable.ensures.any_moment c.write_stable.ensures.others c.write_stable.ensures.honesty c.write_stable.ensures.size)
+
+pub returns-clause-doubts : goal.returns-clause-doubts
+returns-clause-doubts g c s r p honest holds =
+    let d = g.D.Disk in
+    let old = c.args.disk.now in
+    let mid = c.write_stable.new.disk in
+    let new = c.write_stable-2.new.disk in
+    let still = c.write_stable.ensures.honesty ∙ honest in
+    let stable = c.in_ok-write_stable.ensures.stable honest in
+    gate_doubts s r c.args.gate c.args.behind.now p d (d.seen old) mid new still (holds.stands (d.seen old) (g.met.D.Disk.seen_may_stay old honest)) stable.0 stable.1
+    (fills_of d c.args.gate 1 mid new (g.met.D.Disk.counts_now new) c.write_stable-2.ensures.any_moment c.write_stable-2.ensures.others c.write_stable-2.ensures.honesty c.write_stable-2.ensures.size)

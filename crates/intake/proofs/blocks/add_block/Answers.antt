@@ -4,6 +4,7 @@ use Rattle.intake.specs.Balance.{Balances}
 use Rattle.intake.proofs.CountLemmas.{none_free, some_free, taken_in_use, returned, taken_one, one_block, first_free}
 use Rattle.intake.proofs.BlockLemmas.{block_reply, on_ok, block_written}
 use Rattle.intake.proofs.CloseLemmas.{always}
+use Rattle.intake.proofs.RestLemmas.{rests_still}
 use Rattle.intake.proofs.blocks.add_block.Goals as goal
 
 pub returns-in_default-clause-reply : goal.returns-in_default-clause-reply
@@ -50,3 +51,6 @@ returns-clause-added g c honest =
 
 pub returns-clause-reply : goal.returns-clause-reply
 returns-clause-reply g c = block_reply (free_count c.args.free.now) c.write_data.result (some_free c.args.free.now c.take.new.self c.in-Some.run' c.in-Some.ensures) c.write_data.ensures.reply
+
+pub returns-in_default-append-clause-rests : goal.returns-in_default-append-clause-rests
+returns-in_default-append-clause-rests g c j shape none guards = rests_still g.D.Disk c.args.disk.now j (g.met.D.Disk.only_now c.args.disk.now) guards

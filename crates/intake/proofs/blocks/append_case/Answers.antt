@@ -8,7 +8,7 @@ use Rattle.intake.specs.Durable.{Durable, durable_in}
 use Rattle.intake.specs.Guarding.{Guards, LeavesStored}
 use Rattle.intake.specs.declared.faults.ArchiveFault.{ArchiveFault}
 use Rattle.std.proofs.Common.{Err}
-use Rattle.intake.proofs.LeaveLemmas.{store_moments, guards_appended, refused_moments}
+use Rattle.intake.proofs.LeaveLemmas.{store_moments, guards_appended, refused_moments, store_guards}
 use Rattle.intake.proofs.RestLemmas.{stands_now}
 use Rattle.intake.proofs.UntouchedLemmas.{journal_spares}
 use Rattle.intake.proofs.blocks.append_case.Goals as goal
@@ -42,3 +42,8 @@ returns-in-Err-clause-any_moment g c honest =
 
 pub returns-in-Err-clause-spared : goal.returns-in-Err-clause-spared
 returns-in-Err-clause-spared g c = journal_spares ℕ c.in-Err.fault _ _ _ c.from.ensures c.in-Err.ensures.untouched
+
+pub returns-in-Err-clause-guards : goal.returns-in-Err-clause-guards
+returns-in-Err-clause-guards g c =
+    store_guards g.D.Disk c.args.disk.now c.append_store.new.disk c.args.journal.now c.append_store.new.self (case_of c.args.entry) c.in-Err.fault c.in-Err.ensures.step c.in-Err.ensures.untouched
+    c.append_store.ensures.keeps c.requires.guards

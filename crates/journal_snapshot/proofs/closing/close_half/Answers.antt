@@ -3,7 +3,7 @@ use Rattle.disk_model.specs.Places.{overwritten}
 use Rattle.disk_model.specs.MomentLaws.{stays, then_again}
 use Rattle.journal_layout.specs.Stands.{Stands}
 use Rattle.journal_snapshot.specs.FillLaws.{fills_of, fills_then, quiet_fills}
-use Rattle.journal_snapshot.specs.HoldLaws.{read_place, closing_moments, holds_on, reads_closed, closed_in_other_half}
+use Rattle.journal_snapshot.specs.HoldLaws.{read_place, closing_moments, holds_on, reads_closed, closed_in_other_half, closed_holds}
 use Rattle.journal_snapshot.proofs.closing.close_half.Goals as goal
 
 pub returns-in_err-read_at-clause-any_moment : goal.returns-in_err-read_at-clause-any_moment
@@ -83,5 +83,22 @@ returns-in_ok-write_stable-clause-closed g c s place honest holds =
     let kept = holds_on d s old mid (c.read_at.ensures.seen honest) (c.read_at.ensures.crash honest) holds in
     let stable = c.in_ok-write_stable.ensures.stable now in
     closed_in_other_half d s new (d.seen mid) (kept.stands (d.seen mid) (g.met.D.Disk.seen_may_stay mid now))
+    (let long = g.met.D.Disk.whole mid now in let size = c.read_at.ensures.size in let within = c.requires in omega arith)
+    stable.0 (stable.1 ∙ ap (λ (p : ℕ). overwritten (d.seen mid) p (0 ∷ [])) place)
+
+pub returns-else-gate-clause-holds : goal.returns-else-gate-clause-holds
+returns-else-gate-clause-holds g c s place honest holds =
+    holds_on g.D.Disk s c.args.disk.now c.read_at.new.self (c.read_at.ensures.seen honest) (c.read_at.ensures.crash honest) holds
+
+pub returns-in_ok-write_stable-clause-holds : goal.returns-in_ok-write_stable-clause-holds
+returns-in_ok-write_stable-clause-holds g c s place honest holds =
+    let d = g.D.Disk in
+    let old = c.args.disk.now in
+    let mid = c.read_at.new.self in
+    let new = c.write_stable.new.disk in
+    let now = c.read_at.ensures.honesty ∙ honest in
+    let kept = holds_on d s old mid (c.read_at.ensures.seen honest) (c.read_at.ensures.crash honest) holds in
+    let stable = c.in_ok-write_stable.ensures.stable now in
+    closed_holds d s new (d.seen mid) (kept.stands (d.seen mid) (g.met.D.Disk.seen_may_stay mid now))
     (let long = g.met.D.Disk.whole mid now in let size = c.read_at.ensures.size in let within = c.requires in omega arith)
     stable.0 (stable.1 ∙ ap (λ (p : ℕ). overwritten (d.seen mid) p (0 ∷ [])) place)

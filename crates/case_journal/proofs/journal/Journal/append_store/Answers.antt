@@ -1,4 +1,4 @@
-use Rattle.std.proofs.Common.{◌≡◌, ◌++◌, ◌∷◌, [], ◌^◌, ◌<◌, List, map, ap, ◌∙◌, sym, subst, refl, arith}
+use Rattle.std.proofs.Common.{◌≡◌, ◌++◌, ◌∷◌, [], ◌^◌, ◌<◌, List, map, ap, ◌∙◌, sym, subst, refl, arith, false}
 use Rattle.std.proofs.lemmas.List.{map-append}
 use Rattle.journal_layout.specs.declared.entry.Entry.{Entry}
 use Rattle.journal_layout.specs.Case.{case_of, numbered}
@@ -7,7 +7,10 @@ use Rattle.journal_layout.specs.Standing.{Standing, store_of}
 use Rattle.journal_layout.specs.Soundness.{IsStorable}
 use Rattle.case_journal.specs.Journaled.{Journaled}
 use Rattle.case_journal.proofs.KeptLemmas.{kept_stored}
-use Rattle.case_journal.proofs.PutLemmas.{nothing_runs, place_lies}
+use Rattle.case_journal.proofs.PutLemmas.{nothing_runs, place_lies, refused_keeps}
+use Rattle.case_journal.specs.Keeping.{Keeps}
+use Rattle.case_journal.specs.Doubting.{DoubtsGates}
+use Rattle.case_journal.specs.Compacting.{noted}
 use Rattle.case_journal.proofs.journal.Journal.append_store.Goals as goal
 
 pub check_fit-requires-clause-size : goal.check_fit-requires-clause-size
@@ -57,3 +60,15 @@ invariant_of-self-in-Ok-put_store g c =
     let pushed : c.push.new.self.entries ≡ j.entries.entries ++ e ∷ [] = c.push.ensures ∙ ap (λ (l : List Entry). l ++ e ∷ []) c.reserve.ensures.entries in
     kept_stored j.shape j.version (map case_of j.entries.entries) j.next j.used c.self.invariant case (map case_of c.push.new.self.entries) place.used lies.0 lies.1 refl
     (omega arith, left, subst (λ (s : Journaled). IsStorable s.standing.shape.data_blocks s.standing.cases case) (sym c.self.view_is) storable) (ap (map case_of) pushed ∙ map-append case_of j.entries.entries (e ∷ []))
+
+pub returns-in-Err-put_store-clause-keeps : goal.returns-in-Err-put_store-clause-keeps
+returns-in-Err-put_store-clause-keeps g c =
+    let runs : c.args.self.now.stopped ≡ false = ap (λ (x : Journaled). x.stopped) (sym c.self.view_is) ∙ c.if-self.false in
+    let run = c.put_store.ensures.run in
+    let j = c.self.inside in
+    let of : List Entry → Journaled = λ l. record {
+      standing = record { shape = j.shape; half = j.half; version = j.version; generation = j.generation; cases = map case_of l; next = j.next; used = j.used };
+      stopped = j.stopped;
+    } in
+    subst (Keeps g.D.Disk c.put_store.new.disk) (sym (c.note_fault.ensures ∙ ap (λ (x : Journaled). noted c.in-Err-put_store.fault x) (ap of c.reserve.ensures.entries ∙ c.self.view_is)))
+    (refused_keeps c.args.self.now runs g.D.Disk c.args.disk.now c.put_store.new.disk c.in-Err-put_store.fault c.requires.keeps run.fills.size run.fills.honesty (λ honest. subst (λ (x : Journaled). DoubtsGates g.D.Disk c.put_store.new.disk x.standing.shape) c.self.view_is (run.doubts honest)) c.in-Err-put_store.ensures.untouched)

@@ -1,12 +1,10 @@
 use Rattle.std.proofs.Common.{◌≡◌, ◌∙◌, ap, sym, subst, map}
 use Rattle.journal_layout.specs.Case.{case_of}
-use Rattle.journal_snapshot.specs.declared.change.Change.TheVariants as change
-use Rattle.journal_snapshot.specs.Measuring.{AreShort, IsMeasure}
+use Rattle.journal_snapshot.specs.Measuring.{AreShort}
 use Rattle.journal_layout.specs.Layout.{half_length}
-use Rattle.std.specs.Prelude.{Some, None}
 use Rattle.case_journal.specs.Journaled.{Journaled}
 use Rattle.case_journal.proofs.CompactLemmas.{live_short}
-use Rattle.case_journal.proofs.RoomLemmas.{room_behind, room_some, room_none}
+use Rattle.case_journal.proofs.RoomLemmas.{room_some, room_none}
 use Rattle.case_journal.proofs.journal.Journal.has_room.Goals as goal
 
 pub measured-requires-clause-short : goal.measured-requires-clause-short

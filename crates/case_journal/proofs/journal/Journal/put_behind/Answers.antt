@@ -19,6 +19,7 @@ returns-in_err-publish-clause-run g c r put =
           (fills_of g.D.Disk gate (1 + n) c.args.disk.now c.publish.new.disk (g.met.D.Disk.counts_now c.publish.new.disk) c.publish.ensures.outside c.publish.ensures.others c.publish.ensures.honesty c.publish.ensures.size);
       fills = behind_fills g.D.Disk c.args.disk.now c.publish.new.disk s gate n place c.requires.in_half
           (fills_of g.D.Disk gate (1 + n) c.args.disk.now c.publish.new.disk (g.met.D.Disk.counts_now c.publish.new.disk) c.publish.ensures.outside c.publish.ensures.others c.publish.ensures.honesty c.publish.ensures.size);
+      doubts = λ honest. c.publish.ensures.doubts s r (publishes s r gate c.args.behind.now place c.requires.in_half put) honest (c.requires.keeps.holds c.requires.runs honest);
       later = never_falls _ _ c.publish.result c.publish.ensures.cause;
     }
 
@@ -35,6 +36,7 @@ returns-clause-run g c r put =
           (fills_of g.D.Disk gate (1 + n) c.args.disk.now c.publish.new.disk (g.met.D.Disk.counts_now c.publish.new.disk) c.publish.ensures.outside c.publish.ensures.others c.publish.ensures.honesty c.publish.ensures.size);
       fills = behind_fills g.D.Disk c.args.disk.now c.publish.new.disk s gate n place c.requires.in_half
           (fills_of g.D.Disk gate (1 + n) c.args.disk.now c.publish.new.disk (g.met.D.Disk.counts_now c.publish.new.disk) c.publish.ensures.outside c.publish.ensures.others c.publish.ensures.honesty c.publish.ensures.size);
+      doubts = λ honest. c.publish.ensures.doubts s r (publishes s r gate c.args.behind.now place c.requires.in_half put) honest (c.requires.keeps.holds c.requires.runs honest);
       later = never_falls _ _ c.publish.result c.publish.ensures.cause;
     }
 
@@ -47,3 +49,4 @@ returns-clause-kept g c r put =
     behind_keeps s r g.D.Disk c.args.disk.now c.publish.new.disk (put_fits s r c.args.behind.now c.requires.in_half put) (c.publish.ensures.size ∙ c.requires.keeps.size)
     (λ honest. (c.in_ok-publish.ensures.stable (was honest)).0)
     (λ honest. c.in_ok-publish.ensures.made s r (publishes s r gate c.args.behind.now place c.requires.in_half put) (was honest) (c.requires.keeps.holds c.requires.runs (was honest)).stands)
+    (λ honest. c.publish.ensures.doubts s r (publishes s r gate c.args.behind.now place c.requires.in_half put) (was honest) (c.requires.keeps.holds c.requires.runs (was honest)))

@@ -40,6 +40,7 @@ returns-in_err-measure-clause-run g c = record {
       (λ b was. inl ((c.requires.keeps.holds c.requires.runs honest).stands b (g.met.D.Disk.only_now c.args.disk.now b was)));
   half = fills_nothing g.D.Disk (other_start c.args.self.now.standing) (half_length c.args.self.now.standing.shape) c.args.disk.now (g.met.D.Disk.only_now c.args.disk.now);
   fills = fills_nothing g.D.Disk 4096 _ c.args.disk.now (g.met.D.Disk.only_now c.args.disk.now);
+  doubts = c.requires.keeps.doubts;
   later = omega arith;
 }
 
@@ -67,6 +68,7 @@ returns-in_err-write_snapshot-clause-run g c =
       fills = half_fills g.D.Disk c.args.disk.now c.write_snapshot.new.disk c.args.self.now.standing.shape (other_half c.args.self.now.standing.half) t.result.start t.ensures.start
           (subst (λ (n : ℕ). Fills g.D.Disk c.args.disk.now c.write_snapshot.new.disk t.result.start n) (c.half_length-half.ensures ∙ ap (λ (j : Journaled). half_length j.standing.shape) c.self.view_is)
           c.write_snapshot.ensures.fills);
+      doubts = λ honest. c.write_snapshot.ensures.doubts c.args.self.now.standing (changed c.args.change.now (folded_of c.args.self.now.standing)) is honest (c.requires.keeps.holds c.requires.runs honest);
       later = c.write_snapshot.ensures.later;
     }
 
@@ -96,6 +98,7 @@ returns-clause-run g c =
       fills = half_fills g.D.Disk c.args.disk.now c.write_snapshot.new.disk c.args.self.now.standing.shape (other_half c.args.self.now.standing.half) t.result.start t.ensures.start
           (subst (λ (n : ℕ). Fills g.D.Disk c.args.disk.now c.write_snapshot.new.disk t.result.start n) (c.half_length-half.ensures ∙ ap (λ (j : Journaled). half_length j.standing.shape) c.self.view_is)
           c.write_snapshot.ensures.fills);
+      doubts = λ honest. c.write_snapshot.ensures.doubts c.args.self.now.standing (changed c.args.change.now (folded_of c.args.self.now.standing)) is honest (c.requires.keeps.holds c.requires.runs honest);
       later = c.write_snapshot.ensures.later;
     }
 

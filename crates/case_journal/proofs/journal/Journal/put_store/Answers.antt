@@ -1,10 +1,11 @@
-use Rattle.std.proofs.Common.{subst}
+use Rattle.std.proofs.Common.{subst, sym, ◌+◌, ◌∙◌, ℕ, nat_lt, ap}
 use Rattle.journal_layout.specs.LabelledLaws.{labelled_stored}
 use Rattle.journal_layout.specs.Live.{AreLive, AreLabelled}
 use Rattle.journal_layout.specs.LiveLaws.{live_stored}
 use Rattle.journal_layout.specs.Record.{Store}
 use Rattle.case_journal.specs.Journaled.{Journaled}
-use Rattle.case_journal.proofs.PutLemmas.{nothing_runs}
+use Rattle.case_journal.proofs.PutLemmas.{nothing_runs, snapshot_runs}
+use Rattle.journal_layout.specs.Layout.{half_length}
 use Rattle.case_journal.proofs.journal.Journal.put_store.Goals as goal
 use Rattle.journal_layout.specs.Case.{case_of, numbered}
 
@@ -20,3 +21,8 @@ returns-in_err-record-clause-run g c =
 pub put_snapshot-requires-clause-labels : goal.put_snapshot-requires-clause-labels
 put_snapshot-requires-clause-labels g c =
     labelled_stored _ _ (numbered c.args.seq (case_of c.args.entry.now)) (subst (λ (j : Journaled). AreLabelled j.standing.version j.standing.cases) c.self.view_is c.self.invariant.labels) c.requires.sound.2.no_label
+
+pub returns-then-not-fits-clause-run : goal.returns-then-not-fits-clause-run
+returns-then-not-fits-clause-run g c =
+    let s = c.args.self.now.standing in
+    snapshot_runs s (Store (numbered c.args.seq (case_of c.args.entry.now))) g.D.Disk c.args.disk.now c.put_snapshot.new.disk (ap (λ (n : ℕ). nat_lt (s.used + n) (half_length s.shape)) (sym c.requires.size) ∙ sym c.if-not-fits.ensures.in_half) c.put_snapshot.ensures.run

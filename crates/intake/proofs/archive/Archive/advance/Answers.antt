@@ -95,7 +95,19 @@ returns-in-Err g c = record {
       (not_stopped g.D.Disk c.self.inside.disk c.grow-grown.new.disk c.self.inside.journal c.self.inside.settings.limit c.self.inside.free c.self.inside.slots c.args.slot c.args.n (parts_of c.in-Some.block c.in-Some.stream) c.self.inside.stopped running c.if-self.false (sym c.in-Some.ensures.stream) _ c.in-Err.fault c.in-Err.ensures.step)
       (not_missing g.D.Disk c.self.inside.disk c.grow-grown.new.disk c.self.inside.journal c.self.inside.settings.limit c.self.inside.free c.self.inside.slots c.args.slot c.args.n (parts_of c.in-Some.block c.in-Some.stream) c.self.inside.stopped running c.if-self.false (sym c.in-Some.ensures.stream) _ c.in-Err.fault c.in-Err.ensures.step));
   cause = search rules;
-  stays = record { honesty = search rules; later = search rules; size = search rules; crash = search rules; durable = search rules };
+  stays = record {
+    honesty = search rules;
+    later = search rules;
+    size = search rules;
+    crash = λ honest.
+        let real = rw (← c.self.view_is) at honest in
+        rw (← c.self.view_is)
+        (grow_moments g.D.Disk c.self.inside.disk c.grow-grown.new.disk c.self.inside.journal c.self.inside.settings.limit c.self.inside.free c.self.inside.slots (c.self.invariant.sound.runs c.if-self.false) (c.in-Err.ensures.rests c.self.inside.journal (sym c.shape-shape.ensures)) real);
+    durable = λ honest.
+        let real = rw (← c.self.view_is) at honest in
+        rw (← c.self.view_is)
+        (grow_durable g.D.Disk c.self.inside.disk c.grow-grown.new.disk c.self.inside.journal c.self.inside.settings.limit c.self.inside.free c.self.inside.slots (c.self.invariant.sound.runs c.if-self.false) (c.in-Err.ensures.rests c.self.inside.journal (sym c.shape-shape.ensures)) real);
+  };
   front = λ honest.
       let real = rw (← c.self.view_is) at honest in
       rw (← c.self.view_is)

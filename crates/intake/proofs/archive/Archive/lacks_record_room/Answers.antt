@@ -1,4 +1,4 @@
-use Rattle.std.proofs.Common.{◌≡◌, ◌∙◌, Some, None, not, ap}
+use Rattle.std.proofs.Common.{◌∙◌, Some, None, not, ap}
 use Rattle.intake.specs.Needs.{lacks_record_room}
 use Rattle.intake.specs.Parts.{Parts, state_of}
 use Rattle.intake.proofs.NeedLemmas.{blocks_few, lacks_is}
