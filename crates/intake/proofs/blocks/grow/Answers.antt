@@ -7,6 +7,7 @@ use Rattle.intake.specs.Parts.{taken_in}
 use Rattle.intake.specs.StreamView.{parts_of, facts_of}
 use Rattle.intake.proofs.BlockLemmas.{cleared, needed, taken_lengthened, taken_refreshed}
 use Rattle.intake.proofs.blocks.grow.Goals.{then-n-eq0-via-then-n-eq0, then-n-eq0-via-else-n-eq0+then-stream-n-lt4096}
+use Rattle.intake.proofs.RestLemmas.{rests_still}
 use Rattle.intake.proofs.blocks.grow.Goals as goal
 
 pub returns-then-n-eq0-clause-bytes : goal.returns-then-n-eq0-clause-bytes
@@ -37,3 +38,9 @@ returns-clause-bytes g c honest j same =
     ap (λ (x : List ℕ). taken_in j (g.D.Disk.seen c.add_block.new.disk) (record (parts_of c.args.block.now c.args.stream.now) { facts = longer (facts_of c.args.stream.now) c.args.n c.add_block.new.runs; block = x })) zeros
     ∙ taken_refreshed j c.args.free.now (g.D.Disk.seen c.args.disk.now) (g.D.Disk.seen c.add_block.new.disk) (parts_of c.args.block.now c.args.stream.now) c.args.n c.add_block.new.runs c.requires.fine.block c.requires.held
     (needed c.args.stream.now.length c.args.n c.if-n-eq0.false c.if-stream-n-lt4096.false c.requires.room) adds
+
+pub returns-then-n-limit-clause-rests : goal.returns-then-n-limit-clause-rests
+returns-then-n-limit-clause-rests g c j shape none guards = rests_still g.D.Disk c.args.disk.now j (g.met.D.Disk.only_now c.args.disk.now) guards
+
+pub returns-then-n-eq0-clause-rests : goal.returns-then-n-eq0-clause-rests
+returns-then-n-eq0-clause-rests g c j shape none guards = rests_still g.D.Disk c.args.disk.now j (g.met.D.Disk.only_now c.args.disk.now) guards
