@@ -1,10 +1,13 @@
 // The cases of an archive as JSON.
 use crate::signals::name_of;
 use journal_layout::{Entry, Kind};
-use script_words::print_byte;
+use script_words::{print_byte, print_decimal};
 use serde_json::{Value, json};
 use std::alloc::{AllocError, Global};
 use std::str;
+
+// The first number that a JSON number may not be told as: many readers of JSON round it.
+const FIRST_LARGE: u64 = 1 << 53;
 
 // An array of an object for each case.
 pub(crate) fn json_of(alloc: Global, cases: &[&Entry]) -> Result<String, AllocError> {
@@ -28,10 +31,10 @@ pub fn case_value(alloc: Global, case: &Entry) -> Result<Value, AllocError> {
     json!(in alloc; {
         "case": case.seq,
         "kind": kind_word(case.kind),
-        "time": known(case.time),
-        "pid": known(u64::from(case.pid)),
+        "time": known_value(alloc, case.time)?,
+        "pid": known_value(alloc, u64::from(case.pid))?,
         "signal": signal_value(alloc, case.signal)?,
-        "size": case.length,
+        "size": number_value(alloc, case.length)?,
         "kept": case.pinned,
         "name": text_value(alloc, name, escaped)?,
         "label": text_value(alloc, label, escaped)?,
@@ -47,18 +50,29 @@ fn kind_word(kind: Kind) -> &'static str {
 }
 
 // A number that is known, or null.
-fn known(number: u64) -> Value {
+fn known_value(alloc: Global, number: u64) -> Result<Value, AllocError> {
     if number == 0 {
-        Value::Null
-    } else {
-        Value::from(number)
+        return Ok(Value::Null);
     }
+    number_value(alloc, number)
+}
+
+// A number; from `FIRST_LARGE` on its decimal digits, as a string.
+fn number_value(alloc: Global, number: u64) -> Result<Value, AllocError> {
+    if number < FIRST_LARGE {
+        return Ok(Value::from(number));
+    }
+    let mut digits = String::new(alloc);
+    for digit in &print_decimal(u128::from(number)) {
+        digits.push(char::from(*digit))?;
+    }
+    Ok(Value::String(digits))
 }
 
 // A signal's name; or its number if it has no name; or null for 0.
 fn signal_value(alloc: Global, signal: u32) -> Result<Value, AllocError> {
     let Some(name) = name_of(signal) else {
-        return Ok(known(u64::from(signal)));
+        return known_value(alloc, u64::from(signal));
     };
     let mut text = String::new(alloc);
     text.push_str("SIG")?;
@@ -79,8 +93,11 @@ fn text_value(alloc: Global, text: &[u8], escaped: bool) -> Result<Value, AllocE
     Ok(Value::String(value))
 }
 
-// Adds how a text prints.
+// Adds how a text prints. A minus alone would stand for an empty text.
 fn push_printed(value: &mut String, text: &[u8]) -> Result<(), AllocError> {
+    if text == b"-".as_slice() {
+        return value.push_str("\\x2d");
+    }
     for byte in text {
         for letter in &print_byte(*byte) {
             value.push(char::from(*letter))?;
