@@ -65,7 +65,7 @@ pub fn make_archive<R: AllocGlobal + Files<File = File>, W: Onlooker>(
     // The lock of its file is kept until it has its name.
     let named = give_name(rt, path, &part);
     drop(disk);
-    named.map_err(|fault| Refusal::File(FileWord::NewArchive, fault))
+    named.map_err(|fault| fault.refusal(FileWord::NewArchive))
 }
 
 // Makes the file of an archive. One that can't be made whole is removed, unless another process made it.

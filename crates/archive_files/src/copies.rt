@@ -46,7 +46,7 @@ pub fn copy_archive_file<R: AllocGlobal + Files<File = File>, W: Onlooker>(
     let named = give_name(rt, new, &part);
     drop(onto);
     drop(from);
-    named.map_err(|fault| Refusal::File(FileWord::New, fault))
+    named.map_err(|fault| fault.refusal(FileWord::New))
 }
 
 /// Copies the archive in a file into a file in the same folder, which takes its place once it is whole and durable. The archive's lock is held
@@ -64,7 +64,7 @@ pub fn resize_archive_file<R: AllocGlobal + Files<File = File>, W: Onlooker>(
     let placed = take_place(rt, place.path, &part);
     drop(onto);
     drop(from);
-    placed.map_err(|fault| Refusal::File(FileWord::Archive, fault))
+    placed.map_err(|fault| fault.refusal(FileWord::Archive))
 }
 
 // Copies the archive on a disk into a new file of this name, and gives both disks. A copy that fails leaves no file.

@@ -48,16 +48,20 @@ pub enum FileWord {
     New,
     /// Whichever word names the file of a new archive.
     Made,
+    /// The word that is shown so. Its file is there under its name, and whole, and what came after failed, with this number of the system's
+    /// error (errno(3)), if there is one.
+    Named(&'static str, Option<i32>),
 }
 
 impl FileWord {
     // What people are told of it as.
-    fn shown(self) -> &'static str {
+    pub(crate) fn shown(self) -> &'static str {
         match self {
             FileWord::Archive | FileWord::NewArchive => "ARCHIVE",
             FileWord::File | FileWord::NewFile => "FILE",
             FileWord::New => "NEW",
             FileWord::Made => "the new file",
+            FileWord::Named(name, _) => name,
         }
     }
 
@@ -244,10 +248,24 @@ fn tell_in_words<E: Output>(alloc: Global, refusal: Refusal, errors: &mut E) {
 // Why the file of a word is refused.
 fn file_text(alloc: Global, word: FileWord, fault: FileFault) -> Result<String, AllocError> {
     let name = word.shown();
+    if let FileWord::Named(_, number) = word {
+        return named_text(alloc, name, number);
+    }
     if fault == FileFault::Missing && word.is_made() {
         return format!(in alloc; "corekeep: {name}: there is no such folder\n");
     }
     format!(in alloc; "corekeep: {name}: {fault}\n")
+}
+
+// What is told of a file that is there, where what came after failed.
+fn named_text(alloc: Global, name: &str, number: Option<i32>) -> Result<String, AllocError> {
+    let why = match number {
+        Some(number) => io::Error::from_raw_os_error(number),
+        None => io::Error::from(io::ErrorKind::Other),
+    };
+    format!(in alloc;
+        "corekeep: {name} is there, and whole: what failed is the removal of its .part, or the sync of its folder: {why}\n"
+    )
 }
 
 // Tells what is refused.

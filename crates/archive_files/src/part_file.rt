@@ -1,6 +1,7 @@
 // Files that have their own name only once they are whole. Until then a file is called PATH.part.
 ghost use Rattle.std.specs.Prelude.{◌≡◌, ◌++◌, IfOk, codes, string_bytes};
 
+use crate::failures::{FileWord, Refusal};
 use disk_model::FileFault;
 use std::alloc::{AllocError, Global};
 use std::fs::{File, Metadata, Permissions, TryLockError};
@@ -12,6 +13,28 @@ use std::{fs, io};
 
 // Its owner may read and write a file, and nobody else.
 const OWNER_ALONE: u32 = 0o600;
+
+/// Why a file has not got its name for good.
+#[derive(Clone, Copy, Debug, PartialEq, Eq)]
+pub enum NameFault {
+    /// It has not got it, and is gone.
+    Unnamed(FileFault),
+    /// It has it, and is whole there. The removal of its other name or the sync of its folder failed, with this number of the system's error
+    /// (errno(3)), if there is one.
+    Named(Option<i32>),
+}
+
+impl NameFault {
+    /// What is refused of the file that a word names.
+    pub fn refusal(self, word: FileWord) -> Refusal {
+        match self {
+            NameFault::Unnamed(fault) => Refusal::File(word, fault),
+            NameFault::Named(number) => {
+                Refusal::File(FileWord::Named(word.shown(), number), FileFault::Sync)
+            }
+        }
+    }
+}
 
 /// What a file is called until it is whole.
 pub fn part_of(alloc: Global, path: &str) -> Result<String, AllocError>
@@ -68,33 +91,59 @@ pub fn begin<R: Files<File = File>>(rt: &R, path: &str, part: &str) -> Result<Fi
 
 /// Gives a file that is whole and synced its own name, and makes the name durable. A file that has come under PATH meanwhile stays:
 /// then this one is removed.
-pub fn give_name<R: Files<File = File>>(rt: &R, path: &str, part: &str) -> Result<(), FileFault> {
-    let named = link(rt, path, part);
-    if named.is_err() {
-        let _ = fs::remove_file(rt, part);
+pub fn give_name<R: Files<File = File>>(rt: &R, path: &str, part: &str) -> Result<(), NameFault> {
+    match link(rt, path, part) {
+        Ok(has_both) => keep_name(rt, path, part, has_both).map_err(|error| named(&error)),
+        Err(error) => {
+            let _ = fs::remove_file(rt, part);
+            Err(NameFault::Unnamed(FileFault::from(error)))
+        }
     }
-    named?;
-    sync_folder(rt, path).map_err(|_| FileFault::Sync)
 }
 
-// Some file systems have no links.
-fn link<R: Files<File = File>>(rt: &R, path: &str, part: &str) -> io::Result<()> {
+// A file has its name, and what came after failed so.
+fn named(error: &io::Error) -> NameFault {
+    NameFault::Named(error.raw_os_error())
+}
+
+// Gives a file its name, and says whether it has the other one too. Some file systems have no links.
+fn link<R: Files<File = File>>(rt: &R, path: &str, part: &str) -> io::Result<bool> {
     match fs::hard_link(rt, part, path) {
-        Ok(()) => fs::remove_file(rt, part),
+        Ok(()) => Ok(true),
         Err(error) if error.kind() == ErrorKind::AlreadyExists => Err(error),
-        Err(_) => fs::rename(rt, part, path),
+        Err(_) => {
+            fs::rename(rt, part, path)?;
+            Ok(false)
+        }
     }
+}
+
+// Makes a file's name durable, and removes the other one. The name is made durable even if the other one stays.
+fn keep_name<R: Files<File = File>>(
+    rt: &R,
+    path: &str,
+    part: &str,
+    has_both: bool,
+) -> io::Result<()> {
+    let removed = if has_both {
+        fs::remove_file(rt, part)
+    } else {
+        Ok(())
+    };
+    sync_folder(rt, path)?;
+    removed
 }
 
 /// Puts a file that is whole and synced in the place of another, and makes that durable. It gets the other's owner and mode. A stop
 /// leaves the one or the other under PATH.
-pub fn take_place<R: Files<File = File>>(rt: &R, path: &str, part: &str) -> Result<(), FileFault> {
-    let placed = replace(rt, path, part);
-    if placed.is_err() {
-        let _ = fs::remove_file(rt, part);
+pub fn take_place<R: Files<File = File>>(rt: &R, path: &str, part: &str) -> Result<(), NameFault> {
+    match replace(rt, path, part) {
+        Ok(()) => sync_folder(rt, path).map_err(|error| named(&error)),
+        Err(error) => {
+            let _ = fs::remove_file(rt, part);
+            Err(NameFault::Unnamed(FileFault::from(error)))
+        }
     }
-    placed?;
-    sync_folder(rt, path).map_err(|_| FileFault::Sync)
 }
 
 fn replace<R: Files<File = File>>(rt: &R, path: &str, part: &str) -> io::Result<()> {

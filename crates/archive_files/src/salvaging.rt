@@ -127,7 +127,7 @@ fn put_cases<R: AllocGlobal + Files<File = File>, W: Onlooker>(
     // The lock of its file is kept until it has its name.
     let named = give_name(rt, new, &part);
     drop(onto);
-    named.map_err(|fault| Refusal::File(FileWord::New, fault))
+    named.map_err(|fault| fault.refusal(FileWord::New))
 }
 
 /// Copies the cases that were found of an archive onto a new disk, and hands that back.

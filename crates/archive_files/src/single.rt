@@ -88,7 +88,9 @@ fn extract_to_file<R: AllocGlobal + Files<File = File>, W: Onlooker>(
         Ok(()) => {
             file.sync_all()
                 .map_err(|error| Failure::Unwritten(error.kind()))?;
-            give_name(rt, path, &part).map_err(|fault| refused_file(fault))
+            give_name(rt, path, &part).map_err(|fault| Failure::Aside(fault.refusal(
+                FileWord::NewFile,
+            )))
         }
         Err(unfinished) => {
             if is_empty(&file) || !unfinished.is_front {
