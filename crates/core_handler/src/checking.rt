@@ -1,6 +1,6 @@
 // What holds by a handler's configuration, told to a person.
 use crate::config_file::Document;
-use crate::handling::{HANDLER_LIMIT, HANDLER_TEMPLATE, HandleWords};
+use crate::handling::{HANDLER_LIMIT, HANDLER_TEMPLATE, HandleWords, UNNAMED};
 use crate::labels::escaped_label;
 use crate::log::KERNEL_LOG;
 use crate::outcome_lines::words_of;
@@ -21,8 +21,8 @@ use std::rt::Files;
 // The bytes of a block.
 const BLOCK: u128 = 4096;
 
-// Tells what holds, a line for each key, and then each fault. Last it says whether the archive can keep what is asked. What is not
-// in order is a refusal.
+// Tells what is wrong with the file as a whole, what holds, a line for each key, and then each fault. Last it says whether the archive can
+// keep what is asked. What is not in order is a refusal.
 pub(crate) fn check<R: AllocGlobal + Files<File = File>, O: Output>(
     rt: &R,
     words: &HandleWords<'_>,
@@ -31,6 +31,7 @@ pub(crate) fn check<R: AllocGlobal + Files<File = File>, O: Output>(
 ) -> Result<(), Failure> {
     let config = Config::of(&document.value);
     let mut reply = Reply::new(output);
+    let is_read = !tell_unread(rt, &mut reply, words, document);
     tell_config(&mut reply, &config, words.archive);
     tell_relative(&mut reply, b"configuration ", Some(words.path()));
     tell_relative(&mut reply, b"archive ", config.archive.or(words.archive));
@@ -39,11 +40,27 @@ pub(crate) fn check<R: AllocGlobal + Files<File = File>, O: Output>(
     let are_taken = tell_values(rt, &mut reply, &config);
     let is_large = tell_size(rt, &mut reply, &config, words.archive);
     reply.finish()?;
-    if are_known && are_taken && is_large {
+    if is_read && are_known && are_taken && is_large {
         Ok(())
     } else {
         Err(Failure::Told)
     }
+}
+
+// Tells what is wrong with the file as a whole: then no line of it holds. Says whether anything is.
+fn tell_unread<R: AllocGlobal, O: Output>(
+    rt: &R,
+    reply: &mut Reply<'_, O>,
+    words: &HandleWords<'_>,
+    document: &Document,
+) -> bool {
+    let Some(line) = document.trouble_line(rt.alloc(), words.path()) else {
+        return false;
+    };
+    reply.tell(b"fault ");
+    reply.tell(line.text());
+    reply.tell(b"\n");
+    true
 }
 
 // A line for each key.
@@ -193,7 +210,9 @@ fn tell_size<R: AllocGlobal + Files<File = File>, O: Output>(
     archive: Option<&str>,
 ) -> bool {
     let Some(path) = config.archive.or(archive) else {
-        reply.tell(b"fault no archive is named\n");
+        reply.tell(b"fault ");
+        reply.tell(UNNAMED);
+        reply.tell(b"\n");
         return false;
     };
     let place = ArchivePath { path, waits: true };

@@ -129,21 +129,30 @@ fn fault_line(
 }
 
 // What is wrong with the file as a whole.
-fn trouble_line(alloc: Global, path: &str, trouble: Trouble) -> Collected {
+fn line_on(alloc: Global, path: &str, trouble: Trouble) -> Collected {
     match trouble {
         Trouble::Missing => fault_line(alloc, path, 0, b"", b"", b"there is no such file"),
         Trouble::Unreadable => fault_line(alloc, path, 0, b"", b"", b"the file could not be read"),
-        Trouble::NotToml(line) => fault_line(alloc, path, line, b"", b"", b"the file is no TOML"),
+        Trouble::NotToml(line) => fault_line(
+            alloc,
+            path,
+            line,
+            b"",
+            b"",
+            b"the file is no TOML: no line of it holds, not even the archive's name",
+        ),
     }
 }
 
 impl Document {
-    // A line for each fault.
+    // A line on what is wrong with the file as a whole, if anything is.
+    pub(crate) fn trouble_line(&self, alloc: Global, path: &str) -> Option<Collected> {
+        Some(line_on(alloc, path, self.trouble?))
+    }
+
+    // A line for each faulty entry.
     pub(crate) fn faults(&self, alloc: Global, path: &str) -> Result<Vec<Collected>, AllocError> {
         let mut faults = Vec::new(alloc);
-        if let Some(trouble) = self.trouble {
-            faults.push(trouble_line(alloc, path, trouble))?;
-        }
         let Some(table) = self.value.as_table() else {
             return Ok(faults);
         };

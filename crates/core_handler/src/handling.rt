@@ -1,18 +1,23 @@
 // What the kernel's handler does: a core from the input is stored as a configuration says, and the outcome is told to a log.
+ghost use Rattle.std.specs.Prelude.{◌≡◌, IfOk, IfErr, None};
+ghost use Rattle.std.specs.Option.{option_copied};
+ghost use Rattle.archive_files.specs.declared.failures.Refusal.TheVariants.{OutOfMemory};
+ghost use Rattle.name_template.specs.Template.{template_fault};
+ghost use Rattle.core_handler.specs.Requesting.{AsksBy, IsRequested, template_of};
+
 use crate::checking::check;
 use crate::config_file::{DEFAULT_CONFIG, Document, Trouble, read_document};
-use crate::fronts::program_front;
 use crate::labels::escaped_label;
 use crate::log::{KERNEL_LOG, Level, Log};
+use crate::outcome_lines::lost_line;
+use crate::requesting::{request_of, seconds_of};
 use crate::teller::{Teller, store_told};
-use archive_files::{ArchivePath, Collected, Failure, FileWord, Refusal, StoreRequest, StoreWords};
+use archive_files::{ArchivePath, Collected, Failure, FileWord, Refusal, StoreRequest};
 use arrayvec::ArrayVec;
 use diagnostics::Onlooker;
 use disk_model::FileFault;
 use handler_config::Config;
-use inspector_cli::{Burst, Naming, StoreOptions};
 use name_template::Template;
-use retention::Policy;
 use script_streams::{Output, Reply};
 use std::fs::File;
 use std::io::Read;
@@ -24,6 +29,9 @@ pub(crate) const HANDLER_TEMPLATE: &str = "core.%e.%p.%t";
 
 // The template whose names are never refused.
 const PLAIN_TEMPLATE: &str = "core.%p.%t";
+
+// What is told where neither the configuration nor the pattern names an archive.
+pub(crate) const UNNAMED: &[u8] = b"no archive is named";
 
 // The most bytes of an image if the configuration doesn't say.
 pub(crate) const HANDLER_LIMIT: u64 = 1 << 30;
@@ -105,8 +113,9 @@ pub fn handle<R: AllocGlobal + Files<File = File> + Clock, I: Read, O: Output, W
 /// Tells the kernel's log of a core that is lost since the words can't be read: no configuration names another log.
 pub fn tell_lost_words<R: AllocGlobal + Files<File = File>>(rt: &R) {
     let log = Log { path: KERNEL_LOG };
-    let told = b"lost a core: the words of handle are refused";
-    log.tell(rt, rt.alloc(), Level::Error, told);
+    let words = b"the words of handle are refused";
+    let line = lost_line(rt.alloc(), b"", b"", "", b"BadLine", words);
+    log.tell(rt, rt.alloc(), Level::Error, line.text());
 }
 
 // Tells what is wrong with the configuration and the pairs, which is left out.
@@ -119,6 +128,9 @@ fn tell_faults<R: AllocGlobal + Files<File = File>>(
     let is_missing_default = words.config.is_none() && document.trouble == Some(Trouble::Missing);
     if is_missing_default && words.archive.is_some() {
         return;
+    }
+    if let Some(fault) = document.trouble_line(rt.alloc(), words.path()) {
+        handler.tell(rt, Level::Warning, fault.text());
     }
     if let Ok(faults) = document.faults(rt.alloc(), words.path()) {
         for fault in &faults {
@@ -151,15 +163,12 @@ impl<'a> Handler<'a> {
 
     // Tells that a core is lost since no archive is named.
     fn tell_unnamed<R: Files<File = File> + Clock>(&self, rt: &R, words: &HandleWords<'_>) {
-        let mut line = Collected::new(self.teller.alloc);
-        let mut reply = Reply::new(&mut line);
-        reply.tell(b"lost ");
-        match self.request(rt, words) {
-            Ok(request) => reply.tell(request.printed_name(self.teller.alloc).text()),
-            Err(_) => reply.tell(b"a core"),
+        let alloc = self.teller.alloc;
+        let mut name = Collected::new(alloc);
+        if let Ok(request) = self.request(rt, words) {
+            name = request.printed_name(alloc);
         }
-        reply.tell(b": no archive is named");
-        let _ = reply.finish();
+        let line = lost_line(alloc, b"", name.text(), "", b"File", UNNAMED);
         self.tell(rt, Level::Error, line.text());
     }
 
@@ -168,17 +177,15 @@ impl<'a> Handler<'a> {
         &self,
         rt: &R,
         words: &HandleWords<'_>,
-    ) -> Result<StoreRequest, Refusal> {
+    ) -> Result<StoreRequest, Refusal>
+        ensures asked { IfOk result (λ request. IsRequested self.now.config words.now.begin.items words.now.length request) }
+        ensures refused { IfErr result (λ refusal. refusal ≡ OutOfMemory) }
+    {
         let request = self.named(rt, words, self.template(rt))?;
         let Some(reason) = request.refusal() else {
             return Ok(request);
         };
-        let mut line = Collected::new(self.teller.alloc);
-        let mut reply = Reply::new(&mut line);
-        reply.tell(b"the template is left out, since the name is refused: no ");
-        reply.tell(reason);
-        let _ = reply.finish();
-        self.tell(rt, Level::Warning, line.text());
+        self.tell_unnamed_by(rt, reason);
         self.named(rt, words, PLAIN_TEMPLATE)
     }
 
@@ -188,48 +195,50 @@ impl<'a> Handler<'a> {
         rt: &R,
         words: &HandleWords<'_>,
         template: &str,
-    ) -> Result<StoreRequest, Refusal> {
-        let naming = Naming {
-            template: Template::parse(template.as_bytes())?,
-            uses_pid: self.config.uses_pid,
+    ) -> Result<StoreRequest, Refusal>
+        ensures asked { IfOk result (λ request. AsksBy self.now.config words.now.begin.items words.now.length template.now request) }
+        ensures refused { template_fault template.now ≡ None → IfErr result (λ refusal. refusal ≡ OutOfMemory) }
+    {
+        let now = self.time(rt);
+        let Ok(begin) = words.begin.clone() else {
+            return Err(Refusal::OutOfMemory);
         };
-        let limit = self.config.limit.unwrap_or(HANDLER_LIMIT);
-        let words = StoreWords {
-            policy: self.policy(rt),
-            begin: words.begin.clone()?,
-            options: StoreOptions {
-                label: self.label(rt),
-                pin: false,
-                fit: self.config.fit,
-                cut: if self.config.cut { Some(limit) } else { None },
-                length: words.length,
-                burst: self.burst(&words.begin, template),
-            },
-        };
-        Ok(StoreRequest::of(words, &naming, limit))
+        let label = self.label(rt);
+        match request_of(&self.config, begin, words.length, template, now, label) {
+            Ok(request) => Ok(request),
+            Err(fault) => Err(Refusal::from(fault)),
+        }
     }
 
-    fn template<R: Files<File = File>>(&self, rt: &R) -> &'a str {
-        let text = self.config.template.unwrap_or(HANDLER_TEMPLATE);
-        if Template::parse(text.as_bytes()).is_ok() {
+    // The template of the configuration, unless it has none, or none that is in order.
+    fn template<R: Files<File = File>>(&self, rt: &R) -> &'a str
+        ensures taken { result.now ≡ template_of (option_copied self.now.config.template) }
+        ensures sound { template_fault result.now ≡ None }
+    {
+        let Some(text) = self.config.template else {
+            return HANDLER_TEMPLATE;
+        };
+        let Err(_) = Template::parse(text.as_bytes()) else {
             return text;
-        }
+        };
         let told = b"the template is left out: it has over 127 bytes, or begins with |";
         self.tell(rt, Level::Warning, told);
         HANDLER_TEMPLATE
     }
 
-    // How many cores of the program are stored in how many seconds, if the configuration says so.
-    fn burst(&self, begin: &[u8], template: &str) -> Option<Burst> {
-        let burst = self.config.burst?;
-        Some(Burst {
-            front: program_front(begin, template),
-            most: burst.most,
-            seconds: burst.seconds,
-        })
+    // Tells that a template is left out since the name that it gives is refused.
+    fn tell_unnamed_by<R: Files<File = File>>(&self, rt: &R, reason: &[u8]) {
+        let mut line = Collected::new(self.teller.alloc);
+        let mut reply = Reply::new(&mut line);
+        reply.tell(b"the template is left out, since the name is refused: no ");
+        reply.tell(reason);
+        let _ = reply.finish();
+        self.tell(rt, Level::Warning, line.text());
     }
 
-    fn label<R: Files<File = File>>(&self, rt: &R) -> Option<ArrayVec<u8, 64>> {
+    fn label<R: Files<File = File>>(&self, rt: &R) -> Option<ArrayVec<u8, 64>>
+        ensures { option_copied self.now.config.label ≡ None → result ≡ None }
+    {
         let text = self.config.label?;
         match escaped_label(self.teller.alloc, text) {
             Ok(label) => Some(label),
@@ -244,22 +253,10 @@ impl<'a> Handler<'a> {
         }
     }
 
-    // By what cases are retired.
-    fn policy<R: Clock>(&self, rt: &R) -> Option<Policy> {
-        let before = match self.config.before {
-            Some(age) => time_before(rt, age),
-            None => None,
-        };
-        let keep = self.config.keep;
-        let bytes = self.config.bytes;
-        if keep.is_none() && bytes.is_none() && before.is_none() {
-            return None;
-        }
-        Some(Policy {
-            keep,
-            bytes,
-            before,
-        })
+    // The time in seconds since 1970, if the configuration says an age, and the clock tells.
+    fn time<R: Clock>(&self, rt: &R) -> Option<u64> {
+        self.config.before?;
+        seconds_of(rt.since_1970())
     }
 
     // Stores the core, and tells what became of it.
@@ -284,13 +281,5 @@ impl<'a> Handler<'a> {
             &mut note,
             onlooker,
         )
-    }
-}
-
-// The time so many seconds ago, if the clock tells.
-fn time_before<R: Clock>(rt: &R, age: u64) -> Option<u64> {
-    match rt.since_1970() {
-        Ok(now) => Some(now.as_secs().saturating_sub(age)),
-        Err(_) => None,
     }
 }

@@ -9,9 +9,11 @@ mod handling;
 mod labels;
 mod log;
 mod outcome_lines;
+mod requesting;
 mod teller;
 
 pub use handling::{HandleWords, handle, tell_lost_words};
 pub use labels::label_in;
 pub use log::Log;
+pub use requesting::policy_within;
 pub use teller::{Teller, store_told};

@@ -196,7 +196,8 @@ fn file_text(alloc: Global, refusal: Refusal) -> Option<String> {
     text.ok()
 }
 
-// What is told of a core that is lost for this reason, which means this, and of the cases that were dropped even so.
+// What is told of a core that is lost for this reason, which means this, and of the cases that were dropped even so. A name or an archive
+// that isn't known is a minus.
 pub(crate) fn lost_line(
     alloc: Global,
     replies: &[u8],
@@ -208,7 +209,7 @@ pub(crate) fn lost_line(
     let mut line = Collected::new(alloc);
     let mut reply = Reply::new(&mut line);
     reply.tell(b"lost ");
-    reply.tell(name);
+    reply.tell(if name.is_empty() { b"-" } else { name });
     reply.tell(b" in ");
     reply.tell_text(archive.as_bytes());
     reply.tell(b": no ");

@@ -1,0 +1,94 @@
+-- What the kernel's handler asks for, by its configuration and by the words that the kernel gives it.
+use Rattle.std.specs.Prelude.{◌≡◌, ℕ, ◌-◌, ◌^◌, false, List, Option, None, Some, Result, Ok, Err, codes, if◌then◌else◌}
+use Rattle.std.specs.Option.{option_copied, unwrap_or}
+use Rattle.arrayvec.specs.ArrayVec.{ArrayVec}
+use Rattle.archive_files.specs.declared.storing.StoreRequest.{StoreRequest}
+use Rattle.handler_config.specs.declared.config.Config.{Config}
+use Rattle.handler_config.specs.declared.config.Burst as allowed
+use Rattle.inspector_cli.specs.Storing.{line_stream}
+use Rattle.inspector_cli.specs.declared.burst.Burst.{Burst}
+use Rattle.inspector_cli.specs.declared.session.StoreOptions.{StoreOptions}
+use Rattle.intake.specs.State.{StreamFacts}
+use Rattle.name_template.specs.Template.{template_fault}
+use Rattle.name_template.specs.declared.template.TemplateFault.{TemplateFault}
+use Rattle.retention.specs.declared.Policy.{Policy}
+use Rattle.script_lines.specs.Said.{Said, said}
+use Rattle.stream_names.specs.Commands.{stream_found}
+use Rattle.core_handler.specs.Fronts.{named_by, program_front}
+
+-- The time of this age, in seconds since 1970: never before 1970. None, if no age is said, or the time is not known.
+abbrev pub time_before : Option ℕ → Option ℕ → Option ℕ
+time_before (Some now) (Some age) = Some (now - age)
+time_before None (Some age) = None
+time_before now None = None
+
+-- the policy with these limits; none, if there is no limit
+abbrev pub policy_within : Option ℕ → Option ℕ → Option ℕ → Option Policy
+policy_within None None None = None
+policy_within keep bytes before = Some (record { keep = keep; bytes = bytes; before = before })
+
+-- Which cases go first: so many stay, with so many bytes, and none that is older than the configuration says.
+abbrev pub policy_of : Config → Option ℕ → Option Policy
+policy_of config now = policy_within config.keep config.bytes (time_before now config.before)
+
+-- the most bytes of an image: 1 GiB, if the configuration doesn't say
+abbrev pub limit_of : Config → ℕ
+limit_of config = unwrap_or config.limit (2 ^ 30)
+
+-- how many bytes are kept of a core that is too large or finds no room: those of the limit, if it is to be cut
+abbrev pub cut_of : Config → Option ℕ
+cut_of config = if config.cut then Some (limit_of config) else None
+
+-- as many cores of the program whose names begin so, in as many seconds, as the configuration says
+abbrev pub burst_of : Option allowed.Burst → List ℕ → Option Burst
+burst_of None front = None
+burst_of (Some burst) front = Some (record { front = record { items = front }; most = burst.most; seconds = burst.seconds })
+
+abbrev pub template_unless : Option TemplateFault → List ℕ → List ℕ
+template_unless None template = template
+template_unless (Some fault) template = codes "core.%e.%p.%t"
+
+-- the template of the configuration; `core.%e.%p.%t`, if it has none, or none that is in order
+abbrev pub template_of : Option (List ℕ) → List ℕ
+template_of None = codes "core.%e.%p.%t"
+template_of (Some template) = template_unless (template_fault template) template
+
+abbrev pub template_if_found : Result StreamFacts (List ℕ) → List ℕ → List ℕ
+template_if_found (Ok stream) template = template
+template_if_found (Err reason) template = codes "core.%p.%t"
+
+-- by which template a core is named: that one; `core.%p.%t`, if it gives no name
+abbrev pub naming_template : Config → Said → List ℕ
+naming_template config what =
+    let template = template_of (option_copied config.template) in
+    template_if_found (line_stream (named_by template config.uses_pid) what) template
+
+-- What is asked for besides the policy and the limit. No case is pinned.
+abbrev pub options_of : Config → List ℕ → Option ℕ → List ℕ → Option (ArrayVec ℕ) → StoreOptions
+options_of config begin length template label = record {
+  label = label;
+  pin = false;
+  fit = config.fit;
+  cut = cut_of config;
+  length = length;
+  burst = burst_of config.burst (program_front template (said begin));
+}
+
+-- What is asked for of the core that a line begins, if it is named by this template: by the length that is stated, by the time, if it is
+-- known, and by the label, if one is taken.
+pub record Asks (config : Config) (begin : List ℕ) (length : Option ℕ) (template : List ℕ) (now : Option ℕ) (label : Option (ArrayVec ℕ)) (request : StoreRequest) : Type 0 where
+  -- the cases that go first
+  pub policy : request.policy ≡ policy_of config now
+  -- the stream that the line begins, or why there is none
+  pub found : stream_found request.found ≡ line_stream (named_by template config.uses_pid) (said begin)
+  pub options : request.options ≡ options_of config begin length template label
+  pub limit : request.limit ≡ limit_of config
+
+-- The same at some time, and with a label only if the configuration has one.
+abbrev pub AsksBy : Config → List ℕ → Option ℕ → List ℕ → StoreRequest → Type 0
+AsksBy config begin length template request =
+    (now : Option ℕ) × (label : Option (ArrayVec ℕ)) × (option_copied config.label ≡ None → label ≡ None) × Asks config begin length template now label request
+
+-- What the handler asks for.
+abbrev pub IsRequested : Config → List ℕ → Option ℕ → StoreRequest → Type 0
+IsRequested config begin length request = AsksBy config begin length (naming_template config (said begin)) request

@@ -1,0 +1,131 @@
+// What the kernel's handler asks for, by its configuration and by the words that the kernel gives it.
+ghost use Rattle.std.specs.Prelude.{◌≡◌, ℕ, ◌+◌, ◌-◌, ◌/◌, ◌<◌, ◌↔◌, IfOk, IfErr, MatchResult, None, Some};
+ghost use Rattle.std.specs.Duration.{as_nanos};
+ghost use Rattle.name_template.specs.Template.{template_fault};
+ghost use Rattle.script_lines.specs.Said.{said};
+ghost use Rattle.core_handler.specs.Fronts as fronts;
+ghost use Rattle.core_handler.specs.Requesting as spec;
+
+use crate::fronts::program_front;
+use crate::handling::HANDLER_LIMIT;
+use archive_files::{StoreRequest, StoreWords};
+use arrayvec::ArrayVec;
+use handler_config::Config;
+use inspector_cli::{Burst, Naming, StoreOptions};
+use name_template::{Template, TemplateFault};
+use retention::Policy;
+use std::io;
+use std::time::Duration;
+
+// What is stored, and by what: the core that a line begins, named by this template, with the length that is stated. The time is in
+// seconds since 1970.
+#[tactic(auto, using(crate::proofs::NamingLemmas::named_by_is))]
+pub(crate) fn request_of(
+    config: &Config<'_>,
+    begin: Vec<u8>,
+    length: Option<u64>,
+    template: &str,
+    now: Option<u64>,
+    label: Option<ArrayVec<u8, 64>>,
+) -> Result<StoreRequest, TemplateFault>
+    ensures asked { IfOk result (λ request. spec.Asks config.now begin.items length template.now now label request) }
+    ensures refused { IfErr result (λ fault. template_fault template.now ≡ Some fault) }
+{
+    let naming = Naming {
+        template: Template::parse(template.as_bytes())?,
+        uses_pid: config.uses_pid,
+    };
+    let options = StoreOptions {
+        label,
+        pin: false,
+        fit: config.fit,
+        cut: cut_of(config),
+        length,
+        burst: burst_of(config, &begin, template),
+    };
+    let words = StoreWords {
+        policy: policy_of(config, now),
+        begin,
+        options,
+    };
+    Ok(StoreRequest::of(words, &naming, limit_of(config)))
+}
+
+// The most bytes of an image.
+fn limit_of(config: &Config<'_>) -> u64
+    ensures { result ≡ spec.limit_of config.now }
+{
+    config.limit.unwrap_or(HANDLER_LIMIT)
+}
+
+// How many bytes are kept of a core that is to be cut.
+fn cut_of(config: &Config<'_>) -> Option<u64>
+    ensures { result ≡ spec.cut_of config.now }
+{
+    if config.cut {
+        Some(limit_of(config))
+    } else {
+        None
+    }
+}
+
+// How many cores of the program are stored in how many seconds, if the configuration says so.
+fn burst_of(config: &Config<'_>, begin: &[u8], template: &str) -> Option<Burst>
+    ensures { result ≡ spec.burst_of config.now.burst (fronts.program_front template.now (said begin.now)) }
+{
+    let burst = config.burst?;
+    Some(Burst {
+        front: program_front(begin, template),
+        most: burst.most,
+        seconds: burst.seconds,
+    })
+}
+
+// By what cases are retired.
+fn policy_of(config: &Config<'_>, now: Option<u64>) -> Option<Policy>
+    ensures { result ≡ spec.policy_of config.now now }
+{
+    policy_within(config.keep, config.bytes, time_before(now, config.before))
+}
+
+/// The policy with these limits, if there is one of them.
+pub fn policy_within(keep: Option<u64>, bytes: Option<u64>, before: Option<u64>) -> Option<Policy>
+    ensures { result ≡ spec.policy_within keep bytes before }
+{
+    if keep.is_none() && bytes.is_none() && before.is_none() {
+        return None;
+    }
+    Some(Policy {
+        keep,
+        bytes,
+        before,
+    })
+}
+
+// The time of this age, if it is said, and the time is known.
+fn time_before(now: Option<u64>, age: Option<u64>) -> Option<u64>
+    ensures { result ≡ spec.time_before now age }
+{
+    match (now, age) {
+        (Some(now), Some(age)) => Some(earlier(now, age)),
+        _ => None,
+    }
+}
+
+// The time that is so many seconds before this one, or 0. What was made before it is older than that.
+fn earlier(now: u64, age: u64) -> u64
+    ensures exact { result ≡ now - age }
+    ensures older { (made : ℕ) → (made < result ↔ made + age < now) }
+{
+    now.saturating_sub(age)
+}
+
+// What a clock gave, in seconds since 1970.
+pub(crate) fn seconds_of(read: io::Result<Duration>) -> Option<u64>
+    ensures { MatchResult read (λ time. result ≡ Some (as_nanos time / 1_000_000_000)) (λ fault. result ≡ None) }
+{
+    match read {
+        Ok(time) => Some(time.as_secs()),
+        Err(_) => None,
+    }
+}
