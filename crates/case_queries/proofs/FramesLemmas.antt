@@ -9,7 +9,7 @@ use Rattle.elf_view.specs.Sound.{IsHeaderWhole, IsSound}
 use Rattle.elf_view.specs.ViewWords.{notes_of}
 use Rattle.elf_view.specs.declared.faults.Want.{Want}
 use Rattle.elf_view.specs.declared.faults.Want.TheVariants.{Core}
-use Rattle.core_notes.specs.Typed.{all_descs}
+use Rattle.core_notes.specs.Typed.{all_descs, first_desc}
 use Rattle.address_space.specs.Source.{ExecutableView}
 use Rattle.address_space.specs.Whole.{IsFrontOf}
 use Rattle.build_replies.specs.Choosing.{choice_for}
@@ -18,7 +18,7 @@ use Rattle.build_replies.specs.ChoosingWords.{ArePlacesOf, choice_view}
 use Rattle.build_replies.specs.PlacesWords.{fronts_in}
 use Rattle.build_replies.specs.declared.choosing.ChosenExecutables.{ChosenExecutables}
 use Rattle.build_replies.specs.declared.places.FrontPlaces.{FrontPlaces}
-use Rattle.frame_replies.specs.Processes.{state_of as thread_state}
+use Rattle.frame_replies.specs.Processes.{start_by, start_of, state_of as thread_state}
 use Rattle.frame_replies.specs.Walking.{BeginsAt, IsProcessOf, IsWalkOf}
 use Rattle.frame_replies.specs.WalkLaws.{frame_missing, unwind_missing, walk_begins}
 use Rattle.frame_replies.specs.declared.process.UnwoundProcess.{UnwoundProcess}
@@ -58,6 +58,11 @@ module _ (notes : NotesLaw) (o : CaseImage) (sound : IsSoundFront Core o.front.n
   state_same image front =
       enough_shows (λ b. thread_state b t) (λ b n whole fine. ap (λ (ns : List NoteView). slice_get (all_descs 1 ns) t) (notes Core b n whole fine)) o.front.now image (inr (front.1, sound))
 
+  -- and where the program begins
+  start_same : (image : List ℕ) → IsFrontOf o.front.now o.size image → start_of o.front.now ≡ start_of image
+  start_same image front =
+      enough_shows start_of (λ b n whole fine. ap (λ (ns : List NoteView). start_by (first_desc 6 ns)) (notes Core b n whole fine)) o.front.now image (inr (front.1, sound))
+
   -- what is chosen by the places of the fronts is what is chosen for the core
   choice_same : (xs : List ExecutableView) (ps : List Part) (places : FrontPlaces) (c : ChosenExecutables) → ArePlacesOf o.front.now o.size places → IsChoiceAt o ps places xs c → (image : List ℕ) → BeginsWith o ps image → choice_view c ≡ choice_for image xs
   choice_same xs ps places c are is image begins =
@@ -69,7 +74,7 @@ module _ (notes : NotesLaw) (o : CaseImage) (sound : IsSoundFront Core o.front.n
       → (image : List ℕ) (p : UnwoundProcess) → BeginsWith o ps image → IsProcessOf o.front.now (choice_view c) p → IsWalkOf image xs t p w
   begins_of law xs ps places c w are is begins image p has own =
       let front = has.0 in
-      walk_begins o.front.now image xs (choice_view c) t p w own (choice_same xs ps places c are is image has) (enough_shows _ law o.front.now image (inr (front.1, sound))) (state_same image front) begins
+      walk_begins o.front.now image xs (choice_view c) t p w own (choice_same xs ps places c are is image has) (enough_shows _ law o.front.now image (inr (front.1, sound))) (start_same image front) (state_same image front) begins
 
   no_thread : (image : List ℕ) (xs : List ExecutableView) (frame : Option ℕ) → thread_state image t ≡ None → no_reply (codes "NoThread") ≡ reply_of (frames_answer image xs t frame)
   no_thread image xs None none = ap reply_of (unwind_missing image xs t none)

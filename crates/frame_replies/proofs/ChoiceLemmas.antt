@@ -24,7 +24,7 @@ use Rattle.unwind.specs.declared.frame.Frame.{Frame}
 use Rattle.frame_replies.specs.Choices.{IsBuildOf, IsOwnBuild, by_path_alone, frame_by_path, process_of, spot_of_frame, unwind_by_path}
 use Rattle.frame_replies.specs.FrameLines.{unwind_answer, unwound_answer, unwound_lines}
 use Rattle.frame_replies.specs.FrameRegisters.{frame_answer, one_frame_answer, registers_of}
-use Rattle.frame_replies.specs.Processes.{of_thread, process_in, state_of}
+use Rattle.frame_replies.specs.Processes.{of_thread, process_in, start_of, state_of}
 
 module _ {A : Type 0} (P : A → Type 0) where
   all_passed : (p : A → Bool) (xs : List A) → AllByRecursion P xs → AllByRecursion P (filter p xs)
@@ -114,7 +114,12 @@ unfolding executable_fault
 known_attached x h = none_first _ (first_fault Exec x.image) _ h
 
 process_from : List ℕ → List ExecutableView → ProcessView
-process_from b attached = record { space = record { segments = segments_of b; files = mapped_files b; executables = attached }; executables = attached; others = [] }
+process_from b attached = record {
+  space = record { segments = segments_of b; files = mapped_files b; executables = attached };
+  executables = attached;
+  others = [];
+  start = start_of b;
+}
 
 thread_same : (f g : List ℕ → Result (List ℕ) (List ℕ)) → ((desc : List ℕ) → f desc ≡ g desc) → (o : Option (List ℕ)) → of_thread f o ≡ of_thread g o
 thread_same f g same None = refl

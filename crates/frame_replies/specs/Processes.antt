@@ -1,16 +1,41 @@
 -- The process of a core, as its frames are unwound.
-use Rattle.std.specs.Prelude.{ℕ, List, slice_get, Option, None, Some, Result, Err, codes}
+use Rattle.std.specs.Prelude.{ℕ, ◌==◌, Bool, List, find, slice_get, Option, None, Some, Result, Err, codes}
+use Rattle.std.specs.Option.{option_map}
 use Rattle.build_replies.specs.Choosing.{Choice}
-use Rattle.core_notes.specs.Typed.{all_descs}
+use Rattle.core_notes.specs.Descriptor.{pairs_of}
+use Rattle.core_notes.specs.Typed.{all_descs, first_desc}
+use Rattle.core_notes.specs.declared.auxiliary.AuxvPair.{AuxvPair}
 use Rattle.elf_view.specs.ViewWords.{notes_of}
 use Rattle.elf_view.specs.declared.faults.Want.TheVariants.{Core}
 use Rattle.memory_replies.specs.Memory.{memory_of}
 use Rattle.unwind.specs.Code.{ProcessView}
 
--- The memory of the process, the executables that are attached to it, which are those that are used, and those that aren't, since
--- they are of another build.
+-- AT_ENTRY (9), the address where the program begins (getauxval(3))
+abbrev pub is_start : AuxvPair → Bool
+is_start pair = pair.kind == 9
+
+-- where the program begins, by pairs of an auxiliary vector: the first that tells it
+abbrev pub start_among : List AuxvPair → Option ℕ
+start_among pairs = option_map (λ (pair : AuxvPair). pair.value) (find is_start pairs)
+
+-- by the descriptor of an NT_AUXV; without one it is not told
+abbrev pub start_by : Option (List ℕ) → Option ℕ
+start_by None = None
+start_by (Some desc) = start_among (pairs_of desc)
+
+-- where the program begins, by the NT_AUXV (6) of a core
+abbrev pub start_of : List ℕ → Option ℕ
+start_of b = start_by (first_desc 6 (notes_of Core b))
+
+-- The memory of the process, the executables that are attached to it, which are those that are used, those that aren't, since
+-- they are of another build, and where the program begins.
 unfoldable pub process_in : List ℕ → Choice → ProcessView
-process_in b choice = record { space = memory_of b choice.used; executables = (memory_of b choice.used).executables; others = choice.others }
+process_in b choice = record {
+  space = memory_of b choice.used;
+  executables = (memory_of b choice.used).executables;
+  others = choice.others;
+  start = start_of b;
+}
 
 -- the state of a thread, by its number among the NT_PRSTATUS (1) of a core
 abbrev pub state_of : List ℕ → ℕ → Option (List ℕ)

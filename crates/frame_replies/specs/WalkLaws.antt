@@ -24,7 +24,7 @@ use Rattle.frame_replies.specs.FrameLines.{frame_line, return_words, stop_line, 
 use Rattle.frame_replies.specs.FrameRegisters.{frame_answer, one_frame_answer, registers_of}
 use Rattle.frame_replies.specs.Known.{known_words}
 use Rattle.frame_replies.specs.ProcessWords.{described_view}
-use Rattle.frame_replies.specs.Processes.{of_thread, process_in, state_of}
+use Rattle.frame_replies.specs.Processes.{of_thread, process_in, start_of, state_of}
 use Rattle.frame_replies.specs.Walking.{AreMarked, BeginsAt, HasFound, IsProcessOf, IsWalkOf, IsWalked, WalksOn, found, process_by, walked_line}
 use Rattle.frame_replies.specs.declared.process.UnwoundProcess.{UnwoundProcess}
 use Rattle.frame_replies.specs.declared.walk.Walk.{Walk}
@@ -81,26 +81,27 @@ module _ (image : List ℕ) (xs : List ExecutableView) (t : ℕ) (none : state_o
   unfolding frame_answer
   frame_missing i = sym (ap (of_thread (one_frame_answer image (choice_for image xs) i)) none)
 
-process_made : List SegmentView → List FileView → List ExecutableView → List ExecutableView → List ExecutableView → ProcessView
-process_made segments files attached executables others = record { space = record { segments = segments; files = files; executables = attached }; executables = executables; others = others }
+process_made : List SegmentView → List FileView → List ExecutableView → List ExecutableView → List ExecutableView → Option ℕ → ProcessView
+process_made segments files attached executables others start = record { space = record { segments = segments; files = files; executables = attached }; executables = executables; others = others; start = start }
 
-process_of_space : Space → List ℕ → List ExecutableView → List ExecutableView → ProcessView
-process_of_space space image executables others = record { space = space_in image space; executables = executables; others = others }
+process_of_space : Space → List ℕ → List ExecutableView → List ExecutableView → Option ℕ → ProcessView
+process_of_space space image executables others start = record { space = space_in image space; executables = executables; others = others; start = start }
 
 -- the process of an image, of which the core is the first bytes
-process_is : (front image : List ℕ) (choice : Choice) (p : UnwoundProcess) → IsProcessOf front choice p → mapped_files front ≡ mapped_files image → process_by p image ≡ process_in image choice
+process_is : (front image : List ℕ) (choice : Choice) (p : UnwoundProcess) → IsProcessOf front choice p → mapped_files front ≡ mapped_files image → start_of front ≡ start_of image → process_by p image ≡ process_in image choice
 unfolding process_in memory_of process_made process_of_space
-process_is front image choice p is files =
+process_is front image choice p is files starts =
     let attached = filter is_attached choice.used in
-    ap (λ (s : Space). process_of_space s image (map described_view p.described.items) (map attached_view p.others.items)) is.memory
-    ∙ ap (λ (fs : List FileView). process_made (segments_of image) fs attached (map described_view p.described.items) (map attached_view p.others.items)) files
-    ∙ ap (λ (xs : List ExecutableView). process_made (segments_of image) (mapped_files image) attached xs (map attached_view p.others.items)) is.described
-    ∙ ap (process_made (segments_of image) (mapped_files image) attached attached) is.others
+    ap (λ (s : Space). process_of_space s image (map described_view p.described.items) (map attached_view p.others.items) p.start) is.memory
+    ∙ ap (λ (fs : List FileView). process_made (segments_of image) fs attached (map described_view p.described.items) (map attached_view p.others.items) p.start) files
+    ∙ ap (λ (xs : List ExecutableView). process_made (segments_of image) (mapped_files image) attached xs (map attached_view p.others.items) p.start) is.described
+    ∙ ap (λ (xs : List ExecutableView). process_made (segments_of image) (mapped_files image) attached attached xs p.start) is.others
+    ∙ ap (process_made (segments_of image) (mapped_files image) attached attached choice.others) (is.start ∙ starts)
 
 -- a walk that begins
-pub walk_begins : (front image : List ℕ) (xs : List ExecutableView) (choice : Choice) (t : ℕ) (p : UnwoundProcess) (w : Walk) → IsProcessOf front choice p → choice ≡ choice_for image xs → mapped_files front ≡ mapped_files image → state_of front t ≡ state_of image t → BeginsAt (state_of front t) w → IsWalkOf image xs t p w
-walk_begins front image xs choice t p w is own files states begins = record {
-  process = process_is front image choice p is files ∙ ap (process_in image) own;
+pub walk_begins : (front image : List ℕ) (xs : List ExecutableView) (choice : Choice) (t : ℕ) (p : UnwoundProcess) (w : Walk) → IsProcessOf front choice p → choice ≡ choice_for image xs → mapped_files front ≡ mapped_files image → start_of front ≡ start_of image → state_of front t ≡ state_of image t → BeginsAt (state_of front t) w → IsWalkOf image xs t p w
+walk_begins front image xs choice t p w is own files starts states begins = record {
+  process = process_is front image choice p is files starts ∙ ap (process_in image) own;
   named = is.named ∙ ap (λ (c : Choice). known_among c.used) own;
   desc = begins.0;
   state = sym states ∙ begins.1;

@@ -22,7 +22,7 @@ use Rattle.unwind.specs.declared.frame.Frame.{Frame}
 use Rattle.frame_replies.specs.FrameLines.{return_words}
 use Rattle.frame_replies.specs.Known.{known_words}
 use Rattle.frame_replies.specs.ProcessWords.{described_view}
-use Rattle.frame_replies.specs.Processes.{process_in, state_of}
+use Rattle.frame_replies.specs.Processes.{process_in, start_of, state_of}
 use Rattle.frame_replies.specs.declared.process.UnwoundProcess.{UnwoundProcess}
 use Rattle.frame_replies.specs.declared.walk.Walk.{Walk}
 use Rattle.frame_replies.specs.declared.walk.WalkedFrame.{WalkedFrame}
@@ -36,10 +36,16 @@ pub record IsProcessOf (b : List ℕ) (choice : Choice) (p : UnwoundProcess) : T
   pub named : named_in p.images ≡ known_among choice.used
   pub described : map described_view p.described.items ≡ filter is_attached choice.used
   pub others : map attached_view p.others.items ≡ choice.others
+  pub start : p.start ≡ start_of b
 
 -- the process, if its core has this image
 abbrev pub process_by : UnwoundProcess → List ℕ → ProcessView
-process_by p image = record { space = space_in image (space_of p.space); executables = map described_view p.described.items; others = map attached_view p.others.items }
+process_by p image = record {
+  space = space_in image (space_of p.space);
+  executables = map described_view p.described.items;
+  others = map attached_view p.others.items;
+  start = p.start;
+}
 
 -- the frames that were found
 abbrev pub found : List WalkedFrame → List Frame

@@ -1,26 +1,54 @@
 // The process of a core, as its frames are unwound.
-ghost use Rattle.std.specs.Prelude.{IfOk, map};
+ghost use Rattle.std.specs.Prelude.{◌≡◌, IfOk, map};
+ghost use Rattle.core_notes.specs.DescriptorWords.{pairs_left};
 ghost use Rattle.image_replies.specs.CoreWords.{core_bytes};
 ghost use Rattle.build_replies.specs.Choosing.{choice_for};
 ghost use Rattle.build_replies.specs.ChoosingWords.{choice_view};
 ghost use Rattle.memory_replies.specs.Memory.{attached_view};
+ghost use Rattle.frame_replies.specs.Processes as spec;
 
 use crate::described::Described;
 use crate::executables::all_described;
 use address_space::{AddressSpace, Attached};
 use build_replies::ChosenExecutables;
+use core_notes::AuxvPairs;
 use image_replies::CoreImage;
 use memory_replies::{SymbolizedExecutables, space_and_images};
 use std::alloc::{AllocError, Global};
 
-/// The process of a core: its memory, the executables that are attached, with their call frame information and their symbols, and
-/// those that are not, since they are of another build.
+/// AT_ENTRY: the address where the program begins.
+const AT_ENTRY: u64 = 9;
+
+/// Where the program begins, by pairs of an auxiliary vector.
+fn start_among(pairs: AuxvPairs<'_>) -> Option<u64>
+    ensures { result ≡ spec.start_among (pairs_left pairs.entry) }
+{
+    let mut rest = pairs;
+    while let Some(pair) = rest.next() {
+        if pair.kind == AT_ENTRY {
+            return Some(pair.value);
+        }
+    }
+    None
+}
+
+/// Where the program of a core begins, if its auxiliary vector tells it.
+fn start_of(core: &CoreImage<'_>) -> Option<u64>
+    ensures { result ≡ spec.start_of (core_bytes core.now) }
+{
+    let vector = core.notes().auxv()?;
+    start_among(vector.pairs())
+}
+
+/// The process of a core: its memory, the executables that are attached, with their call frame information and their symbols, those
+/// that are not, since they are of another build, and where the program begins.
 #[derive(Drop)]
 pub struct UnwoundProcess<'a> {
     pub(crate) space: AddressSpace<'a>,
     pub(crate) images: SymbolizedExecutables<'a>,
     pub(crate) described: Vec<Described<'a>>,
     pub(crate) others: Vec<Attached<'a>>,
+    pub(crate) start: Option<u64>,
 }
 
 impl<'a> UnwoundProcess<'a> {
@@ -42,6 +70,7 @@ impl<'a> UnwoundProcess<'a> {
             images,
             described,
             others: chosen.others,
+            start: start_of(core),
         })
     }
 

@@ -78,12 +78,13 @@ impl Walk {
         memory: SeenMemory<'_, '_>,
         executables: &[UnwoundExecutable<'_, '_>],
         others: &[Attached<'_>],
+        start: Option<u64>,
     ) -> Result<Option<Stop>, WalkFault>
-        ensures walks { (image : List ℕ) → IsImageOf memory.entry image → WalksOn (process_with (space_by memory.entry image) executables.now others.now) self.old self.new }
+        ensures walks { (image : List ℕ) → IsImageOf memory.entry image → WalksOn (process_with (space_by memory.entry image) executables.now others.now start) self.old self.new }
         ensures told { StepsOn memory.entry.front.now memory.entry.size memory.entry.parts.now self.old result self.new }
     {
         let mut left = self.left;
-        let frame = match left.next(memory, executables, others)? {
+        let frame = match left.next(memory, executables, others, start)? {
             Ok(frame) => frame,
             Err(stop) => return Ok(Some(stop)),
         };
@@ -101,12 +102,13 @@ impl Walk {
         memory: SeenMemory<'_, '_>,
         executables: &[UnwoundExecutable<'_, '_>],
         others: &[Attached<'_>],
+        start: Option<u64>,
     ) -> Result<Stop, WalkFault>
-        ensures walks { (image : List ℕ) → IsImageOf memory.entry image → WalksOn (process_with (space_by memory.entry image) executables.now others.now) self.old self.new }
+        ensures walks { (image : List ℕ) → IsImageOf memory.entry image → WalksOn (process_with (space_by memory.entry image) executables.now others.now start) self.old self.new }
         ensures told { GoesOn memory.entry.front.now memory.entry.size memory.entry.parts.now result self.new }
     {
         loop {
-            if let Some(stop) = self.step(memory, executables, others)? {
+            if let Some(stop) = self.step(memory, executables, others, start)? {
                 return Ok(stop);
             }
         }
@@ -133,6 +135,6 @@ impl Walk {
             size,
             parts,
         };
-        self.walk(memory, &executables, &process.others)
+        self.walk(memory, &executables, &process.others, process.start)
     }
 }

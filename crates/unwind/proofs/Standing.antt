@@ -20,6 +20,7 @@ use Rattle.unwind.specs.ByTrampoline as trampolines
 use Rattle.unwind.specs.Code.{ProcessView, CodeView, code_of}
 use Rattle.unwind.specs.Reasons.{checked, and_then, stop_if}
 use Rattle.unwind.specs.Registers.{Registers, ra, sp, known}
+use Rattle.unwind.specs.Start.{holds_start}
 use Rattle.unwind.specs.Stands.{IsBareCall, StandsOn, EachStands, IsAbove, Rises, EachRises, AreBare}
 use Rattle.unwind.specs.Unwinding.{call_or, by_rules, bounded, next, IsUnwoundFrom, first_frame, most}
 use Rattle.unwind.specs.Values.{cfa_by, value_by, registers_by, is_undefined, unknown_by}
@@ -155,40 +156,42 @@ row_led space f g e v row is h =
       },
     )
 
-covering_led : (space : Space) (f g : Frame) (e : EntryView) (v : ℕ) → led.by_covering space f v e ≡ Ok g → (row : Row) × (a : ℕ) × IsLed space f g e v row a
+covering_led : (space : Space) (start : Option ℕ) (f g : Frame) (e : EntryView) (v : ℕ) → led.by_covering space start f v e ≡ Ok g → (row : Row) × (a : ℕ) × (holds_start start f v e ≡ false) × IsLed space f g e v row a
 unfolding led.row_at
-covering_led space f g e v h =
-    let some = then_ok (led.row_at e v) (led.by_row space f (led.return_in e)) g h in
+covering_led space start f g e v h =
+    let goes = passed (holds_start start f v e) Outermost (and_then (led.row_at e v) (led.by_row space f (led.return_in e))) g h in
+    let some = then_ok (led.row_at e v) (led.by_row space f (led.return_in e)) g goes.1 in
     let rest = row_led space f g e v some.0 (row_ok e.index (row_of e v) some.0 some.1) some.2 in
-    (some.0, rest.0, rest.1)
+    (some.0, rest.0, goes.0, rest.1)
 
-abbrev pub IsCovered : Space → Frame → Frame → CodeView → Type 0
-IsCovered space f g code = (e : EntryView) × (row : Row) × (a : ℕ) × (entry_of code.image code.address ≡ Ok e) × IsLed space f g e code.address row a
+abbrev pub IsCovered : Space → Option ℕ → Frame → Frame → CodeView → Type 0
+IsCovered space start f g code =
+    (e : EntryView) × (row : Row) × (a : ℕ) × (entry_of code.image code.address ≡ Ok e) × (holds_start start f code.address e ≡ false) × IsLed space f g e code.address row a
 
-found_led : (space : Space) (f g : Frame) (code : CodeView) (r : Result EntryView entries.NoEntry) → entry_of code.image code.address ≡ r → led.by_found space f code r ≡ Ok g → IsCovered space f g code ⊎ ((entry_of code.image code.address ≡ Err Uncovered) × (calls.by_stub code f ≡ Some g))
-found_led space f g code (Ok e) is h =
-    let rest = covering_led space f g e code.address h in inl (e, rest.0, rest.1, is, rest.2)
-found_led space f g code (Err (Faulty fault)) is h = cc
-found_led space f g code (Err Uncovered) is h =
+found_led : (space : Space) (start : Option ℕ) (f g : Frame) (code : CodeView) (r : Result EntryView entries.NoEntry) → entry_of code.image code.address ≡ r → led.by_found space start f code r ≡ Ok g → IsCovered space start f g code ⊎ ((entry_of code.image code.address ≡ Err Uncovered) × (calls.by_stub code f ≡ Some g))
+found_led space start f g code (Ok e) is h =
+    let rest = covering_led space start f g e code.address h in inl (e, rest.0, rest.1, is, rest.2, rest.3)
+found_led space start f g code (Err (Faulty fault)) is h = cc
+found_led space start f g code (Err Uncovered) is h =
     let some = checked_ok (calls.by_stub code f) NoEntry _ g h in inr (is, some.1 ∙ ap (λ k. Some k) (same_ok some.0 g some.2))
 
 -- a frame came by one of these
 pub data Led (p : ProcessView) (f g : Frame) : Type 0 where
   by_signal : trampolines.is_trampoline p.space f.pc ≡ true → IsSignalled p.space f g → Led p f g
   by_bare_call : IsBareCall p f → IsMade f g → Led p f g
-  by_fde : (code : CodeView) → code_of p f ≡ Ok code → IsCovered p.space f g code → Led p f g
+  by_fde : (code : CodeView) → code_of p f ≡ Ok code → IsCovered p.space p.start f g code → Led p f g
 
-code_led : (p : ProcessView) (f g : Frame) (code : CodeView) → code_of p f ≡ Ok code → led.by_code p.space f code ≡ Ok g → Led p f g
+code_led : (p : ProcessView) (f g : Frame) (code : CodeView) → code_of p f ≡ Ok code → led.by_code p.space p.start f code ≡ Ok g → Led p f g
 unfolding led.by_code
 code_led p f g code is h =
     ⊎_elim (λ covered. by_fde code is covered)
     (λ stub. let made = stub_made code f g stub.1 in by_bare_call (inr (code, is, (stub.0, made.0))) made.1)
-    (found_led p.space f g code (entry_of code.image code.address) refl h)
+    (found_led p.space p.start f g code (entry_of code.image code.address) refl h)
 
 entry_led : (p : ProcessView) (f g : Frame) → led.by_entry p f ≡ Ok g → Led p f g
 unfolding led.by_entry
 entry_led p f g h =
-    let some = then_ok (code_of p f) (led.by_code p.space f) g h in code_led p f g some.0 some.1 some.2
+    let some = then_ok (code_of p f) (led.by_code p.space p.start f) g h in code_led p f g some.0 some.1 some.2
 
 call_led : (p : ProcessView) (f g : Frame) (o : Option Frame) → calls.by_call p.space f ≡ o → call_or o (led.by_entry p f) ≡ Ok g → Led p f g
 call_led p f g None is h = entry_led p f g h
@@ -214,7 +217,7 @@ stands_on p f g (by_signal trampoline (s, stack, pc, same)) =
     inl (s, record { trampoline = trampoline; stack = stack; pc = pc; stood = ap (λ (k : Frame). k.exact) same; registers = ap (λ (k : Frame). k.registers) same })
 stands_on p f g (by_bare_call bare (at, pc, same)) =
     inr (inl (record { bare = bare; stood = at; pc = pc; returns = ap (λ (k : Frame). k.exact) same; registers = ap (λ (k : Frame). k.registers) same }))
-stands_on p f g (by_fde code is (e, row, a, covers, found)) =
+stands_on p f g (by_fde code is (e, row, a, covers, inner, found)) =
     let r = led.return_in e in
     let exact : g.exact ≡ e.cie.signal = ap (λ (k : Frame). k.exact) found.frame ∙ stood p.space f a g.pc row r in
     inr (inr (
@@ -225,6 +228,7 @@ stands_on p f g (by_fde code is (e, row, a, covers, found)) =
       record {
         looked_up = is;
         covers = covers;
+        inner = inner;
         executed = found.executed;
         cfa = found.cfa;
         pc = found.pc;
@@ -293,7 +297,7 @@ rises_to p f g alone (by_signal trampoline (s, stack, pc, same)) =
     let none : g.callee ≡ None = ap (λ (k : Frame). k.callee) same in (rises_none f.callee g.callee none, λ e. none)
 rises_to p f g alone (by_bare_call bare (stood, pc, same)) =
     (rises_alone f.callee g.callee (alone stood), λ e. absurd (both_ways g.exact (ap (λ (k : Frame). k.exact) same) e))
-rises_to p f g alone (by_fde code is (e, row, a, covers, found)) =
+rises_to p f g alone (by_fde code is (e, row, a, covers, inner, found)) =
     let d = calls.callee_at f.pc a in
     let same = ap (λ (k : Frame). k.callee) found.frame in (
       ⊎_elim (λ none. rises_none f.callee g.callee (same ∙ none))
@@ -315,7 +319,7 @@ not_led : (p : ProcessView) (f g : Frame) → trampolines.is_trampoline p.space 
 not_led p f g none code bare (by_signal trampoline signal) = both_ways _ none trampoline
 not_led p f g none code bare (by_bare_call (inl no_code) made) = both_ways _ code no_code
 not_led p f g none code bare (by_bare_call (inr (at, is, stub)) made) = both_ways _ (bare at is).1 stub.1
-not_led p f g none code bare (by_fde at is (e, row, a, covers, found)) = (bare at is).0 e covers
+not_led p f g none code bare (by_fde at is (e, row, a, covers, inner, found)) = (bare at is).0 e covers
 
 stopped_by : (p : ProcessView) (n : ℕ) (f : Frame) (r : Result Frame Stop) → next p n f ≡ r → ((g : Frame) → Led p f g → ⊥) → (stop : Stop) × (next p n f ≡ Err stop)
 stopped_by p n f (Ok g) is none = absurd (none g (next_led p n f g is))
@@ -323,3 +327,13 @@ stopped_by p n f (Err stop) is none = (stop, is)
 
 pub nothing_guessed : (p : ProcessView) (n : ℕ) (f : Frame) → trampolines.is_trampoline p.space f.pc ≡ false → calls.is_no_code p.space f.pc ≡ false → ((code : CodeView) → code_of p f ≡ Ok code → AreBare code) → (stop : Stop) × (next p n f ≡ Err stop)
 nothing_guessed p n f none code bare = stopped_by p n f (next p n f) refl (λ g. not_led p f g none code bare)
+
+-- nothing called the code where the program begins
+pub start_last : (p : ProcessView) (n : ℕ) (f : Frame) (code : CodeView) (e : EntryView) → trampolines.is_trampoline p.space f.pc ≡ false → calls.is_no_code p.space f.pc ≡ false → code_of p f ≡ Ok code → entry_of code.image code.address ≡ Ok e → holds_start p.start f code.address e ≡ true → next p n f ≡ Err Outermost
+unfolding next by_rules calls.by_call led.by_entry led.by_code
+start_last p n f code e none has is covers starts =
+    ap (λ t. bounded n (cond t (trampolines.by_trampoline p.space f) (call_or (calls.by_call p.space f) (led.by_entry p f)))) none
+    ∙ ap (λ t. bounded n (call_or (cond t (calls.caller_of f) None) (led.by_entry p f))) has
+    ∙ ap (λ r. bounded n (and_then r (led.by_code p.space p.start f))) is
+    ∙ ap (λ r. bounded n (led.by_found p.space p.start f code r)) covers
+    ∙ ap (λ t. bounded n (stop_if t Outermost (and_then (led.row_at e code.address) (led.by_row p.space f (led.return_in e))))) starts

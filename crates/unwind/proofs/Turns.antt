@@ -31,6 +31,7 @@ use Rattle.unwind.specs.FrameWords.{frames_left, stop_left}
 use Rattle.unwind.specs.InTurn.{GiveInTurn, GiveLast, HasAddress, HasFault, IsCodeAt, IsUncovered, IsWritten, CallersAreOfTheirCalls, NoEntryIsPassedOver, NoFaultIsHidden, NoNextFunctionIsACaller, ReturnAddressesAreUnknown, ReturnAddressesAreUsedOnce}
 use Rattle.unwind.specs.Reasons.{checked, and_then, stop_if}
 use Rattle.unwind.specs.Registers.{Registers, known, sp}
+use Rattle.unwind.specs.Start.{holds_start}
 use Rattle.unwind.specs.Stands.{IsReturnOf, StandsOn}
 use Rattle.unwind.specs.Unwinding.{bounded, by_rules, call_or, frames_behind, frames_from, next, stop_behind, stop_from}
 use Rattle.unwind.specs.Values as values
@@ -309,16 +310,18 @@ led_not space f row r h =
     (then_err (values.cfa_by f.registers row.cfa) (led.by_cfa space f row r) stops.NoEntry passed))
     (passed_err (values.is_undefined rule) stops.Outermost stops.NoEntry _ h)
 
-covering_not : (space : Space) (f : Frame) (v : ℕ) (e : EntryView) → led.by_covering space f v e ≡ Err stops.NoEntry → ⊥
+covering_not : (space : Space) (start : Option ℕ) (f : Frame) (v : ℕ) (e : EntryView) → led.by_covering space start f v e ≡ Err stops.NoEntry → ⊥
 unfolding led.row_at
-covering_not space f v e h =
-    ⊎_elim (row_not e.index _) (λ row. led_not space f row.0 (led.return_in e) row.2)
-    (then_err (led.row_at e v) (led.by_row space f (led.return_in e)) stops.NoEntry h)
+covering_not space start f v e h =
+    ⊎_elim (λ same. cc)
+    (λ inner. ⊎_elim (row_not e.index _) (λ row. led_not space f row.0 (led.return_in e) row.2)
+    (then_err (led.row_at e v) (led.by_row space f (led.return_in e)) stops.NoEntry inner))
+    (passed_err (holds_start start f v e) stops.Outermost stops.NoEntry _ h)
 
-found_none : (space : Space) (f : Frame) (code : CodeView) (r : Result EntryView none.NoEntry) → led.by_found space f code r ≡ Err stops.NoEntry → r ≡ Err Uncovered
-found_none space f code (Ok e) h = absurd (covering_not space f code.address e h)
-found_none space f code (Err (Faulty fault)) h = absurd cc
-found_none space f code (Err Uncovered) h = refl
+found_none : (space : Space) (start : Option ℕ) (f : Frame) (code : CodeView) (r : Result EntryView none.NoEntry) → led.by_found space start f code r ≡ Err stops.NoEntry → r ≡ Err Uncovered
+found_none space start f code (Ok e) h = absurd (covering_not space start f code.address e h)
+found_none space start f code (Err (Faulty fault)) h = absurd cc
+found_none space start f code (Err Uncovered) h = refl
 
 abbrev HasNoEntry : ProcessView → Frame → Type 0
 HasNoEntry p f = (code : CodeView) × (code_of p f ≡ Ok code) × (entry_of code.image code.address ≡ Err Uncovered)
@@ -326,8 +329,8 @@ HasNoEntry p f = (code : CodeView) × (code_of p f ≡ Ok code) × (entry_of cod
 entry_none : (p : ProcessView) (f : Frame) → led.by_entry p f ≡ Err stops.NoEntry → HasNoEntry p f
 unfolding led.by_entry led.by_code
 entry_none p f h =
-    ⊎_elim (λ err. absurd (code_not p f err)) (λ code. (code.0, code.1, found_none p.space f code.0 (entry_of code.0.image code.0.address) code.2))
-    (then_err (code_of p f) (led.by_code p.space f) stops.NoEntry h)
+    ⊎_elim (λ err. absurd (code_not p f err)) (λ code. (code.0, code.1, found_none p.space p.start f code.0 (entry_of code.0.image code.0.address) code.2))
+    (then_err (code_of p f) (led.by_code p.space p.start f) stops.NoEntry h)
 
 call_none : (p : ProcessView) (f : Frame) (o : Option Frame) → call_or o (led.by_entry p f) ≡ Err stops.NoEntry → HasNoEntry p f
 call_none p f None h = entry_none p f h

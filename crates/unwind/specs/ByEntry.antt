@@ -14,6 +14,7 @@ use Rattle.unwind.specs.ByCall.{by_stub, callee_at}
 use Rattle.unwind.specs.Code.{ProcessView, CodeView, code_of}
 use Rattle.unwind.specs.Reasons.{checked, and_then, stop_if}
 use Rattle.unwind.specs.Registers.{Registers, without}
+use Rattle.unwind.specs.Start.{holds_start}
 use Rattle.unwind.specs.Values.{value_by, registers_by, cfa_by, unknown_by, is_undefined}
 use Rattle.unwind.specs.declared.by_entry.Return.{Return}
 use Rattle.unwind.specs.declared.faults.Stop.{Stop}
@@ -65,19 +66,19 @@ by_row space f r row =
 abbrev pub return_in : EntryView → Return
 return_in e = record { column = e.cie.column; signal = e.cie.signal }
 
--- the frame that an entry leads to at an address
-abbrev pub by_covering : Space → Frame → ℕ → EntryView → Result Frame Stop
-by_covering space f v e = and_then (row_at e v) (by_row space f (return_in e))
+-- the frame that an entry leads to at an address, unless the program begins there
+abbrev pub by_covering : Space → Option ℕ → Frame → ℕ → EntryView → Result Frame Stop
+by_covering space start f v e = stop_if (holds_start start f v e) Outermost (and_then (row_at e v) (by_row space f (return_in e)))
 
 -- by the entry that covers an address; where none does, and none is at fault, a stub of the procedure linkage table may be
-abbrev pub by_found : Space → Frame → CodeView → Result EntryView entries.NoEntry → Result Frame Stop
-by_found space f code (Ok e) = by_covering space f code.address e
-by_found space f code (Err (Faulty fault)) = Err (FaultyEntry fault)
-by_found space f code (Err Uncovered) = checked (by_stub code f) NoEntry (λ g. Ok g)
+abbrev pub by_found : Space → Option ℕ → Frame → CodeView → Result EntryView entries.NoEntry → Result Frame Stop
+by_found space start f code (Ok e) = by_covering space start f code.address e
+by_found space start f code (Err (Faulty fault)) = Err (FaultyEntry fault)
+by_found space start f code (Err Uncovered) = checked (by_stub code f) NoEntry (λ g. Ok g)
 
 -- by the first entry that covers the code's address
-unfoldable pub by_code : Space → Frame → CodeView → Result Frame Stop
-by_code space f code = by_found space f code (entry_of code.image code.address)
+unfoldable pub by_code : Space → Option ℕ → Frame → CodeView → Result Frame Stop
+by_code space start f code = by_found space start f code (entry_of code.image code.address)
 
 unfoldable pub by_entry : ProcessView → Frame → Result Frame Stop
-by_entry p f = and_then (code_of p f) (by_code p.space f)
+by_entry p f = and_then (code_of p f) (by_code p.space p.start f)

@@ -8,12 +8,13 @@ use Rattle.unwind.specs.declared.faults.Stop.{Stop}
 use Rattle.unwind.specs.declared.faults.Stop.TheVariants.{NoFile, NoExecutable, OtherBuild, NoAddress}
 use Rattle.unwind.specs.declared.frame.Frame.{Frame}
 
--- a process: its memory, the executables that are attached for mapped files, and those that are stored under the name of one and are not attached, since they
--- are of another build
+-- a process: its memory, the executables that are attached for mapped files, those that are stored under the name of one and are not attached, since they
+-- are of another build, and where the program begins, if that is told
 pub record ProcessView : Type 0 where
   pub space : Space
   pub executables : List ExecutableView
   pub others : List ExecutableView
+  pub start : Option ℕ
 
 -- the address that is looked up for a frame: its pc if execution was there; else the one before the pc, since a call is before the address that it returns to
 abbrev pub looked_up : Frame → Option ℕ

@@ -2,6 +2,7 @@ pub mod Registers
 pub mod Reasons
 pub mod Values
 pub mod Code
+pub mod Start
 pub mod ByEntry
 pub mod ByCall
 pub mod ByTrampoline

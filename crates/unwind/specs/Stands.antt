@@ -10,6 +10,7 @@ use Rattle.unwind.specs.ByCall.{is_no_code, is_stub}
 use Rattle.unwind.specs.ByTrampoline.{is_trampoline, saved_word, saved_registers}
 use Rattle.unwind.specs.Code.{ProcessView, CodeView, code_of}
 use Rattle.unwind.specs.Registers.{ra, sp, known, without}
+use Rattle.unwind.specs.Start.{holds_start}
 use Rattle.unwind.specs.Values.{cfa_by, register_by, value_by}
 use Rattle.unwind.specs.declared.frame.Callee.{Callee}
 use Rattle.unwind.specs.declared.frame.Frame.{Frame}
@@ -40,10 +41,11 @@ pub record IsCaller (p : ProcessView) (f g : Frame) : Type 0 where
 
 -- The pc of the other is the value of the return column by its rule, in the row of the first FDE that covers the address that
 -- is looked up for the frame. So is each of its registers, but that of the return column after a call, which wrote it. A signal
--- came where the CIE says so.
+-- came where the CIE says so. The program does not begin in the code of that FDE.
 pub record IsReturn (p : ProcessView) (f g : Frame) (code : CodeView) (e : EntryView) (row : Row) (a : ℕ) : Type 0 where
   pub looked_up : code_of p f ≡ Ok code
   pub covers : entry_of code.image code.address ≡ Ok e
+  pub inner : holds_start p.start f code.address e ≡ false
   pub executed : row_of e code.address ≡ Ok row
   pub cfa : cfa_by f.registers row.cfa ≡ Ok a
   pub pc : value_by p.space f.registers a e.cie.column (rule_of row.rules e.cie.column) ≡ Some g.pc

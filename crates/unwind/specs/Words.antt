@@ -1,5 +1,5 @@
 -- What the code's executables, processes and places mean.
-use Rattle.std.specs.Prelude.{List, map, Result, Ok, Err}
+use Rattle.std.specs.Prelude.{ℕ, List, map, Option, Result, Ok, Err}
 use Rattle.elf_view.specs.ViewWords.{image_of}
 use Rattle.address_space.specs.Source.{ExecutableView, Space}
 use Rattle.address_space.specs.SpaceWords.{attached_view, space_of}
@@ -13,13 +13,18 @@ use Rattle.unwind.specs.declared.faults.Stop.{Stop}
 abbrev pub executable_view : UnwoundExecutable → ExecutableView
 executable_view x = record { path = x.path.now; image = image_of x.elf }
 
--- the process of a memory, with these executables, and these of another build
-abbrev pub process_with : Space → List UnwoundExecutable → List Attached → ProcessView
-process_with space executables others = record { space = space; executables = map executable_view executables; others = map attached_view others }
+-- the process of a memory, with these executables, and these of another build, and where the program begins
+abbrev pub process_with : Space → List UnwoundExecutable → List Attached → Option ℕ → ProcessView
+process_with space executables others start = record {
+  space = space;
+  executables = map executable_view executables;
+  others = map attached_view others;
+  start = start;
+}
 
 -- the process by the first bytes of its core's image
 abbrev pub process_view : Process → ProcessView
-process_view p = process_with (space_of p.memory.space.now) p.executables.now p.others.now
+process_view p = process_with (space_of p.memory.space.now) p.executables.now p.others.now p.start
 
 abbrev pub code_view : Code → CodeView
 code_view c = record { image = image_of c.executable.elf; address = c.address }

@@ -13,6 +13,7 @@ use crate::code::{Code, Process};
 use crate::executable::UnwoundExecutable;
 use crate::faults::{RowFault, Stop};
 use crate::frame::{Callee, Frame, Registers, without};
+use crate::start::holds_start;
 use crate::values::{cfa_by, is_undefined, registers_by, unknown_by, value_by};
 use call_frames::{Entry, NoEntry};
 use frame_rows::{Row, Rule};
@@ -145,15 +146,19 @@ fn by_row(
     }
 }
 
-/// The frame that an entry leads to.
+/// The frame that an entry leads to, unless the program begins in its code.
 fn by_covering(
     memory: &SeenMemory<'_, '_>,
+    start: Option<u64>,
     frame: &Frame,
     entry: &Entry<'_>,
     address: u64,
 ) -> Result<Result<Frame, Stop>, Unread>
-    ensures { ForEach memory.now (λ space. spec.by_covering space frame.now address (entry_view entry.now)) result }
+    ensures { ForEach memory.now (λ space. spec.by_covering space start frame.now address (entry_view entry.now)) result }
 {
+    if holds_start(start, frame, address, entry) {
+        return Ok(Err(Stop::Outermost));
+    }
     let back = Return {
         column: u64::from(entry.cie.column),
         signal: entry.cie.signal,
@@ -175,13 +180,14 @@ fn entry_at<'a>(executable: &UnwoundExecutable<'_, 'a>, address: u64) -> Result<
 #[tactic(auto, unfolding(crate::specs::ByEntry::by_code))]
 fn by_code(
     memory: &SeenMemory<'_, '_>,
+    start: Option<u64>,
     frame: &Frame,
     code: &Code<'_, '_>,
 ) -> Result<Result<Frame, Stop>, Unread>
-    ensures { ForEach memory.now (λ space. spec.by_code space frame.now (code_view code.now)) result }
+    ensures { ForEach memory.now (λ space. spec.by_code space start frame.now (code_view code.now)) result }
 {
     match entry_at(&code.executable, code.address) {
-        Ok(entry) => by_covering(memory, frame, &entry, code.address),
+        Ok(entry) => by_covering(memory, start, frame, &entry, code.address),
         Err(NoEntry::Faulty(fault)) => Ok(Err(Stop::FaultyEntry(fault))),
         Err(NoEntry::Uncovered) => Ok(by_stub(code, frame).ok_or(Stop::NoEntry)),
     }
@@ -191,10 +197,10 @@ impl<'s, 'c, 'e, 'a> Process<'s, 'c, 'e, 'a> {
     /// The caller of a frame by call frame information.
     #[tactic(auto, unfolding(crate::specs::ByEntry::by_entry))]
     pub(crate) fn by_entry(&self, frame: &Frame) -> Result<Result<Frame, Stop>, Unread>
-        ensures { ForEach self.now.memory (λ space. spec.by_entry (process_with space self.now.executables.now self.now.others.now) frame.now) result }
+        ensures { ForEach self.now.memory (λ space. spec.by_entry (process_with space self.now.executables.now self.now.others.now self.now.start) frame.now) result }
     {
         match self.code_of(frame) {
-            Ok(code) => by_code(&self.memory, frame, &code),
+            Ok(code) => by_code(&self.memory, self.start, frame, &code),
             Err(stop) => Ok(Err(stop)),
         }
     }

@@ -15,12 +15,14 @@ use address_space::{Attached, FileSpot};
 use seen_memory::SeenMemory;
 use symbols::vaddr_of_offset;
 
-/// A process: its memory, the executables that are attached for mapped files, and those that are not, since they are of another build.
+/// A process: its memory, the executables that are attached for mapped files, those that are not, since they are of another build,
+/// and where the program begins, if that is told.
 #[derive(Clone, Copy)]
 pub(crate) struct Process<'s, 'c, 'e, 'a> {
     pub(crate) memory: SeenMemory<'s, 'c>,
     pub(crate) executables: &'s [UnwoundExecutable<'e, 'a>],
     pub(crate) others: &'s [Attached<'a>],
+    pub(crate) start: Option<u64>,
 }
 
 /// An address in the numbering of an executable.
@@ -79,7 +81,7 @@ fn code_at<'e, 'a>(
 }
 
 /// The address that is looked up for a frame: the pc if execution was there, else the one before it.
-fn looked_up(frame: &Frame) -> Option<u64>
+pub(crate) fn looked_up(frame: &Frame) -> Option<u64>
     ensures { result ≡ spec.looked_up frame.now }
 {
     if frame.exact {

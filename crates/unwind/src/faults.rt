@@ -28,7 +28,7 @@ pub enum Stop {
     FaultyEntry(CfiFault),
     /// The instructions of the entry that covers the address make no row.
     FaultyRow(RowFault),
-    /// The return address is undefined: nothing called this code.
+    /// The return address is undefined, or the program begins in this code: nothing called it.
     Outermost,
     /// A DWARF expression would tell the CFA or the return address.
     Expression,

@@ -31,7 +31,7 @@ impl<'s, 'c, 'e, 'a> Process<'s, 'c, 'e, 'a> {
     /// What the rules tell of the frame after one.
     #[tactic(auto, unfolding(crate::specs::Unwinding::by_rules))]
     fn by_rules(&self, frame: &Frame) -> Result<Result<Frame, Stop>, Unread>
-        ensures { ForEach self.now.memory (λ space. spec.by_rules (process_with space self.now.executables.now self.now.others.now) frame.now) result }
+        ensures { ForEach self.now.memory (λ space. spec.by_rules (process_with space self.now.executables.now self.now.others.now self.now.start) frame.now) result }
     {
         if is_trampoline(&self.memory, frame.pc)? {
             return by_trampoline(&self.memory, frame);
@@ -45,7 +45,7 @@ impl<'s, 'c, 'e, 'a> Process<'s, 'c, 'e, 'a> {
     /// The frame after one, or the first reason why there is none. So many frames may come.
     #[tactic(auto, unfolding(crate::specs::Unwinding::next))]
     fn next(&self, more: u64, frame: &Frame) -> Result<Result<Frame, Stop>, Unread>
-        ensures told { ForEach self.now.memory (λ space. spec.next (process_with space self.now.executables.now self.now.others.now) more frame.now) result }
+        ensures told { ForEach self.now.memory (λ space. spec.next (process_with space self.now.executables.now self.now.others.now self.now.start) more frame.now) result }
         ensures few { MayCome more result }
     {
         match self.by_rules(frame)? {
@@ -74,15 +74,16 @@ impl Frames {
     }
 
     /// The next frame, or why none comes. The executables are attached for the mapped files of their paths, of two with one path
-    /// the first. The others are not, since they are of another build. The error is a byte of the core's image that is not at hand.
-    /// Then nothing has changed, and the call can be made again once it is.
+    /// the first. The others are not, since they are of another build. The program begins at `start`, if that is told. The error is a
+    /// byte of the core's image that is not at hand. Then nothing has changed, and the call can be made again once it is.
     pub fn next(
         &mut self,
         memory: SeenMemory<'_, '_>,
         executables: &[UnwoundExecutable<'_, '_>],
         others: &[Attached<'_>],
+        start: Option<u64>,
     ) -> Result<Result<Frame, Stop>, Unread>
-        ensures gives { NextFrame memory.entry executables.now others.now self.old result self.new }
+        ensures gives { NextFrame memory.entry executables.now others.now start self.old result self.new }
         ensures fewer { ComeFewer self.old result self.new }
     {
         let frame = match self.next {
@@ -93,6 +94,7 @@ impl Frames {
             memory,
             executables,
             others,
+            start,
         };
         self.next = process.next(self.more, &frame)?;
         self.more = self.more.saturating_sub(1);

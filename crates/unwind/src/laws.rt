@@ -1,12 +1,16 @@
 // What the definitions that the contracts cite say together.
-ghost use Rattle.std.specs.Prelude.{◌≡◌, ◌≤◌, ◌∷◌, ℕ, List, Ok, Err, false, length};
+ghost use Rattle.std.specs.Prelude.{◌≡◌, ◌≤◌, ◌∷◌, ℕ, List, Ok, Err, true, false, length};
+ghost use Rattle.call_frames.specs.Entry.{EntryView};
+ghost use Rattle.call_frames.specs.Finding.{entry_of};
 ghost use Rattle.unwind.specs.ByCall.{is_no_code};
 ghost use Rattle.unwind.specs.ByTrampoline.{is_trampoline};
 ghost use Rattle.unwind.specs.Code.{CodeView, ProcessView, code_of};
 ghost use Rattle.unwind.specs.InTurn.{CallersAreOfTheirCalls, NoEntryIsPassedOver, NoFaultIsHidden, NoNextFunctionIsACaller, ReturnAddressesAreUnknown, ReturnAddressesAreUsedOnce};
 ghost use Rattle.unwind.specs.Stands as stands;
+ghost use Rattle.unwind.specs.Start.{holds_start};
 ghost use Rattle.unwind.specs.Unwinding as spec;
 ghost use Rattle.unwind.specs.declared.faults.Stop as stops;
+ghost use Rattle.unwind.specs.declared.faults.Stop.TheVariants.{Outermost};
 ghost use Rattle.unwind.specs.declared.frame.Frame as numbers;
 
 /// The frames of a thread are those of the relation: no frame but the last has a reason to be it, and each other is
@@ -65,4 +69,12 @@ pub fn no_entry_is_sure()
 pub fn a_return_address_is_used_once()
     ensures unknown { ReturnAddressesAreUnknown }
     ensures once { ReturnAddressesAreUsedOnce }
+{}
+
+/// Nothing called the code where the program begins: a frame that is at no trampoline, whose pc has code, and whose code is covered by
+/// an FDE that covers the address of the start too, is the outermost, whatever the row of the FDE says. It does nothing.
+pub fn the_start_is_outermost()
+    ensures { (p : ProcessView) (n : ℕ) (f : numbers.Frame) (code : CodeView) (e : EntryView) → is_trampoline p.space f.pc ≡ false
+        → is_no_code p.space f.pc ≡ false → code_of p f ≡ Ok code → entry_of code.image code.address ≡ Ok e
+        → holds_start p.start f code.address e ≡ true → spec.next p n f ≡ Err Outermost }
 {}

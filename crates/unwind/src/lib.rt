@@ -13,6 +13,7 @@ mod faults;
 mod frame;
 mod frames;
 mod laws;
+mod start;
 mod values;
 
 pub use by_trampoline::is_trampoline;
@@ -23,4 +24,5 @@ pub use frames::Frames;
 pub use laws::{
     a_return_address_is_used_once, callers_are_of_their_calls, each_frame_stands_on_a_rule,
     no_entry_is_sure, nothing_is_guessed, the_frames_are_unwound, the_stack_rises,
+    the_start_is_outermost,
 };

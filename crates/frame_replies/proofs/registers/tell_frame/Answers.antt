@@ -21,7 +21,7 @@ returns-in-Ok-go_on g c =
     let xs = map attached_view c.args.attached.now in
     let p = c.in-Ok.process in
     let whole = whole_image b c.image-image.result.now _ (c.image-image.ensures ∙ c.elf.ensures.image) refl in
-    let begun = walk_begins b b xs (choice_for b xs) c.args.thread p c.in-Some.begun c.in-Ok.ensures refl refl refl c.in-Some.ensures in
+    let begun = walk_begins b b xs (choice_for b xs) c.args.thread p c.in-Some.begun c.in-Ok.ensures refl refl refl refl c.in-Some.ensures in
     let now = walk_goes_on b xs c.args.thread p c.in-Some.begun c.go_on.new.self begun (c.in-Ok-go_on.ensures.walks b whole) in
     c.tell_walked_frame.ensures b xs c.args.thread p c.in-Ok-go_on.field-0 now c.in-Ok-go_on.ensures.told
 

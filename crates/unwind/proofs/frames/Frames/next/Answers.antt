@@ -17,7 +17,7 @@ pub returns-clause-gives : goal.returns-clause-gives
 unfolding frames_left stop_left
 returns-clause-gives c image is =
     let s = c.args.self.now in
-    let p = process_with (space_by c.args.memory image) c.args.executables.now c.args.others.now in
+    let p = process_with (space_by c.args.memory image) c.args.executables.now c.args.others.now c.args.start in
     let f = c.in-Ok.frame in
     let m = c.saturating_sub-self.result in
     let less : s.more - 1 ≡ m = omega (arith, c.saturating_sub-self.ensures) in
