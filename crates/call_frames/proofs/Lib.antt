@@ -6,3 +6,4 @@ pub mod Earliest
 pub mod Order
 pub mod Walking
 pub mod Numbers
+pub mod CompressedSections

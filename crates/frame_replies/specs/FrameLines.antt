@@ -12,7 +12,7 @@ use Rattle.unwind.specs.Code.{ProcessView, looked_up}
 use Rattle.unwind.specs.Registers.{ra, sp, known}
 use Rattle.unwind.specs.Unwinding.{unwound, stop_of}
 use Rattle.unwind.specs.declared.faults.Stop.{Stop}
-use Rattle.unwind.specs.declared.faults.Stop.TheVariants.{NoFile, NoExecutable, OtherBuild, NoAddress, NoEntry, FaultyEntry, FaultyRow, Outermost, Expression, Undefined, NotRising, Unreadable, ZeroPc, Limit}
+use Rattle.unwind.specs.declared.faults.Stop.TheVariants.{NoFile, NoExecutable, OtherBuild, NoAddress, NoEntry, Compressed, FaultyEntry, FaultyRow, Outermost, Expression, Undefined, NotRising, Unreadable, ZeroPc, Limit}
 use Rattle.unwind.specs.declared.frame.Frame.{Frame}
 use Rattle.frame_replies.specs.Known.{known_words}
 use Rattle.frame_replies.specs.Processes.{process_in, state_of, of_thread}
@@ -42,6 +42,7 @@ stop_words NoExecutable = codes "NoExecutable"
 stop_words OtherBuild = codes "OtherBuild"
 stop_words NoAddress = codes "NoAddress"
 stop_words NoEntry = codes "NoEntry"
+stop_words Compressed = codes "Compressed"
 stop_words (FaultyEntry fault) = faulty_words (cfi_field_name fault.«field») fault.index
 stop_words (FaultyRow fault) = faulty_words (row_field_name fault.«field») fault.index
 stop_words Outermost = codes "Outermost"

@@ -25,6 +25,7 @@ fn tell_reason<O: Output>(reply: &mut Reply<'_, O>, stop: Stop)
         Stop::OtherBuild => reply.tell(b"OtherBuild"),
         Stop::NoAddress => reply.tell(b"NoAddress"),
         Stop::NoEntry => reply.tell(b"NoEntry"),
+        Stop::Compressed => reply.tell(b"Compressed"),
         Stop::FaultyEntry(fault) => tell_faulty(reply, fault.field.name(), fault.index),
         Stop::FaultyRow(fault) => tell_faulty(reply, fault.field.name(), fault.index),
         Stop::Outermost => reply.tell(b"Outermost"),

@@ -28,7 +28,7 @@ use Rattle.unwind.proofs.Kept.{stood, kept, written}
 use Rattle.unwind.proofs.Steps.{more_come}
 use Rattle.unwind.specs.declared.by_entry.Return.{Return}
 use Rattle.unwind.specs.declared.faults.Stop.{Stop}
-use Rattle.unwind.specs.declared.faults.Stop.TheVariants.{NoEntry, Outermost, NotRising, Undefined, Unreadable, ZeroPc}
+use Rattle.unwind.specs.declared.faults.Stop.TheVariants.{Outermost, NotRising, Undefined, Unreadable, ZeroPc}
 use Rattle.unwind.specs.declared.frame.Callee.{Callee}
 use Rattle.unwind.specs.declared.frame.Frame.{Frame}
 
@@ -173,7 +173,7 @@ found_led space start f g code (Ok e) is h =
     let rest = covering_led space start f g e code.address h in inl (e, rest.0, rest.1, is, rest.2, rest.3)
 found_led space start f g code (Err (Faulty fault)) is h = cc
 found_led space start f g code (Err Uncovered) is h =
-    let some = checked_ok (calls.by_stub code f) NoEntry _ g h in inr (is, some.1 ∙ ap (λ k. Some k) (same_ok some.0 g some.2))
+    let some = checked_ok (calls.by_stub code f) (led.no_entry code) _ g h in inr (is, some.1 ∙ ap (λ k. Some k) (same_ok some.0 g some.2))
 
 -- a frame came by one of these
 pub data Led (p : ProcessView) (f g : Frame) : Type 0 where

@@ -7,6 +7,7 @@ use Rattle.std.specs.Option.{option_and_then, option_or}
 use Rattle.std.specs.Prelude.{find, is_some}
 use Rattle.address_space.specs.Source.{ExecutableView, Space, SpotView, entry_at, is_named, spot_of}
 use Rattle.call_frames.specs.Covering.{covers}
+use Rattle.call_frames.specs.Compressed.{has_compressed}
 use Rattle.call_frames.specs.Entry as entries
 use Rattle.call_frames.specs.Entry.{EntryView, TableView}
 use Rattle.call_frames.specs.Finding.{answer, entry_of}
@@ -323,13 +324,30 @@ found_none space start f code (Ok e) h = absurd (covering_not space start f code
 found_none space start f code (Err (Faulty fault)) h = absurd cc
 found_none space start f code (Err Uncovered) h = refl
 
+-- nor is one compressed
+plain_by : (t : Bool) (o : Option Frame) → checked o (cond t stops.Compressed stops.NoEntry) (λ g. Ok g) ≡ Err stops.NoEntry → t ≡ false
+plain_by true None h = absurd cc
+plain_by false o h = refl
+plain_by true (Some g) h = absurd cc
+
+found_plain : (space : Space) (start : Option ℕ) (f : Frame) (code : CodeView) (r : Result EntryView none.NoEntry) → led.by_found space start f code r ≡ Err stops.NoEntry → has_compressed code.image ≡ false
+found_plain space start f code (Ok e) h = absurd (covering_not space start f code.address e h)
+found_plain space start f code (Err (Faulty fault)) h = absurd cc
+found_plain space start f code (Err Uncovered) h = plain_by (has_compressed code.image) (calls.by_stub code f) h
+
 abbrev HasNoEntry : ProcessView → Frame → Type 0
-HasNoEntry p f = (code : CodeView) × (code_of p f ≡ Ok code) × (entry_of code.image code.address ≡ Err Uncovered)
+HasNoEntry p f =
+    (code : CodeView) × (code_of p f ≡ Ok code) × (entry_of code.image code.address ≡ Err Uncovered) × (has_compressed code.image ≡ false)
 
 entry_none : (p : ProcessView) (f : Frame) → led.by_entry p f ≡ Err stops.NoEntry → HasNoEntry p f
 unfolding led.by_entry led.by_code
 entry_none p f h =
-    ⊎_elim (λ err. absurd (code_not p f err)) (λ code. (code.0, code.1, found_none p.space p.start f code.0 (entry_of code.0.image code.0.address) code.2))
+    ⊎_elim (λ err. absurd (code_not p f err)) (λ code. (
+      code.0,
+      code.1,
+      found_none p.space p.start f code.0 (entry_of code.0.image code.0.address) code.2,
+      found_plain p.space p.start f code.0 (entry_of code.0.image code.0.address) code.2,
+    ))
     (then_err (code_of p f) (led.by_code p.space p.start f) stops.NoEntry h)
 
 call_none : (p : ProcessView) (f : Frame) (o : Option Frame) → call_or o (led.by_entry p f) ≡ Err stops.NoEntry → HasNoEntry p f
@@ -380,7 +398,7 @@ no_entry p f last =
     let code = found.0 in
     let v = code.address in
     let both = or_none _ _ (unanswered _ _ found.2).0 in
-    (code, found.1, (none_found v (entries_of (eh_frame_of code.image)) both.0, none_found v (entries_of (debug_frame_of code.image)) both.1))
+    (code, found.1, (none_found v (entries_of (eh_frame_of code.image)) both.0, none_found v (entries_of (debug_frame_of code.image)) both.1), found.3)
 
 -- what a call wrote over
 abbrev ok_entry : EntryView → Result EntryView none.NoEntry

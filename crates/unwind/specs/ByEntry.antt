@@ -1,6 +1,7 @@
 -- The caller of a frame by call frame information (DWARF 5, 6.4).
 use Rattle.std.specs.Prelude.{ℕ, ◌==◌, ◌&&◌, ◌||◌, not, nat_lt, if◌then◌else◌, Bool, true, false, Option, None, Some, Result, Ok, Err}
 use Rattle.address_space.specs.Source.{Space}
+use Rattle.call_frames.specs.Compressed.{has_compressed}
 use Rattle.call_frames.specs.Entry.{EntryView}
 use Rattle.call_frames.specs.Finding.{entry_of}
 use Rattle.call_frames.specs.declared.faults.NoEntry as entries
@@ -18,7 +19,7 @@ use Rattle.unwind.specs.Start.{holds_start}
 use Rattle.unwind.specs.Values.{value_by, registers_by, cfa_by, unknown_by, is_undefined}
 use Rattle.unwind.specs.declared.by_entry.Return.{Return}
 use Rattle.unwind.specs.declared.faults.Stop.{Stop}
-use Rattle.unwind.specs.declared.faults.Stop.TheVariants.{NoEntry, FaultyEntry, FaultyRow, Outermost, NotRising, ZeroPc}
+use Rattle.unwind.specs.declared.faults.Stop.TheVariants.{NoEntry, Compressed, FaultyEntry, FaultyRow, Outermost, NotRising, ZeroPc}
 use Rattle.unwind.specs.declared.frame.Callee.{Callee}
 use Rattle.unwind.specs.declared.frame.Frame.{Frame}
 
@@ -70,11 +71,15 @@ return_in e = record { column = e.cie.column; signal = e.cie.signal }
 abbrev pub by_covering : Space → Option ℕ → Frame → ℕ → EntryView → Result Frame Stop
 by_covering space start f v e = stop_if (holds_start start f v e) Outermost (and_then (row_at e v) (by_row space f (return_in e)))
 
+-- why no entry covers the code: those that are compressed are not read
+abbrev pub no_entry : CodeView → Stop
+no_entry code = if has_compressed code.image then Compressed else NoEntry
+
 -- by the entry that covers an address; where none does, and none is at fault, a stub of the procedure linkage table may be
 abbrev pub by_found : Space → Option ℕ → Frame → CodeView → Result EntryView entries.NoEntry → Result Frame Stop
 by_found space start f code (Ok e) = by_covering space start f code.address e
 by_found space start f code (Err (Faulty fault)) = Err (FaultyEntry fault)
-by_found space start f code (Err Uncovered) = checked (by_stub code f) NoEntry (λ g. Ok g)
+by_found space start f code (Err Uncovered) = checked (by_stub code f) (no_entry code) (λ g. Ok g)
 
 -- by the first entry that covers the code's address
 unfoldable pub by_code : Space → Option ℕ → Frame → CodeView → Result Frame Stop

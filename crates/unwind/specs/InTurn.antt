@@ -2,6 +2,7 @@
 -- `HaveEnded` (`NextFrame`).
 use Rattle.std.specs.Prelude.{◌≡◌, ◌<◌, ◌≤◌, ◌+◌, ◌⊎◌, ℕ, false, find, All, Contains, None, Some, Ok, Err}
 use Rattle.address_space.specs.Source.{ExecutableView, SpotView, entry_at, is_named, spot_of}
+use Rattle.call_frames.specs.Compressed.{has_compressed}
 use Rattle.call_frames.specs.Entry as entries
 use Rattle.call_frames.specs.Entry.{EntryView, TableView}
 use Rattle.call_frames.specs.Finding.{entry_of}
@@ -91,9 +92,10 @@ NoFaultIsHidden =
     (p : ProcessView) (f : Frame) (code : CodeView) → code_of p f ≡ Ok code → HasFault (eh_frame_of code.image) ⊎ HasFault (debug_frame_of code.image)
     → GiveLast p f NoEntry → ⊥
 
--- where it is told that no FDE has the address, none has
+-- where it is told that no FDE has the address, none has, and none is compressed
 abbrev pub NoEntryIsPassedOver : Type 0
-NoEntryIsPassedOver = (p : ProcessView) (f : Frame) → GiveLast p f NoEntry → (code : CodeView) × (code_of p f ≡ Ok code) × IsUncovered code
+NoEntryIsPassedOver =
+    (p : ProcessView) (f : Frame) → GiveLast p f NoEntry → (code : CodeView) × (code_of p f ≡ Ok code) × IsUncovered code × (has_compressed code.image ≡ false)
 
 -- A call led from g to f, whose code an FDE covers: it wrote its return address to column c.
 pub record IsWritten (p : ProcessView) (f g : Frame) (c : ℕ) : Type 0 where

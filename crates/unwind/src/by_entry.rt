@@ -15,7 +15,7 @@ use crate::faults::{RowFault, Stop};
 use crate::frame::{Callee, Frame, Registers, without};
 use crate::start::holds_start;
 use crate::values::{cfa_by, is_undefined, registers_by, unknown_by, value_by};
-use call_frames::{Entry, NoEntry};
+use call_frames::{Entry, NoEntry, has_compressed};
 use frame_rows::{Row, Rule};
 use seen_memory::{SeenMemory, Unread};
 
@@ -176,6 +176,17 @@ fn entry_at<'a>(executable: &UnwoundExecutable<'_, 'a>, address: u64) -> Result<
     executable.frames.find(address)
 }
 
+/// Why no entry covers code.
+fn no_entry(code: &Code<'_, '_>) -> Stop
+    ensures { result ≡ spec.no_entry (code_view code.now) }
+{
+    if has_compressed(&code.executable.elf) {
+        Stop::Compressed
+    } else {
+        Stop::NoEntry
+    }
+}
+
 /// The frame that the first entry that covers the code's address leads to.
 #[tactic(auto, unfolding(crate::specs::ByEntry::by_code))]
 fn by_code(
@@ -189,7 +200,7 @@ fn by_code(
     match entry_at(&code.executable, code.address) {
         Ok(entry) => by_covering(memory, start, frame, &entry, code.address),
         Err(NoEntry::Faulty(fault)) => Ok(Err(Stop::FaultyEntry(fault))),
-        Err(NoEntry::Uncovered) => Ok(by_stub(code, frame).ok_or(Stop::NoEntry)),
+        Err(NoEntry::Uncovered) => Ok(by_stub(code, frame).ok_or(no_entry(code))),
     }
 }
 

@@ -24,6 +24,8 @@ pub enum Stop {
     NoAddress,
     /// No entry covers the address.
     NoEntry,
+    /// No entry that is read covers the address, and the executable has call frame information that is compressed, which is not read.
+    Compressed,
     /// No entry without a fault covers the address. This is the first fault.
     FaultyEntry(CfiFault),
     /// The instructions of the entry that covers the address make no row.

@@ -58,7 +58,8 @@ pub fn callers_are_of_their_calls()
     ensures no_next { NoNextFunctionIsACaller }
 {}
 
-/// `NoEntry` is told only if no entry of either section has a fault, and no FDE has the address. It does nothing.
+/// `NoEntry` is told only if no entry of either section has a fault, no FDE has the address, and the executable has no call frame
+/// information that is compressed. It does nothing.
 pub fn no_entry_is_sure()
     ensures faults { NoFaultIsHidden }
     ensures uncovered { NoEntryIsPassedOver }
