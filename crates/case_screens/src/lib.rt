@@ -4,6 +4,7 @@
 mod answer;
 mod archive;
 mod archive_values;
+mod auxiliary;
 mod case_values;
 mod codes;
 mod files;

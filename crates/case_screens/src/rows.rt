@@ -2,6 +2,7 @@
 ghost use Rattle.std.specs.Prelude.{◌<◌, length, IfSome};
 
 use crate::answer::Answer;
+use crate::auxiliary::auxv_name;
 use crate::lines::{reason_in, row_count};
 use crate::shapes::{Field, FieldKind, field_of, form_of};
 use script_words::{Words, parse_number};
@@ -127,6 +128,7 @@ fn field_value(
     }
     match field.kind {
         FieldKind::Word => word_value(alloc, word),
+        FieldKind::Auxv => auxv_value(alloc, word),
         FieldKind::Digits => string_value(alloc, word),
         FieldKind::Text | FieldKind::Place if escaped => string_value(alloc, word),
         FieldKind::Text | FieldKind::Place => string_value(alloc, &text_of(alloc, word)?),
@@ -138,6 +140,15 @@ fn is_none(kind: FieldKind, word: &[u8]) -> bool {
         FieldKind::Word => word == b"-".as_slice() || word == b"?".as_slice(),
         FieldKind::Place => word == b"?".as_slice(),
         FieldKind::Text | FieldKind::Digits => word == b"-".as_slice(),
+        FieldKind::Auxv => false,
+    }
+}
+
+// The name of a type of the auxiliary vector, also if a script has none; or its number.
+fn auxv_value(alloc: Global, word: &[u8]) -> Result<Value, AllocError> {
+    match auxv_name(word) {
+        Some(name) => string_value(alloc, name.as_bytes()),
+        None => word_value(alloc, word),
     }
 }
 

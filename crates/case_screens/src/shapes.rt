@@ -12,6 +12,8 @@ pub(crate) enum FieldKind {
     Place,
     // Hexadecimal digits. `-` is none.
     Digits,
+    // A type of the auxiliary vector.
+    Auxv,
 }
 
 // A field of a row.
@@ -32,6 +34,10 @@ pub(crate) fn field_of(word: &str) -> Option<Field<'_>> {
         Some((name, "place")) => Field {
             name,
             kind: FieldKind::Place,
+        },
+        Some((name, "auxv")) => Field {
+            name,
+            kind: FieldKind::Auxv,
         },
         Some((name, _)) => Field {
             name,

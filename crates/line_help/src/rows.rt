@@ -5,8 +5,8 @@ pub struct LineRows {
     /// The first word of the line.
     pub name: &'static str,
     /// Its rows, one for each form that they have. A word in angle brackets is a field: `<pid>` is a number or a word, `<name:text>` a
-    /// text as a script prints it, `<where:place>` a place in a function or `?`, and `<bytes:digits>` hexadecimal digits. Any other word
-    /// is in the row as it is. A row is of the first form that it has.
+    /// text as a script prints it, `<where:place>` a place in a function or `?`, and `<bytes:digits>` hexadecimal digits.
+    /// `<name:auxv>` is a type of the auxiliary vector, by its name or its number. Any other word is in the row as it is. A row is of the first form that it has.
     pub rows: &'static [&'static str],
 }
 
@@ -51,7 +51,7 @@ static IMAGE_ROWS: [LineRows; 9] = [
     },
     LineRows {
         name: "auxv",
-        rows: &["<name> <value>"],
+        rows: &["<name:auxv> <value>"],
     },
     LineRows {
         name: "files",
