@@ -13,6 +13,8 @@ use Rattle.case_screens.specs.declared.answer.ThreadAnswer.{ThreadAnswer}
 use Rattle.disk_model.specs.declared.disk.Disk as disk
 use Rattle.intake.specs.Calls.{OpenCall}
 use Rattle.core_length.specs.Whole.{whole_length}
+use Rattle.unread_notes.specs.Unread.{unread_notes}
+use Rattle.unread_notes.specs.declared.notes.UnreadNotes.{UnreadNotes}
 use Rattle.intake.specs.Part.{PartCall}
 use Rattle.intake.specs.Parts.{Parts, state_of}
 use Rattle.journal_layout.specs.Case.{Case}
@@ -85,15 +87,17 @@ pub record AreTold (r : CoreReplies) (a : CoreAnswers) : Type 0 where
 abbrev pub IsScreenBy : {D : Type 0} → Parts D → ℕ → CaseAnswers → Collected → Type 0
 IsScreenBy a seq answers text = (c : Case) × HasCase (state_of a) seq c × (held text ≡ info_answer c (state_of a).cases answers)
 
--- The first bytes of an image are read, 65,536 or as many as it has, and they say how many bytes a core has if it is whole.
-abbrev pub SeesWhole : {D : Type 0} → disk.Ghosts D → Parts D → ℕ → Option ℕ → Parts D → Type 0
-SeesWhole g old seq whole new =
+-- The first bytes of an image are read, 65,536 or as many as it has. They say how many bytes a core has if it is whole, and why notes
+-- of it are not read as they are meant.
+abbrev pub SeesFront : {D : Type 0} → disk.Ghosts D → Parts D → ℕ → Option ℕ → Option UnreadNotes → Parts D → Type 0
+SeesFront g old seq whole unread new =
     (c : Case) × HasCase (state_of old) seq c × (n : ℕ) × (n ≡ min c.len 65536) × (front : List ℕ) × PartCall g old seq 0 n (Ok tt) front new × (whole ≡ whole_length front)
+    × (unread ≡ unread_notes front)
 
--- A core is asked its lines, and their replies are shown, and whether it was cut.
+-- A core is asked its lines, and their replies are shown, whether it was cut, and which notes are not read.
 abbrev pub ShowsCore : {D : Type 0} → disk.Ghosts D → Parts D → ℕ → Bool → Collected → Parts D → Type 0
 ShowsCore {D} g old seq all text new =
-    (r : CoreReplies) × (mid : Parts D) × AsksCore g old seq all r mid × (a : CoreAnswers) × AreTold r a × SeesWhole g mid seq a.whole new × IsScreenBy new seq (Core a) text
+    (r : CoreReplies) × (mid : Parts D) × AsksCore g old seq all r mid × (a : CoreAnswers) × AreTold r a × SeesFront g mid seq a.whole a.unread new × IsScreenBy new seq (Core a) text
 
 -- An executable is asked for its header, and the reply is shown.
 abbrev pub ShowsExec : {D : Type 0} → disk.Ghosts D → Parts D → ℕ → Collected → Parts D → Type 0

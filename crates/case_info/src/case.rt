@@ -10,10 +10,10 @@ ghost use Rattle.journal_layout.specs.Case.{Case, case_of};
 ghost use Rattle.case_info.specs.Inquiries.{held};
 ghost use Rattle.case_info.specs.Screens.{AreTold, IsScreenBy, ShowsCase, ShowsCore, ShowsExec, ShowsOn, answer_view, told_view};
 
+use crate::front::{CoreFront, front_of};
 use crate::gathered::{CoreReplies, ask_core, ask_header, lines_of_each, shown_threads};
 use crate::inquiry::Told;
 use crate::telling::{shown, write_text};
-use crate::whole::whole_of;
 use archive_files::{ArchivePath, Collected, Failure, Refusal, take_look, unasked};
 use case_listing::find_case;
 use case_screens::{CaseAnswers, CoreAnswers, case_json, tell_case_screen};
@@ -139,8 +139,8 @@ fn core_screen<D: Disk>(
     ensures { IfOk result (λ text. words.is_json ≡ false → ShowsCore D.Disk archive.old seq words.all_threads text archive.new) }
 {
     let replies = ask_core(alloc, seq, words.all_threads, archive)?;
-    let whole = whole_of(alloc, seq, archive)?;
-    Ok(put_core(alloc, archive, seq, &replies, whole, words.is_json)?)
+    let front = front_of(alloc, seq, archive)?;
+    Ok(put_core(alloc, archive, seq, &replies, front, words.is_json)?)
 }
 
 // Puts what a core is asked into a text.
@@ -149,10 +149,11 @@ fn put_core<D: Disk>(
     archive: &Archive<D>,
     seq: u32,
     replies: &CoreReplies,
-    whole: Option<u64>,
+    front: CoreFront,
     is_json: bool,
 ) -> Result<Collected, Refusal>
-    ensures { IfOk result (λ text. is_json ≡ false → (a : CoreAnswers) × AreTold replies.now a × (a.whole ≡ whole) × IsScreenBy archive.now seq (Core a) text) }
+    ensures { IfOk result (λ text. is_json ≡ false → (a : CoreAnswers) × AreTold replies.now a × (a.whole ≡ front.whole) × (a.unread ≡ front.unread)
+        × IsScreenBy archive.now seq (Core a) text) }
 {
     let process = replies.process.lines(alloc)?;
     let signal = replies.signal.lines(alloc)?;
@@ -168,7 +169,8 @@ fn put_core<D: Disk>(
         files: files.answer(),
         unwound: &shown,
         builds: builds.answer(),
-        whole,
+        whole: front.whole,
+        unread: front.unread,
     });
     Ok(put_text(alloc, archive, seq, &answers, is_json)?)
 }

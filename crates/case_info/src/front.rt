@@ -1,23 +1,33 @@
-// How many bytes a core has if it is whole.
+// What the first bytes of a core say of it.
 ghost use Rattle.std.specs.Prelude.{IfOk};
-ghost use Rattle.case_info.specs.Screens.{SeesWhole};
+ghost use Rattle.case_info.specs.Screens.{SeesFront};
 
 use archive_files::Refusal;
 use core_length::whole_length;
 use disk_model::Disk;
 use intake::Archive;
 use std::alloc::Global;
+use unread_notes::{UnreadNotes, unread_notes};
 
 // How many first bytes of an image are looked at.
 const FRONT: u64 = 65_536;
 
-// The length that the program headers of a core want, if they lie in its first bytes.
-pub(crate) fn whole_of<D: Disk>(
+// What the first bytes of a core say of it.
+#[derive(Clone, Copy)]
+pub(crate) struct CoreFront {
+    // The length that its program headers want, if they lie in these bytes.
+    pub(crate) whole: Option<u64>,
+    // Why notes of it are not read as they are meant, if some are not.
+    pub(crate) unread: Option<UnreadNotes>,
+}
+
+// What the first bytes of a core say of it.
+pub(crate) fn front_of<D: Disk>(
     alloc: Global,
     seq: u32,
     archive: &mut Archive<D>,
-) -> Result<Option<u64>, Refusal>
-    ensures { IfOk result (λ whole. SeesWhole D.Disk archive.old seq whole archive.new) }
+) -> Result<CoreFront, Refusal>
+    ensures { IfOk result (λ found. SeesFront D.Disk archive.old seq found.whole found.unread archive.new) }
 {
     let length = match archive.case(seq) {
         Ok(entry) => entry.length,
@@ -25,7 +35,10 @@ pub(crate) fn whole_of<D: Disk>(
     };
     let mut front = vec![in alloc; 0u8; length.min(FRONT) as usize]?;
     match archive.image_part(seq, 0, &mut front) {
-        Ok(()) => Ok(whole_length(&front)),
+        Ok(()) => Ok(CoreFront {
+            whole: whole_length(&front),
+            unread: unread_notes(&front),
+        }),
         Err(fault) => Err(Refusal::Call(fault)),
     }
 }

@@ -3,11 +3,11 @@
 
 mod archive;
 mod case;
+mod front;
 mod gathered;
 mod inquiry;
 mod rows;
 mod telling;
-mod whole;
 
 pub use archive::info_archive;
 pub use case::{InfoWords, info_case};

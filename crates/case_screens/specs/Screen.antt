@@ -15,6 +15,8 @@ use Rattle.case_screens.specs.declared.answer.Answer.{Answer}
 use Rattle.case_screens.specs.declared.answer.CoreAnswers.{CoreAnswers}
 use Rattle.case_screens.specs.declared.answer.CaseAnswers.{CaseAnswers}
 use Rattle.case_screens.specs.declared.answer.CaseAnswers.TheVariants.{Core, Exec}
+use Rattle.unread_notes.specs.declared.notes.UnreadNotes.{UnreadNotes}
+use Rattle.unread_notes.specs.declared.notes.UnreadNotes.TheVariants.{Padded, Linux}
 
 abbrev pub pin_text : Bool → List ℕ
 pin_text pinned = if pinned then codes ", pinned" else codes ", not pinned"
@@ -39,13 +41,19 @@ abbrev pub cut_line : ℕ → Option ℕ → List ℕ
 cut_line has None = []
 cut_line has (Some whole) = if nat_lt has whole then codes "cut       " ++ (size_text has ++ (codes " of " ++ (size_text whole ++ 10 ∷ []))) else []
 
+-- why notes of it are not read as they are meant, if some are not
+abbrev pub notes_line : Option UnreadNotes → List ℕ
+notes_line None = []
+notes_line (Some Padded) = codes "notes     padded to 8 bytes: only those padded to 4 are read" ++ 10 ∷ []
+notes_line (Some Linux) = codes "notes     of threads are named LINUX: only those named CORE are read" ++ 10 ∷ []
+
 -- a core
 abbrev pub core_text : Case → List Case → CoreAnswers → List ℕ
 core_text c cases a =
-    when_text c.origin.time ++ (cut_line c.len a.whole ++ (process_text a.process.is_done (texts a.process.lines.now)
+    when_text c.origin.time ++ (cut_line c.len a.whole ++ (notes_line a.unread ++ (process_text a.process.is_done (texts a.process.lines.now)
     ++ (signal_line c.origin.signal a.signal.is_done (texts a.signal.lines.now)
     ++ (threads_text (texts a.files.lines.now) a.threads.is_done (texts a.threads.lines.now) a.unwound.now
-    ++ files_text cases a.builds.is_done (texts a.builds.lines.now)))))
+    ++ files_text cases a.builds.is_done (texts a.builds.lines.now))))))
 
 -- the header of an executable
 abbrev pub header_text : List ℕ → List ℕ

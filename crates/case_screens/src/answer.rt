@@ -1,4 +1,5 @@
 // The replies to the lines that are asked for a screen.
+use unread_notes::UnreadNotes;
 
 /// The reply to a line.
 #[derive(Clone, Copy)]
@@ -30,6 +31,8 @@ pub struct CoreAnswers<'s, 'a> {
     pub builds: Answer<'a>,
     /// How many bytes its program headers want, if they can be read.
     pub whole: Option<u64>,
+    /// Why notes of it are not read as they are meant, if some are not.
+    pub unread: Option<UnreadNotes>,
 }
 
 /// What is asked of a case.

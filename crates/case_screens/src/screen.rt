@@ -3,7 +3,7 @@ ghost use Rattle.std.specs.Prelude.{◌≡◌, true, map};
 ghost use Rattle.journal_layout.specs.Case.{case_of};
 ghost use Rattle.script_streams.specs.Replies.{TellsText, telling};
 ghost use Rattle.case_screens.specs.Lines.{texts};
-ghost use Rattle.case_screens.specs.Screen.{answers_text, core_text, cut_line, exec_text, head_text, header_text, info_answer, label_text, pin_text, when_text};
+ghost use Rattle.case_screens.specs.Screen.{answers_text, core_text, cut_line, exec_text, head_text, header_text, info_answer, label_text, notes_line, pin_text, when_text};
 
 use crate::answer::{Answer, CaseAnswers, CoreAnswers};
 use crate::files::tell_files;
@@ -15,6 +15,7 @@ use crate::threads::tell_threads;
 use case_tables::{shown_length, tell_size, tell_spaces, tell_time};
 use journal_layout::Entry;
 use script_streams::{Output, Reply};
+use unread_notes::UnreadNotes;
 
 // How wide the name of a case is, if it is not longer.
 const NAME_WIDTH: usize = 36;
@@ -96,6 +97,21 @@ fn tell_cut<O: Output>(reply: &mut Reply<'_, O>, has: u64, whole: Option<u64>)
     }
 }
 
+// Tells why notes of a core are not read, if some are not.
+fn tell_unread<O: Output>(reply: &mut Reply<'_, O>, unread: Option<UnreadNotes>)
+    ensures { TellsText (telling O.Output reply.old reply.new) (notes_line unread) }
+{
+    match unread {
+        Some(UnreadNotes::Padded) => {
+            reply.tell(b"notes     padded to 8 bytes: only those padded to 4 are read\n");
+        }
+        Some(UnreadNotes::Linux) => {
+            reply.tell(b"notes     of threads are named LINUX: only those named CORE are read\n");
+        }
+        None => {}
+    }
+}
+
 fn tell_core<O: Output>(
     reply: &mut Reply<'_, O>,
     case: &Entry,
@@ -106,6 +122,7 @@ fn tell_core<O: Output>(
 {
     tell_when(reply, case.time);
     tell_cut(reply, case.length, answers.whole);
+    tell_unread(reply, answers.unread);
     tell_process(reply, &answers.process);
     tell_signal_line(reply, case.signal, &answers.signal);
     tell_threads(

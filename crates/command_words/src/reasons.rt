@@ -7,7 +7,7 @@ pub(crate) struct Meaning {
 }
 
 // The reasons for which something is refused. Other reasons are fields of an image.
-static MEANINGS: [Meaning; 38] = [
+static MEANINGS: [Meaning; 40] = [
     Meaning {
         reason: b"SpaceFull",
         words: b"the image takes more blocks than are free (corekeep ask ARCHIVE free counts them): delete or retire cases (pinned ones once they are unpinned); if it takes more than the archive has, make that larger (corekeep resize)",
@@ -106,7 +106,7 @@ static MEANINGS: [Meaning; 38] = [
     },
     Meaning {
         reason: b"NoThread",
-        words: b"the core has no thread of this number: threads N lists them",
+        words: b"the core has no thread of this number: threads N lists them; if it lists none, see by notes N whether those of type 0x1 are named LINUX: only those named CORE are read",
     },
     Meaning {
         reason: b"NoFrame",
@@ -147,6 +147,14 @@ static MEANINGS: [Meaning; 38] = [
     Meaning {
         reason: b"e_machine",
         words: b"the file is not of RISC-V: corekeep answers questions about RISC-V 64",
+    },
+    Meaning {
+        reason: b"n_namesz",
+        words: b"a note's name does not fit: the core is damaged or cut, or its notes are padded to 8 bytes (PT_NOTE has p_align 8), and only those padded to 4 are read",
+    },
+    Meaning {
+        reason: b"n_descsz",
+        words: b"a note's descriptor does not fit: the core is damaged or cut, or its notes are padded to 8 bytes (PT_NOTE has p_align 8), and only those padded to 4 are read",
     },
     Meaning {
         reason: b"EI_CLASS",

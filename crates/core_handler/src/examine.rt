@@ -14,6 +14,7 @@ use intake::{Archive, Settings};
 use journal_layout::Kind;
 use script_streams::Reply;
 use std::alloc::Global;
+use unread_notes::{UnreadNotes, unread_notes};
 
 // RISC-V, as the field e_machine of an ELF file names it.
 const EM_RISCV: u16 = 243;
@@ -65,8 +66,8 @@ fn machine_name(machine: u16) -> &'static [u8] {
 }
 
 impl Seen {
-    // What can't be read of the image, in words: it is no ELF file, or of another machine, or a field is at fault. Nothing is said if
-    // its headers and notes are sound, or could not be looked at.
+    // What can't be read of the image, in words: it is no ELF file, or of another machine, or a field is at fault, or its notes are not
+    // read as they are meant. Nothing is said if its headers and notes are sound and read, or could not be looked at.
     pub(crate) fn trouble(&self) -> &[u8] {
         self.trouble.text()
     }
@@ -122,14 +123,58 @@ fn field_trouble(alloc: Global, kind: Kind, image: &[u8]) -> Collected {
     let mut words = Collected::new(alloc);
     let mut reply = Reply::new(&mut words);
     if let Some(reason) = fault.text().strip_prefix(b"no ".as_slice()) {
-        tell_field(&mut reply, kind, reason.trim_ascii_end());
+        tell_field(
+            &mut reply,
+            kind,
+            reason.trim_ascii_end(),
+            unread_in(kind, image),
+        );
     }
     let _ = reply.finish();
     words
 }
 
-// Tells the field that is at fault. If that is the file's type, the case may be of the wrong kind.
-fn tell_field(reply: &mut Reply<'_, Collected>, kind: Kind, field: &[u8]) {
+// Why notes of an image are not read as they are meant, if it is a core.
+fn unread_in(kind: Kind, image: &[u8]) -> Option<UnreadNotes> {
+    match kind {
+        Kind::Core => unread_notes(image),
+        Kind::Exec => None,
+    }
+}
+
+// That the threads of an image are not read, in words; empty if they are.
+fn thread_trouble(alloc: Global, kind: Kind, image: &[u8]) -> Collected {
+    let mut words = Collected::new(alloc);
+    let mut reply = Reply::new(&mut words);
+    if unread_in(kind, image) == Some(UnreadNotes::Linux) {
+        reply.tell(b"has threads in notes that are named LINUX: only those named CORE are read");
+    }
+    let _ = reply.finish();
+    words
+}
+
+// What can't be read of an image, in words: its first field that is at fault, or its threads.
+fn image_trouble(alloc: Global, kind: Kind, image: &[u8]) -> Collected {
+    let words = field_trouble(alloc, kind, image);
+    if words.text().is_empty() {
+        return thread_trouble(alloc, kind, image);
+    }
+    words
+}
+
+// Tells the field that is at fault. If that is the file's type, the case may be of the wrong kind. If it is one of notes that are padded
+// otherwise than those that are read, nothing need be damaged.
+fn tell_field(
+    reply: &mut Reply<'_, Collected>,
+    kind: Kind,
+    field: &[u8],
+    unread: Option<UnreadNotes>,
+) {
+    if unread == Some(UnreadNotes::Padded) {
+        reply.tell(b"has notes that are padded to 8 bytes: only those padded to 4 are read: ");
+        reply.tell(field);
+        return;
+    }
     if field != b"e_type".as_slice() {
         reply.tell(b"is damaged or cut: ");
         reply.tell(field);
@@ -239,12 +284,12 @@ fn see_trouble<D: Disk>(
     if !words.text().is_empty() {
         return Some(words);
     }
-    let words = field_trouble(alloc, kind, front);
-    if words.text().is_empty() || length <= FRONT {
+    let words = image_trouble(alloc, kind, front);
+    if length <= FRONT || field_trouble(alloc, kind, front).text().is_empty() {
         return Some(words);
     }
     let image = read_whole(seq, archive)?;
-    Some(field_trouble(alloc, kind, &image))
+    Some(image_trouble(alloc, kind, &image))
 }
 
 // The first bytes of the image of a case.

@@ -86,7 +86,7 @@ pub static LINES: [LineHelp; 29] = [
     LineHelp {
         name: "threads",
         usage: "threads N",
-        does: "the threads of a core, the one that dumped first",
+        does: "the threads of a core, the one that dumped first; only notes named CORE are read, and none named LINUX",
         reply: "I TID SIGNAL PC for each",
         example: "threads 3",
         reasons: "Stopped, NoCase, NotCore, OutOfMemory, Disk, a field of the headers or notes or of a typed note",

@@ -10,7 +10,8 @@ returns g c = λ plain. (
     files = c.answer-4.result;
     unwound = c.deref-4.result;
     builds = c.answer-5.result;
-    whole = c.args.whole;
+    whole = c.args.front.whole;
+    unread = c.args.front.unread;
   },
   record {
     process = c.answer.ensures ∙ c.in_ok-process.ensures;
@@ -20,6 +21,7 @@ returns g c = λ plain. (
     unwound = search (rules, c.in_ok-shown.ensures, c.in_ok-threads.ensures, c.in_ok-unwound.ensures);
     builds = c.answer-5.ensures ∙ c.in_ok-builds.ensures;
   },
+  refl,
   refl,
   c.in_ok-put_text.ensures plain,
 )
