@@ -68,7 +68,8 @@ impl Source for ReadFile {
 
 /// Copies the cases of the archive in a file into a new file, as far as its records can be read, and tells the first fault and of each
 /// case whether it is whole. The archive's file is opened for reading, and its lock is shared meanwhile with others that only look. The
-/// new file has its name only once it is whole and durable: until then it is called NEW.part.
+/// new file has its name only once it is whole and durable: until then it is called NEW.part. Answers `Told` if all that is done and a
+/// case is lost, or the version of a half is unknown.
 pub fn salvage<R: AllocGlobal + Files<File = File>, O: Output, W: Onlooker>(
     rt: &R,
     place: ArchivePath<'_>,
@@ -79,10 +80,13 @@ pub fn salvage<R: AllocGlobal + Files<File = File>, O: Output, W: Onlooker>(
     let source = open_source(rt, place)?;
     let found = find_cases(rt.alloc(), &source).map_err(Refusal::Open)?;
     put_cases(rt, &source, &found, new, onlooker)?;
-    if tell_cases(&found, output) {
+    if !tell_cases(&found, output) {
+        return Err(Failure::Faulted(SessionFault::WriteFailed));
+    }
+    if found.is_all() {
         return Ok(());
     }
-    Err(Failure::Faulted(SessionFault::WriteFailed))
+    Err(Failure::Told)
 }
 
 /// The first fault of an archive that `salvage` finds, if there is one: also that of a gate by which the archive opens without the

@@ -1,5 +1,5 @@
 -- Cases that were found, one after another.
-use Rattle.std.proofs.Common.{◌≡◌, ◌==◌, ◌&&◌, ℕ, zero, suc, ◌<◌, ◌≤◌, List, [], ◌∷◌, length, map, drop, get_or, sym, ap, ◌∙◌, subst, arith}
+use Rattle.std.proofs.Common.{◌≡◌, ◌⊎◌, ◌==◌, ◌&&◌, ℕ, zero, suc, ◌<◌, ◌≤◌, List, [], ◌∷◌, length, map, drop, get_or, sym, ap, ◌∙◌, subst, arith}
 use Rattle.std.proofs.lemmas.Bool.{and_from, and_parts, eq-eqb, eqb-true}
 use Rattle.std.specs.Bool.{Decides}
 use Rattle.extents.specs.declared.run_list.Run.{Run}
@@ -7,19 +7,22 @@ use Rattle.extents.specs.Runs.{blocks_of, runs_of}
 use Rattle.extents.specs.RunLaws.{blocks_of_runs}
 use Rattle.journal_layout.specs.Case.{Case, case_of}
 use Rattle.journal_layout.specs.declared.entry.Entry.{Entry}
-use Rattle.salvage.specs.Cases.{HasCase, HasEach}
+use Rattle.salvage.specs.Cases.{HasCase}
+use Rattle.salvage.specs.Records.{HasEachBut, IsDeleted}
+use Rattle.salvage.specs.declared.records.Dropped.{Dropped}
 
-pub each_back : (cases : List Case) (es : List Entry) (i : ℕ) (e : Entry) → i < length es → e ≡ get_or es i e → HasCase cases (case_of e)
-    → HasEach cases (map case_of (drop (suc i) es)) → HasEach cases (map case_of (drop i es))
-each_back cases [] i e below is here rest = absurd (omega (arith, below))
-each_back cases (x ∷ xs) zero e below is here rest = (subst (λ (y : Entry). HasCase cases (case_of y)) is here, rest)
-each_back cases (x ∷ xs) (suc i) e below is here rest = each_back cases xs i e (omega (arith, below)) is here rest
+module _ (drops : List Dropped) (cases : List Case) where
+  pub each_back : (es : List Entry) (i : ℕ) (e : Entry) → i < length es → e ≡ get_or es i e → HasCase cases (case_of e) ⊎ IsDeleted drops e.seq
+      → HasEachBut drops cases (map case_of (drop (suc i) es)) → HasEachBut drops cases (map case_of (drop i es))
+  each_back [] i e below is here rest = absurd (omega (arith, below))
+  each_back (x ∷ xs) zero e below is here rest = (subst (λ (y : Entry). HasCase cases (case_of y) ⊎ IsDeleted drops y.seq) is here, rest)
+  each_back (x ∷ xs) (suc i) e below is here rest = each_back xs i e (omega (arith, below)) is here rest
 
-pub each_past : (cases : List Case) (es : List Entry) (i : ℕ) → length es ≤ i → HasEach cases (map case_of (drop i es))
-each_past cases [] zero past = tt
-each_past cases [] (suc i) past = tt
-each_past cases (x ∷ xs) zero past = absurd (omega (arith, past))
-each_past cases (x ∷ xs) (suc i) past = each_past cases xs i (omega (arith, past))
+  pub each_past : (es : List Entry) (i : ℕ) → length es ≤ i → HasEachBut drops cases (map case_of (drop i es))
+  each_past [] zero past = tt
+  each_past [] (suc i) past = tt
+  each_past (x ∷ xs) zero past = absurd (omega (arith, past))
+  each_past (x ∷ xs) (suc i) past = each_past xs i (omega (arith, past))
 
 run_is : (a b c d : ℕ) → a ≡ b → c ≡ d → ◌≡◌ {A = Run} (record { start = a; count = c }) (record { start = b; count = d })
 run_is a b c d e f = cc

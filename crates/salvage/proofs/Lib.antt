@@ -1,4 +1,5 @@
 mod CaseLemmas
+mod DropLemmas
 mod FindLemmas
 mod FrontLemmas
 mod PatchLemmas

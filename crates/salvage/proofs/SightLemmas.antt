@@ -29,9 +29,9 @@ refusal_short T (UnknownVersion v) only = absurd only
 refusal_short T (Damaged at which) only = absurd only
 
 -- where a record is read on after, something is at fault
-pub gate_sound : (fault : Option OpenFault) (shut o : Option ℕ) (gate : ℕ) → (fault ≡ None → shut ≡ None → o ≡ None) → o ≡ Some gate → fault_by fault shut ≡ None → ⊥
-gate_sound fault None o gate is some sound = (let none = is sound refl in cc)
-gate_sound fault (Some g) o gate is some sound = cc
+pub gate_sound : {X : Type 0} (fault : Option OpenFault) (shut : Option ℕ) (o : Option X) (x : X) → (fault ≡ None → shut ≡ None → o ≡ None) → o ≡ Some x → fault_by fault shut ≡ None → ⊥
+gate_sound fault None o x is some sound = (let none = is sound refl in cc)
+gate_sound fault (Some g) o x is some sound = cc
 
 pub same_ok : (o p : Option ℕ) → ◌≡◌ {A = Result (Option ℕ) OpenFault} (Ok o) (Ok p) → o ≡ p
 same_ok o p is = cc

@@ -4,7 +4,10 @@ use Rattle.intake.specs.Blocks.{image_in}
 use Rattle.journal_layout.specs.Standing.{Standing}
 use Rattle.journal_layout.specs.Stands.{Stands}
 use Rattle.journal_layout.specs.declared.faults.OpenFault.{OpenFault}
-use Rattle.salvage.specs.Cases.{HasEach}
+use Rattle.salvage.specs.Records.{AreDrops, HasEachBut}
+use Rattle.salvage.specs.declared.records.Dropped.{Dropped}
+use Rattle.disk_model.specs.Places.{part}
+use Rattle.journal_layout.specs.Layout.{data_start}
 use Rattle.salvage.specs.Copying.{found_bytes}
 use Rattle.salvage.specs.Finding.{StandsUntil}
 use Rattle.salvage.specs.Readings.{SeesCases, first_fault}
@@ -12,20 +15,22 @@ use Rattle.salvage.specs.Shut.{shut_gate}
 use Rattle.salvage.specs.declared.cases_found.Found.{Found}
 
 -- Of an archive's bytes others were made, as an archive stands that has each of these cases, with the same facts and the same blocks,
--- and the blocks hold the same images.
+-- and the blocks hold the same images. A case is left out only if a Drop record of the archive names its number.
 pub record KeepsCases (b c : List ℕ) (s : Standing) : Type 0 where
+  pub drops : List Dropped
+  pub dropped : AreDrops (part b 0 (data_start s.shape)) drops
   pub standing : Standing
   pub stands : Stands c standing
   pub shape : standing.shape ≡ s.shape
-  pub each : (standing ≡ s) ⊎ HasEach standing.cases s.cases
+  pub each : (standing ≡ s) ⊎ HasEachBut drops standing.cases s.cases
   pub images : (blocks : List ℕ) (len : ℕ) → image_in s.shape c blocks len ≡ image_in s.shape b blocks len
 
--- The cases that stand before the first faulty record are kept in what is copied.
+-- The cases that stand before the first faulty record are kept in what is copied, but for those that a record deletes which reads.
 abbrev pub WhatStandsIsKept : Type 0
 WhatStandsIsKept =
     (b : List ℕ) (f : Found) (s : Standing) (fault : OpenFault) → SeesCases b f → StandsUntil b s fault → KeepsCases b (found_bytes f b) s
 
--- The cases of an archive that opens are kept in what is copied, whether a gate of it is damaged or not.
+-- So are the cases of an archive that opens, whether a gate of it is damaged or not.
 abbrev pub WhatOpensIsKept : Type 0
 WhatOpensIsKept = (b : List ℕ) (f : Found) (s : Standing) → SeesCases b f → Stands b s → KeepsCases b (found_bytes f b) s
 

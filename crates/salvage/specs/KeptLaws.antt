@@ -10,7 +10,8 @@ use Rattle.journal_layout.specs.declared.faults.OpenFault.{OpenFault}
 use Rattle.journal_layout.specs.declared.shape.Half.{Half}
 use Rattle.journal_layout.specs.declared.shape.Half.TheVariants.{A, B}
 use Rattle.journal_layout.specs.declared.shape.Shape.{Shape}
-use Rattle.salvage.specs.Cases.{HasEach}
+use Rattle.salvage.specs.Records.{AreDrops, HasEachBut}
+use Rattle.salvage.specs.declared.records.Dropped.{Dropped}
 use Rattle.salvage.specs.Copying.{bytes_by, found_bytes}
 use Rattle.salvage.specs.Finding.{StandsUntil, closes, gate_of}
 use Rattle.salvage.specs.FrontLaws.{part_other}
@@ -43,14 +44,17 @@ before_data shape A g high = omega (arith, high)
 before_data shape B g high = omega (arith, high)
 
 -- what is read after the first fault has the cases that precede it
-more_kept : (b : List ℕ) (first s : Standing) (m : More) → first ≡ s → IsMore b first m → KeepsCases b (fronted m.front.items b) s
-more_kept b first s m is it =
+more_kept : (b : List ℕ) (first s : Standing) (drops : List Dropped) (m : More) → first ≡ s → AreDrops (part b 0 (data_start first.shape)) drops → IsMore b first drops m
+    → KeepsCases b (fronted m.front.items b) s
+more_kept b first s drops m is there it =
     let front : length m.front.items ≡ data_start s.shape = it.front ∙ ap (λ (u : Standing). data_start u.shape) is in
     record {
+      drops = drops;
+      dropped = subst (λ (u : Standing). AreDrops (part b 0 (data_start u.shape)) drops) is there;
       standing = m.journal.standing;
       stands = it.stands;
       shape = it.shape ∙ ap (λ (u : Standing). u.shape) is;
-      each = inr (subst (λ (u : Standing). HasEach m.journal.standing.cases u.cases) is it.each);
+      each = inr (subst (λ (u : Standing). HasEachBut drops m.journal.standing.cases u.cases) is it.each);
       images = images_same s.shape b (fronted m.front.items b) (λ p n behind. part_other m.front.items b p n (omega (arith, front, behind)));
     }
 
@@ -67,6 +71,8 @@ module _ (b : List ℕ) (f : Found) (s : Standing) (fault : OpenFault) (sees : S
   closed_kept =
       subst (λ (p : Option Patch). KeepsCases b (shown p b) s) (sym patch_is)
       (record {
+        drops = [];
+        dropped = tt;
         standing = s;
         stands = closed_stands b s fault until;
         shape = refl;
@@ -78,7 +84,7 @@ module _ (b : List ℕ) (f : Found) (s : Standing) (fault : OpenFault) (sees : S
 
   by_reading : (o : Option More) → f.more ≡ o → KeepsCases b (bytes_by o f.sight b) s
   by_reading None is = closed_kept
-  by_reading (Some m) is = more_kept b f.first.standing s m first_is (sees.more m is)
+  by_reading (Some m) is = more_kept b f.first.standing s f.scan.drops.items m first_is sees.drops (sees.more m is)
 
 -- the cases that stand before the first faulty record are kept
 pub what_stands_is_kept : WhatStandsIsKept
@@ -97,11 +103,11 @@ module _ (b : List ℕ) (f : Found) (s : Standing) (sees : SeesCases b f) (stand
   itself_kept : KeepsCases b (shown f.sight.patch b) s
   itself_kept =
       subst (λ (p : Option Patch). KeepsCases b (shown p b) s) (sym unpatched)
-      (record { standing = s; stands = stands; shape = refl; each = inl refl; images = λ blocks len. refl })
+      (record { drops = []; dropped = tt; standing = s; stands = stands; shape = refl; each = inl refl; images = λ blocks len. refl })
 
   opening_kept : (o : Option More) → f.more ≡ o → KeepsCases b (bytes_by o f.sight b) s
   opening_kept None is = itself_kept
-  opening_kept (Some m) is = more_kept b f.first.standing s m first_found (sees.more m is)
+  opening_kept (Some m) is = more_kept b f.first.standing s f.scan.drops.items m first_found sees.drops (sees.more m is)
 
   module _ (sound : shut_gate b s ≡ None) where
     unshut : f.shut ≡ None

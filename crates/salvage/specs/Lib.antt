@@ -8,6 +8,7 @@ pub mod GateLaws
 pub mod Keeping
 pub mod KeptLaws
 pub mod Readings
+pub mod Records
 pub mod ShowLaws
 pub mod Showing
 pub mod Shut

@@ -3,6 +3,8 @@ use Rattle.std.specs.Prelude.{ℕ, List, [], ◌∷◌, ◌++◌, Option, None, 
 use Rattle.journal_layout.specs.FieldNames.{field_name}
 use Rattle.journal_layout.specs.declared.faults.OpenFault.{OpenFault}
 use Rattle.journal_layout.specs.declared.faults.OpenFault.TheVariants.{Disk, OutOfMemory, NotAnArchive, UnknownVersion, Damaged}
+use Rattle.salvage.specs.declared.cases_found.Loss.{Loss}
+use Rattle.salvage.specs.declared.cases_found.Loss.TheVariants as loss
 use Rattle.salvage.specs.declared.telling.Mark.{Mark}
 use Rattle.salvage.specs.declared.telling.Mark.TheVariants.{Whole, Doubtful, Lost}
 use Rattle.script_words.specs.Printing.{shown}
@@ -22,9 +24,26 @@ fault_line (Some fault) = codes "fault " ++ (fault_words fault ++ 10 ∷ [])
 
 abbrev pub mark_words : Mark → List ℕ
 mark_words Whole = codes " whole "
-mark_words Doubtful = codes " doubtful "
-mark_words Lost = codes " lost "
+mark_words (Doubtful place) = codes " doubtful "
+mark_words (Lost loss place) = codes " lost "
 
--- `N whole NAME`, `N doubtful NAME` or `N lost NAME`
+abbrev pub loss_words : Loss → List ℕ
+loss_words loss.Number = codes " number of another"
+loss_words loss.Name = codes " name of another"
+loss_words loss.Block = codes " block of another"
+loss_words loss.Room = codes " no room"
+
+-- these words, and the place of the record that deletes the case, if one does
+abbrev pub deleting_words : List ℕ → Option ℕ → List ℕ
+deleting_words words None = []
+deleting_words words (Some place) = words ++ decimal place
+
+-- what hinders a case that is lost, and which record deletes a case
+abbrev pub mark_reason : Mark → List ℕ
+mark_reason Whole = []
+mark_reason (Doubtful place) = deleting_words (codes " deleted at ") place
+mark_reason (Lost loss place) = loss_words loss ++ deleting_words (codes ", deleted at ") place
+
+-- `N whole NAME`, `N doubtful NAME`, `N doubtful NAME deleted at PLACE`, `N lost NAME REASON` or `N lost NAME REASON, deleted at PLACE`
 abbrev pub case_line : ℕ → Mark → List ℕ → List ℕ
-case_line seq mark name = decimal seq ++ (mark_words mark ++ (shown name ++ 10 ∷ []))
+case_line seq mark name = decimal seq ++ (mark_words mark ++ (shown name ++ (mark_reason mark ++ 10 ∷ [])))

@@ -1,7 +1,7 @@
 // Whether a journal has the cases of another.
-ghost use Rattle.std.specs.Prelude.{◌≡◌, IsTrue, map};
+ghost use Rattle.std.specs.Prelude.{◌≡◌, IsTrue};
 ghost use Rattle.journal_layout.specs.Case.{case_of};
-ghost use Rattle.salvage.specs.Cases.{HasCase, HasEach, IsSameImage};
+ghost use Rattle.salvage.specs.Cases.{HasCase, IsSameImage};
 
 use case_journal::Journal;
 use extents::RunList;
@@ -33,8 +33,8 @@ fn are_same_blocks(one: &RunList, other: &RunList) -> bool
     one.runs() == other.runs()
 }
 
-// Whether two entries say the same image, and the same blocks of it.
-fn is_same_image(one: &Entry, other: &Entry) -> bool
+/// Whether two entries say the same image, and the same blocks of it.
+pub(crate) fn is_same_image(one: &Entry, other: &Entry) -> bool
     ensures { IsTrue result → IsSameImage (case_of one.now) (case_of other.now) }
 {
     if !is_same_origin(one, other) {
@@ -54,16 +54,4 @@ pub(crate) fn has_case(journal: &Journal, entry: &Entry) -> bool
         Some(found) => is_same_image(entry, found),
         None => false,
     }
-}
-
-/// Whether a journal has each case of another so.
-pub(crate) fn has_each(journal: &Journal, first: &Journal) -> bool
-    ensures { IsTrue result → HasEach journal.now.standing.cases first.now.standing.cases }
-{
-    for entry in first.entries() {
-        if !has_case(journal, entry) {
-            return false;
-        }
-    }
-    true
 }

@@ -2,39 +2,47 @@
 ghost use Rattle.std.specs.Prelude.{◌≡◌, ◌≢◌, ◌≤◌, length, IfOk, IsTrue, None, Ok, Some, map};
 ghost use Rattle.journal_layout.specs.Case.{case_of};
 ghost use Rattle.case_journal.specs.Viewing.{IsOpenRefusal};
+ghost use Rattle.disk_model.specs.Places.{part};
 ghost use Rattle.journal_layout.specs.Layout.{data_start};
 ghost use Rattle.journal_layout.specs.Stands.{Stands};
-ghost use Rattle.salvage.specs.Cases.{HasCase, HasEach};
+ghost use Rattle.salvage.specs.Cases.{HasCase};
 ghost use Rattle.salvage.specs.Fronts.{fronted};
-ghost use Rattle.salvage.specs.Readings.{FindsCases, FoundWithin, IsNoOpening, IsWholeIn, StepTells, cases_by, first_fault, later_by};
+ghost use Rattle.salvage.specs.Readings.{FindsCases, FoundWithin, IsBelow, IsMore, IsWholeIn, cases_by, first_fault};
+ghost use Rattle.salvage.specs.Records.{AreDrops, HasEachBut};
 ghost use Rattle.salvage.specs.Shut.{IsShutFound};
 ghost use Rattle.salvage.specs.declared.cases_found.More.{More};
 
-use crate::cases::{has_case, has_each};
-use crate::finding::{GATE_OPEN, Sight, find_sight, is_of_front, open_shown};
+use crate::cases::has_case;
+use crate::choosing::choose;
+use crate::doubts::{Doubts, NO_BOUND, bound_of};
+use crate::finding::{Sight, find_sight, open_shown};
 use crate::fronted::Fronted;
-use crate::mending::{keep_cases, mend};
-use crate::shown::Patch;
-use crate::shut::{find_shut, is_shut};
+use crate::fronts::make_front;
+use crate::records::{Fate, Read, Scan, Span, number_at};
+use crate::shut::find_shut;
 use crate::source::Source;
 use case_journal::Journal;
 use journal_layout::{Entry, Field, Half, OpenFault, Shape};
-use std::alloc::Global;
+use std::alloc::{AllocError, Global};
 
-// How many faulty records are gone by, at most.
-const MOST_FAULTS: u32 = 1024;
-
-// The bytes of a half's header.
-const HEADER: u64 = 32;
-
-// The bytes of a record are so many times 16.
-const STEP: u64 = 16;
-
-/// A reading that goes on after the first fault: other bytes in place of the superblock and the journal, and the journal that they say.
+/// A reading of the records of both halves: other bytes in place of the superblock and the journal, and the journal that they say.
 #[derive(Drop)]
 pub struct More {
     pub(crate) front: Vec<u8>,
     pub(crate) journal: Journal,
+}
+
+/// What is told of a case that is not copied.
+#[derive(Clone, Copy, Debug, PartialEq, Eq)]
+pub(crate) enum Loss {
+    /// Its number is that of another case.
+    Number,
+    /// Its name is.
+    Name,
+    /// A block of it is.
+    Block,
+    /// Its records have no room.
+    Room,
 }
 
 /// The cases of an archive.
@@ -46,9 +54,11 @@ pub struct Found {
     pub shut: Option<u64>,
     // What the records before the first fault say.
     pub(crate) first: Journal,
-    // What the later records say too, as far as they can be read.
-    on: Option<Journal>,
-    // What is copied in its place where it has all its cases.
+    // What the records of both halves say that read by themselves, if something is at fault.
+    pub(crate) scan: Scan,
+    // What makes a case doubtful that stands before the first fault, if something is.
+    doubts: Option<Doubts>,
+    // What is copied in place of the archive's records.
     pub(crate) more: Option<More>,
 }
 
@@ -60,16 +70,6 @@ impl Found {
         match &self.more {
             Some(more) => more.journal.entries(),
             None => self.first.entries(),
-        }
-    }
-
-    /// The cases that all records leave which can be read, if they go with one another.
-    pub(crate) fn later(&self) -> &[Entry]
-        ensures { map case_of result.now ≡ later_by self.now.on }
-    {
-        match &self.on {
-            Some(on) => on.entries(),
-            None => &[],
         }
     }
 
@@ -103,34 +103,106 @@ impl Found {
         }
     }
 
-    /// Whether a case precedes the first fault, and no later record that can be read deletes the case or takes its blocks.
+    /// Where the record is that deletes a case of this number, if one does that reads.
+    pub(crate) fn deleted_at(&self, seq: u32) -> Option<u64> {
+        match self.scan.deleting(seq) {
+            Some(place) => Some(place as u64),
+            None => None,
+        }
+    }
+
+    /// Whether nothing is at fault, or a case precedes the first fault, and neither that fault nor a record that reads makes it doubtful.
     pub fn is_whole(&self, entry: &Entry) -> bool
         ensures { IsTrue result → IsWholeIn self.now (case_of entry.now) }
     {
         if self.fault().is_none() {
             return true;
         }
-        match &self.on {
-            Some(on) => has_case(&self.first, entry) && has_case(on, entry),
+        if !has_case(&self.first, entry) || !self.is_below(entry.seq) {
+            return false;
+        }
+        self.scan.deleting(entry.seq).is_none() && !self.is_contested(entry)
+    }
+
+    // Whether a number is below the first one that makes a case doubtful.
+    fn is_below(&self, seq: u32) -> bool
+        ensures { IsTrue result → IsBelow self.now.doubts seq }
+    {
+        match &self.doubts {
+            Some(doubts) => u64::from(seq) < doubts.bound,
             None => false,
+        }
+    }
+
+    // Whether a record behind the fault stores another case with the number, the name or a block of this one.
+    fn is_contested(&self, entry: &Entry) -> bool {
+        match &self.doubts {
+            Some(doubts) => doubts.contest(entry),
+            None => true,
+        }
+    }
+
+    /// Whether each case that a record stores which reads is copied, and the version of the taken half is known.
+    pub fn is_all(&self) -> bool {
+        if matches!(self.sight.fault, Some(OpenFault::UnknownVersion(_))) {
+            return false;
+        }
+        for read in &self.scan.reads {
+            if !self.has(&read.entry) {
+                return false;
+            }
+        }
+        true
+    }
+
+    /// Why a case is not copied that a record stores; none if it is copied, or if an earlier record stores it too.
+    pub(crate) fn loss(&self, read: &Read) -> Option<Loss> {
+        if self.has(&read.entry) {
+            return None;
+        }
+        match read.fate {
+            Fate::Same => None,
+            Fate::Number => Some(Loss::Number),
+            Fate::Name => Some(Loss::Name),
+            Fate::Block => Some(Loss::Block),
+            Fate::Copied | Fate::Room => Some(Loss::Room),
         }
     }
 }
 
-// The gate of the first faulty record of the taken half, where that is what is at fault.
-fn faulty_gate(sight: Sight) -> Option<u64>
-    ensures { sight.fault ≡ None → result ≡ None }
-{
-    match sight.fault {
-        Some(OpenFault::Damaged { field, .. }) if !is_of_front(field) => gate_in(sight.patch),
-        _ => None,
-    }
+// Where the first fault is, in bytes, and of which field; no place of one that is of no record and no gate.
+#[derive(Clone, Copy)]
+struct Trouble {
+    gate: usize,
+    field: Field,
+    is_refused: bool,
 }
 
-fn gate_in(patch: Option<Patch>) -> Option<u64> {
-    match patch {
-        Some(patch) => Some(patch.at),
-        None => None,
+fn trouble_in(sight: Sight, shut: Option<u64>) -> Option<Trouble>
+    ensures { sight.fault ≡ None → shut ≡ None → result ≡ None }
+{
+    if let Some(gate) = shut {
+        return Some(Trouble {
+            gate: gate as usize,
+            field: Field::Gate,
+            is_refused: false,
+        });
+    }
+    let gate = match sight.patch {
+        Some(patch) => patch.at as usize,
+        None => 0,
+    };
+    match sight.fault? {
+        OpenFault::Damaged { field, .. } => Some(Trouble {
+            gate,
+            field,
+            is_refused: true,
+        }),
+        _ => Some(Trouble {
+            gate,
+            field: Field::Gate,
+            is_refused: true,
+        }),
     }
 }
 
@@ -138,6 +210,7 @@ fn gate_in(patch: Option<Patch>) -> Option<u64> {
 fn read_front<S: Source>(alloc: Global, source: &S, shape: Shape) -> Result<Vec<u8>, OpenFault>
     ensures long { IfOk result (λ front. length front.items ≡ data_start shape) }
     ensures within { IfOk result (λ front. length front.items ≤ S.size source.now) }
+    ensures bytes { IsTrue (S.is_honest source.now) → IfOk result (λ front. front.items ≡ part (S.seen source.now) 0 (data_start shape)) }
     ensures only { IsOpenRefusal result }
 {
     let length = shape.data_start();
@@ -153,211 +226,131 @@ fn read_front<S: Source>(alloc: Global, source: &S, shape: Shape) -> Result<Vec<
     Ok(front)
 }
 
-// What is to be done with bytes that are read on.
-enum Step {
-    // They open.
-    Opens(Journal),
-    // They open, and the gate after their records, which is here, is damaged.
-    Shut(u64),
-    // The record whose gate is here is to be replaced; this is the number of the next case there, and whether it is a case that takes
-    // the blocks or the name of another.
-    Mends(u64, u64, bool),
-    // Nothing lets them open.
-    Ends,
-}
-
-// Where the first faulty record is of bytes that do not open, and the number of the next case there.
-fn find_mend<S: Source>(alloc: Global, source: &S) -> Result<Step, OpenFault>
-    ensures step { IfOk result IsNoOpening }
-    ensures only { IsOpenRefusal result }
-{
-    let sight = match find_sight(alloc, source) {
-        Ok(sight) => sight,
-        Err(fault) => return nothing_more(fault),
-    };
-    let Some(gate) = faulty_gate(sight) else {
-        return Ok(Step::Ends);
-    };
-    match open_shown(alloc, source, sight.patch) {
-        Ok(journal) => Ok(Step::Mends(gate, journal.next_seq(), takes(sight))),
-        Err(fault) => nothing_more(fault),
-    }
-}
-
-// Whether the first faulty record is a case that takes the blocks or the name of another.
-fn takes(sight: Sight) -> bool {
-    match sight.fault {
-        Some(OpenFault::Damaged { field, .. }) => match field {
-            Field::Run | Field::Name => true,
-            _ => false,
-        },
-        _ => false,
-    }
-}
-
-// Nothing more is read after a fault. Want of memory is told.
-fn nothing_more(fault: OpenFault) -> Result<Step, OpenFault>
-    ensures step { IfOk result IsNoOpening }
-    ensures only { IsOpenRefusal result }
-{
-    match fault {
-        OpenFault::OutOfMemory => Err(OpenFault::OutOfMemory),
-        _ => Ok(Step::Ends),
-    }
-}
-
-// Looks at an archive with other bytes in place of its first ones. The half is the one that is taken.
-fn look_on<S: Source>(
-    alloc: Global,
-    source: &S,
-    front: &[u8],
-    half: Span,
-) -> Result<Step, OpenFault>
-    requires { length front.now ≤ S.size source.now }
-    ensures tells { IsTrue (S.is_honest source.now) → IfOk result (StepTells (fronted front.now (S.seen source.now))) }
-    ensures only { IsOpenRefusal result }
-{
-    let view = Fronted::new(source, front);
-    match open_shown(alloc, &view, None) {
-        Ok(journal) => match shut_in(front, half, journal.use_bytes()) {
-            Some(gate) => Ok(Step::Shut(gate)),
-            None => Ok(Step::Opens(journal)),
-        },
-        Err(OpenFault::OutOfMemory) => Err(OpenFault::OutOfMemory),
-        Err(_) => find_mend(alloc, &view),
-    }
-}
-
-// The gate so many bytes after the begin of a half, if it is damaged.
-fn shut_in(front: &[u8], half: Span, used: u64) -> Option<u64> {
-    let gate = half.start.checked_add(used)?;
-    match front.get(gate as usize) {
-        Some(byte) if gate < half.end && is_shut(*byte) => Some(gate),
-        _ => None,
-    }
-}
-
-// Where a half of the journal begins and ends.
-#[derive(Clone, Copy)]
-struct Span {
-    start: u64,
-    end: u64,
-}
-
-// The half that has a byte.
-fn half_with(shape: Shape, at: u64) -> Span {
-    let second = shape.half_start(Half::B);
-    if at < second {
-        return Span {
-            start: shape.half_start(Half::A),
-            end: second,
-        };
-    }
+fn half_of(shape: Shape, half: Half) -> Span {
+    let start = shape.half_start(half);
     Span {
-        start: second,
-        end: shape.data_start(),
+        start: start as usize,
+        end: start.saturating_add(shape.half_length()) as usize,
     }
 }
 
-// Replaces the record whose gate is at a place of a half, after its header. Answers whether there is such a place.
-fn mend_half(front: &mut [u8], half: Span, gate: u64, next: u64) -> bool {
-    let end = half.end;
-    if half.start > gate || gate - half.start < HEADER || end <= gate || end > front.len() as u64 {
-        return false;
-    }
-    let bytes = &mut front[half.start as usize..end as usize];
-    mend(bytes, (gate - half.start) as usize, next);
-    true
+// The records of both halves that read by themselves.
+fn read_halves(alloc: Global, front: &[u8], shape: Shape) -> Result<Scan, OpenFault>
+    ensures only { IsOpenRefusal result }
+    ensures drops { IfOk result (λ scan. AreDrops front.now scan.drops.items) }
+{
+    let mut scan = Scan::new(alloc);
+    scan.read_half(alloc, front, half_of(shape, Half::A), shape.data_blocks)?;
+    scan.read_half(alloc, front, half_of(shape, Half::B), shape.data_blocks)?;
+    Ok(scan)
 }
 
-// Shows a gate of a half open. With `keeps`, the record of that gate deletes no case of this journal, and no later record does.
-fn open_gate(front: &mut [u8], half: Span, gate: u64, keeps: Option<&Journal>) {
-    put_open(front, gate);
-    if let Some(journal) = keeps {
-        keep_in(front, half, gate, journal);
+// The taken half: that of the first fault, unless that is the gate of the other one.
+fn taken_half(shape: Shape, trouble: Trouble) -> Span {
+    let first = half_of(shape, Half::A);
+    let second = half_of(shape, Half::B);
+    let is_second = trouble.gate >= second.start;
+    let is_of_half = trouble.gate == first.start || trouble.gate == second.start;
+    if is_second != is_of_half {
+        second
+    } else {
+        first
     }
 }
 
-fn put_open(front: &mut [u8], gate: u64) {
-    if let Some(byte) = front.get_mut(gate as usize) {
-        *byte = GATE_OPEN;
+// The generation in the header of a half.
+fn generation_at(front: &[u8], start: usize) -> u64 {
+    let low = number_at(front, start.saturating_add(8));
+    let high = number_at(front, start.saturating_add(12));
+    u64::from(low) + (u64::from(high) << 32)
+}
+
+// From which number on the cases are doubtful that stand before the first fault.
+fn bound_in(front: &[u8], shape: Shape, scan: &Scan, trouble: Trouble) -> u64 {
+    let taken = taken_half(shape, trouble);
+    if taken.start < trouble.gate && trouble.gate < taken.end {
+        if trouble.is_refused {
+            let reads_alone = scan.reads_at(front, trouble.gate);
+            return bound_of(front, trouble.gate, trouble.field, reads_alone);
+        }
+        return NO_BOUND;
+    }
+    let is_older = generation_at(front, trouble.gate) < generation_at(front, taken.start);
+    if is_older && !trouble.is_refused {
+        NO_BOUND
+    } else {
+        0
     }
 }
 
-// Reads on after the faulty records of a half. With `keeps` a later case gives way that takes the blocks or the name of an earlier one;
-// else nothing is read then, since the first faulty record may have deleted the earlier one.
-fn read_on<S: Source>(
+// What makes cases doubtful that stand before the first fault.
+fn doubts_of(
+    alloc: Global,
+    front: &[u8],
+    shape: Shape,
+    scan: &Scan,
+    trouble: Trouble,
+) -> Result<Doubts, AllocError> {
+    let taken = taken_half(shape, trouble);
+    let is_within = taken.start < trouble.gate && trouble.gate < taken.end;
+    let behind = Span {
+        start: if is_within { trouble.gate } else { taken.end },
+        end: taken.end,
+    };
+    let bound = bound_in(front, shape, scan, trouble);
+    Doubts::of(alloc, bound, shape.data_blocks, &scan.reads, behind)
+}
+
+// The number of the next case: no number is given again that a case has which is copied. That of the records which stand counts too, as
+// far as the first fault leaves it without a doubt.
+fn next_of(first: &Journal, bound: u64, reads: &[Read]) -> u64 {
+    let mut next = first.next_seq();
+    if bound > 0 {
+        next = next.min(bound);
+    }
+    for read in reads {
+        if read.fate == Fate::Copied {
+            next = next.max(u64::from(read.entry.seq) + 1);
+        }
+    }
+    next.max(1)
+}
+
+// The archive that has the cases which are chosen, if it opens.
+fn read_more<S: Source>(
     alloc: Global,
     source: &S,
     front: Vec<u8>,
-    half: Span,
-    keeps: Option<&Journal>,
 ) -> Result<Option<More>, OpenFault>
     requires { length front.items ≤ S.size source.now }
-    ensures long { IfOk result (λ o. (m : More) → o ≡ Some m → length m.front.items ≡ length front.items) }
+    ensures long { IfOk result (λ o. (m : More) → o ≡ Some m → m.front.items ≡ front.items) }
     ensures stands { IsTrue (S.is_honest source.now) → IfOk result (λ o. (m : More) → o ≡ Some m → Stands (fronted m.front.items (S.seen source.now)) m.journal.standing) }
     ensures only { IsOpenRefusal result }
 {
-    let mut front = front;
-    for turn in 0..MOST_FAULTS {
-        match look_on(alloc, source, &front, half)? {
-            Step::Opens(journal) => return Ok(Some(More { front, journal })),
-            Step::Shut(gate) => open_gate(&mut front, half, gate, keeps),
-            Step::Mends(gate, next, takes) => {
-                if takes && turn > 0 && keeps.is_none() {
-                    return Ok(None);
-                }
-                if !mend_half(&mut front, half, gate, next) {
-                    return Ok(None);
-                }
-            }
-            Step::Ends => return Ok(None),
-        }
+    let opened = open_front(alloc, source, &front);
+    match opened {
+        Ok(journal) => Ok(Some(More { front, journal })),
+        Err(OpenFault::OutOfMemory) => Err(OpenFault::OutOfMemory),
+        Err(OpenFault::Disk) => Err(OpenFault::Disk),
+        Err(_) => Ok(None),
     }
-    Ok(None)
 }
 
-// What is said by the records of an archive of this shape, the faulty ones replaced from a gate on, and the damaged gates open. With
-// `keeps`, no record after that gate deletes a case of this journal.
-fn go_on<S: Source>(
-    alloc: Global,
-    source: &S,
-    shape: Shape,
-    gate: u64,
-    keeps: Option<&Journal>,
-) -> Result<Option<More>, OpenFault>
-    ensures long { IfOk result (λ o. (m : More) → o ≡ Some m → length m.front.items ≡ data_start shape) }
-    ensures within { IfOk result (λ o. (m : More) → o ≡ Some m → length m.front.items ≤ S.size source.now) }
-    ensures stands { IsTrue (S.is_honest source.now) → IfOk result (λ o. (m : More) → o ≡ Some m → Stands (fronted m.front.items (S.seen source.now)) m.journal.standing) }
-    ensures only { IsOpenRefusal result }
+// Opens the journal of an archive with other bytes in place of its first ones.
+fn open_front<S: Source>(alloc: Global, source: &S, front: &[u8]) -> Result<Journal, OpenFault>
+    requires { length front.now ≤ S.size source.now }
+    ensures gives { IsTrue (S.is_honest source.now) → IfOk result (λ journal. Stands (fronted front.now (S.seen source.now)) journal.standing) }
 {
-    let mut front = read_front(alloc, source, shape)?;
-    let half = half_with(shape, gate);
-    if gate == half.start {
-        put_open(&mut front, gate);
-    }
-    if let Some(journal) = keeps {
-        keep_in(&mut front, half, gate.saturating_add(STEP), journal);
-    }
-    read_on(alloc, source, front, half, keeps)
+    let view = Fronted::new(source, front);
+    open_shown(alloc, &view, None)
 }
 
-// Replaces the Drop records of a half, from a gate on, that name a case of a journal.
-fn keep_in(front: &mut [u8], half: Span, gate: u64, journal: &Journal) {
-    let end = half.end;
-    if half.start > gate || end <= half.start || end > front.len() as u64 {
-        return;
-    }
-    let bytes = &mut front[half.start as usize..end as usize];
-    keep_cases(bytes, (gate - half.start) as usize, journal);
-}
-
-// A reading, where it has each case of a journal, and is of an archive of the same shape.
-fn having_each(more: Option<More>, first: &Journal) -> Option<More>
-    ensures { (m : More) → result ≡ Some m → (more ≡ Some m) × HasEach m.journal.standing.cases first.now.standing.cases × (m.journal.standing.shape ≡ first.now.standing.shape) }
+// A reading, where it has each case of a journal that no record deletes, and is of an archive of the same shape.
+fn having_each(more: Option<More>, first: &Journal, scan: &Scan) -> Option<More>
+    ensures { (m : More) → result ≡ Some m → (more ≡ Some m) × HasEachBut scan.now.drops.items m.journal.standing.cases first.now.standing.cases × (m.journal.standing.shape ≡ first.now.standing.shape) }
 {
     let more = more?;
-    if has_each(&more.journal, first) && is_same_shape(more.journal.shape(), first.shape()) {
+    if scan.has_each(&more.journal, first) && is_same_shape(more.journal.shape(), first.shape()) {
         return Some(more);
     }
     None
@@ -367,24 +360,6 @@ fn is_same_shape(one: Shape, other: Shape) -> bool
     ensures { IsTrue result → one ≡ other }
 {
     one.half_blocks == other.half_blocks && one.data_blocks == other.data_blocks
-}
-
-// The journal of a reading.
-fn journal_in(more: Option<More>) -> Option<Journal> {
-    match more {
-        Some(more) => Some(more.journal),
-        None => None,
-    }
-}
-
-// The gate after which the records of an archive are read on: that of the first faulty record, or the damaged one.
-fn first_gate(sight: Sight, shut: Option<u64>) -> Option<u64>
-    ensures { sight.fault ≡ None → shut ≡ None → result ≡ None }
-{
-    match shut {
-        Some(gate) => Some(gate),
-        None => faulty_gate(sight),
-    }
 }
 
 // The damaged gate of an archive that opens.
@@ -404,10 +379,59 @@ fn shut_of<S: Source>(
     find_shut(alloc, source, first)
 }
 
+// Chooses among the cases that records store, and makes the front that says them.
+fn choose_front(
+    alloc: Global,
+    front: &[u8],
+    scan: &mut Scan,
+    first: &Journal,
+    taken: Span,
+    bound: u64,
+) -> Result<Vec<u8>, AllocError>
+    ensures long { IfOk result (λ made. length made.items ≡ length front.now) }
+    ensures drops { scan.new.drops ≡ scan.old.drops }
+{
+    choose(
+        alloc,
+        scan,
+        first,
+        taken,
+        first.shape().half_length() as usize,
+    )?;
+    let next = next_of(first, bound, &scan.reads);
+    make_front(alloc, front, &scan.reads, first.version(), next)
+}
+
+// What a reading of the records of both halves finds.
+fn look_on<S: Source>(
+    alloc: Global,
+    source: &S,
+    first: &Journal,
+    trouble: Trouble,
+) -> Result<(Scan, Doubts, Option<More>), OpenFault>
+    ensures within { IfOk result (λ r. (m : More) → r.2 ≡ Some m → length m.front.items ≤ S.size source.now) }
+    ensures drops { IsTrue (S.is_honest source.now) → IfOk result (λ r. AreDrops (part (S.seen source.now) 0 (data_start first.now.standing.shape)) r.0.drops.items) }
+    ensures more { IsTrue (S.is_honest source.now) → IfOk result (λ r. (m : More) → r.2 ≡ Some m → IsMore (S.seen source.now) first.now.standing r.0.drops.items m) }
+    ensures only { IsOpenRefusal result }
+{
+    let shape = first.shape();
+    let front = read_front(alloc, source, shape)?;
+    let mut scan = read_halves(alloc, &front, shape)?;
+    let Ok(doubts) = doubts_of(alloc, &front, shape, &scan, trouble) else {
+        return Err(OpenFault::OutOfMemory);
+    };
+    let taken = taken_half(shape, trouble);
+    let Ok(made) = choose_front(alloc, &front, &mut scan, first, taken, doubts.bound) else {
+        return Err(OpenFault::OutOfMemory);
+    };
+    let more = having_each(read_more(alloc, source, made)?, first, &scan);
+    Ok((scan, doubts, more))
+}
+
 /// Finds the cases of an archive. Those of a sound archive are as its opening finds them. If a record of the taken half is the first to
-/// be at fault, they are those that the records before it leave, and those of later records that can be read and go with them. So are
-/// they if the archive opens and the gate after its records is damaged; or that of a half, whose records are read then. If the header of
-/// a half is at fault, they are those of the half that opens. Answers as `find_sight` does.
+/// be at fault, or a gate is damaged by which the archive opens without the records behind it, or the header of a half, they are those
+/// of the records of both halves that read by themselves, as far as they go with one another (see `choose`). Answers as `find_sight`
+/// does.
 pub fn find_cases<S: Source>(alloc: Global, source: &S) -> Result<Found, OpenFault>
     ensures within { IfOk result (FoundWithin (S.size source.now)) }
     ensures finds { IsTrue (S.is_honest source.now) → FindsCases (S.seen source.now) result }
@@ -415,23 +439,23 @@ pub fn find_cases<S: Source>(alloc: Global, source: &S) -> Result<Found, OpenFau
     let sight = find_sight(alloc, source)?;
     let first = open_shown(alloc, source, sight.patch)?;
     let shut = shut_of(alloc, source, sight, &first)?;
-    let Some(gate) = first_gate(sight, shut) else {
+    let Some(trouble) = trouble_in(sight, shut) else {
         return Ok(Found {
             sight,
             shut,
             first,
-            on: None,
+            scan: Scan::new(alloc),
+            doubts: None,
             more: None,
         });
     };
-    let shape = first.shape();
-    let on = journal_in(go_on(alloc, source, shape, gate, None)?);
-    let more = having_each(go_on(alloc, source, shape, gate, Some(&first))?, &first);
+    let (scan, doubts, more) = look_on(alloc, source, &first, trouble)?;
     Ok(Found {
         sight,
         shut,
         first,
-        on,
+        scan,
+        doubts: Some(doubts),
         more,
     })
 }

@@ -3,11 +3,14 @@
 
 mod cases;
 mod cases_found;
+mod choosing;
 mod copying;
+mod doubts;
 mod finding;
 mod fronted;
+mod fronts;
 mod laws;
-mod mending;
+mod records;
 mod shown;
 mod shut;
 mod source;

@@ -1,25 +1,25 @@
 // What a salvage tells of an archive, line by line.
 ghost use Rattle.std.specs.Prelude.{◌≡◌};
 ghost use Rattle.script_streams.specs.Replies.{TellsText, telling};
-ghost use Rattle.salvage.specs.Texts.{case_line, fault_line, fault_words, mark_words};
+ghost use Rattle.salvage.specs.Texts.{case_line, deleting_words, fault_line, fault_words, loss_words, mark_reason, mark_words};
 
-use crate::cases_found::Found;
+use crate::cases_found::{Found, Loss};
 use journal_layout::OpenFault;
 use script_streams::{Output, Reply};
 
 /// What is told of a case.
 #[derive(Clone, Copy, Debug, PartialEq, Eq)]
 pub(crate) enum Mark {
-    /// It is copied, and the records that can be read leave it as it is.
+    /// It is copied, and is as it was stored.
     Whole,
-    /// It is copied, and may be another or none.
-    Doubtful,
-    /// It gives way to a case that is copied.
-    Lost,
+    /// It is copied, and may be another or none. The record at this place deletes it, if one does.
+    Doubtful(Option<u64>),
+    /// It is not copied. The record at this place deletes it, if one does.
+    Lost(Loss, Option<u64>),
 }
 
-/// Tells the first fault of an archive, or that it is sound, and then of each case that is copied whether it is whole. The cases that
-/// give way to them come last. Answers whether all was told.
+/// Tells the first fault of an archive, or that it is sound, and then of each case that is copied whether it is whole. The cases that a
+/// record stores and that are not copied come last, with what hinders each. Answers whether all was told.
 pub fn tell_cases<O: Output>(found: &Found, output: &mut O) -> bool {
     let mut reply = Reply::new(output);
     tell_fault(&mut reply, found.fault());
@@ -33,16 +33,19 @@ fn tell_copied<O: Output>(reply: &mut Reply<'_, O>, found: &Found) {
         let mark = if found.is_whole(entry) {
             Mark::Whole
         } else {
-            Mark::Doubtful
+            Mark::Doubtful(found.deleted_at(entry.seq))
         };
         tell_case(reply, entry.seq, mark, entry.name.as_slice());
     }
 }
 
 fn tell_lost<O: Output>(reply: &mut Reply<'_, O>, found: &Found) {
-    for entry in found.later() {
-        if !found.has(entry) {
-            tell_case(reply, entry.seq, Mark::Lost, entry.name.as_slice());
+    let reads = found.scan.reads.as_slice();
+    for index in 0..reads.len() {
+        let entry = &reads[reads.len() - 1 - index].entry;
+        if let Some(loss) = found.loss(&reads[reads.len() - 1 - index]) {
+            let mark = Mark::Lost(loss, found.deleted_at(entry.seq));
+            tell_case(reply, entry.seq, mark, entry.name.as_slice());
         }
     }
 }
@@ -87,6 +90,7 @@ fn tell_case<O: Output>(reply: &mut Reply<'_, O>, seq: u32, mark: Mark, name: &[
     reply.tell_decimal(u128::from(seq));
     reply.tell(words(mark));
     reply.tell_text(name);
+    tell_reason_of(reply, mark);
     reply.tell(b"\n");
 }
 
@@ -95,7 +99,41 @@ fn words(mark: Mark) -> &'static [u8]
 {
     match mark {
         Mark::Whole => b" whole ",
-        Mark::Doubtful => b" doubtful ",
-        Mark::Lost => b" lost ",
+        Mark::Doubtful(_) => b" doubtful ",
+        Mark::Lost(_, _) => b" lost ",
+    }
+}
+
+// Tells what hinders a case that is lost, and which record deletes a case.
+fn tell_reason_of<O: Output>(reply: &mut Reply<'_, O>, mark: Mark)
+    ensures { TellsText (telling O.Output reply.old reply.new) (mark_reason mark) }
+{
+    match mark {
+        Mark::Whole => {}
+        Mark::Doubtful(place) => tell_deleting(reply, b" deleted at ", place),
+        Mark::Lost(loss, place) => {
+            reply.tell(loss_words(loss));
+            tell_deleting(reply, b", deleted at ", place);
+        }
+    }
+}
+
+fn tell_deleting<O: Output>(reply: &mut Reply<'_, O>, words: &[u8], place: Option<u64>)
+    ensures { TellsText (telling O.Output reply.old reply.new) (deleting_words words.now place) }
+{
+    if let Some(place) = place {
+        reply.tell(words);
+        reply.tell_decimal(u128::from(place));
+    }
+}
+
+fn loss_words(loss: Loss) -> &'static [u8]
+    ensures { result.now ≡ loss_words loss }
+{
+    match loss {
+        Loss::Number => b" number of another",
+        Loss::Name => b" name of another",
+        Loss::Block => b" block of another",
+        Loss::Room => b" no room",
     }
 }

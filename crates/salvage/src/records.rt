@@ -1,0 +1,434 @@
+// The records of a half that read by themselves, whatever the records before them say.
+ghost use Rattle.std.specs.Prelude.{◌≡◌, ◌+◌, ◌*◌, ◌<◌, ◌≤◌, ◌^◌, [], IfOk, IfSome, IsTrue, length, slice_index};
+ghost use Rattle.std.specs.Prelude.{◌⊎◌};
+ghost use Rattle.case_journal.specs.Viewing.{IsOpenRefusal};
+ghost use Rattle.journal_layout.specs.Case.{case_of};
+ghost use Rattle.salvage.specs.Cases.{HasCase};
+ghost use Rattle.salvage.specs.Records.{AreDrops, HasEachBut, IsDeleted, number_of};
+
+use crate::cases::has_case;
+use crate::finding::GATE_OPEN;
+use crate::shut::is_shut;
+use byteorder::{ByteOrder, LittleEndian};
+use case_journal::Journal;
+use journal_layout::{Entry, OpenFault};
+use journal_records::replay;
+use std::alloc::{AllocError, Global};
+use std::collections::BTreeMap;
+
+/// A record's length is a multiple of so many bytes, and so is its place in its half.
+pub(crate) const STEP: usize = 16;
+
+// The bytes of a half's header.
+const HEADER: usize = 32;
+
+// The bytes of the kinds of records.
+const STORE: u8 = 1;
+
+const DROP: u8 = 2;
+
+const PIN: u8 = 3;
+
+const NEXT: u8 = 4;
+
+const LABEL: u8 = 5;
+
+// The layout with all kinds of records.
+const VERSION: u32 = 2;
+
+// The most data blocks of an archive.
+const MOST_BLOCKS: u32 = 16_777_216;
+
+/// Where a half of the journal begins and ends, or a record in it.
+#[derive(Clone, Copy)]
+pub(crate) struct Span {
+    pub(crate) start: usize,
+    pub(crate) end: usize,
+}
+
+/// What becomes of a case that a record stores.
+#[derive(Clone, Copy, PartialEq, Eq)]
+pub(crate) enum Fate {
+    /// It is copied.
+    Copied,
+    /// Another record stores the same case.
+    Same,
+    /// Its number is that of another case that is copied.
+    Number,
+    /// Its name is.
+    Name,
+    /// A block of it is.
+    Block,
+    /// The records that are copied leave it no room in a half.
+    Room,
+}
+
+/// A Store record that reads by itself.
+#[derive(Drop)]
+pub(crate) struct Read {
+    /// Where it is among the archive's bytes.
+    pub(crate) place: Span,
+    /// The case that it stores, pinned or not as the last Pin record behind it says.
+    pub(crate) entry: Entry,
+    /// Where the last Label record behind it is that names the case.
+    pub(crate) label: Option<Span>,
+    pub(crate) fate: Fate,
+}
+
+/// A number that a Drop record names.
+#[derive(Clone, Copy)]
+pub(crate) struct Dropped {
+    pub(crate) seq: u32,
+    /// Where the record is among the archive's bytes.
+    pub(crate) place: usize,
+}
+
+/// What the records of the halves say that read by themselves.
+#[derive(Drop)]
+pub(crate) struct Scan {
+    /// The cases that are stored.
+    pub(crate) reads: Vec<Read>,
+    /// The numbers that Drop records name.
+    drops: Vec<Dropped>,
+    // Which of `drops` is the first of a number.
+    dropped: BTreeMap<u32, usize>,
+    // Which of `reads` is the last of a number, in the half that is read.
+    latest: BTreeMap<u32, usize>,
+}
+
+/// The byte at a place; 0 past the end.
+pub(crate) fn byte_at(bytes: &[u8], place: usize) -> u8
+    ensures { result ≡ slice_index bytes.now place }
+{
+    match bytes.get(place) {
+        Some(byte) => *byte,
+        None => 0,
+    }
+}
+
+/// The four bytes from a place on, as a number; 0 if they are not all there.
+pub(crate) fn number_at(bytes: &[u8], place: usize) -> u32
+    ensures { result ≡ number_of bytes.now place }
+{
+    if place > bytes.len() || bytes.len() - place < 4 {
+        return 0;
+    }
+    LittleEndian::read_u32(&bytes[place..])
+}
+
+/// Whether a gate is open, or was before one of its bits changed.
+pub(crate) fn was_open(gate: u8) -> bool {
+    gate == GATE_OPEN || is_shut(gate)
+}
+
+/// Puts bytes in their place, if they fit.
+pub(crate) fn put(into: &mut [u8], at: usize, bytes: &[u8])
+    ensures { length into.new ≡ length into.old }
+{
+    if at > into.len() || bytes.len() > into.len() - at {
+        return;
+    }
+    into[at..at + bytes.len()].copy_from_slice(bytes);
+}
+
+// So many bytes, rounded up as a record's.
+fn rounded(bytes: usize) -> usize {
+    bytes.div_ceil(STEP).saturating_mul(STEP)
+}
+
+// The length that the body of a record wants which is no Store record; 0 if it can't be one.
+fn wanted(rest: &[u8]) -> usize {
+    match byte_at(rest, 1) {
+        DROP if number_at(rest, 8) > 0 => {
+            rounded(
+                (number_at(rest, 8) as usize)
+                    .saturating_mul(4)
+                    .saturating_add(12),
+            )
+        }
+        PIN if byte_at(rest, 12) <= 1 => STEP,
+        NEXT => STEP,
+        LABEL if byte_at(rest, 12) <= 64 && byte_at(rest, 13) == 0 => {
+            rounded(16 + byte_at(rest, 12) as usize)
+        }
+        _ => 0,
+    }
+}
+
+// The length of the record at the front of these bytes by its head; 0 if that is no record's.
+fn head_length(rest: &[u8]) -> usize {
+    let length = number_at(rest, 4) as usize;
+    if !was_open(byte_at(rest, 0)) || byte_at(rest, 2) != 0 || byte_at(rest, 3) != 0 {
+        return 0;
+    }
+    if length < STEP || length % STEP != 0 || rest.len() <= length {
+        return 0;
+    }
+    length
+}
+
+/// Whether a record that is no Store record reads at the front of these bytes.
+pub(crate) fn is_other(rest: &[u8]) -> bool {
+    let length = head_length(rest);
+    length > 0 && wanted(rest) == length
+}
+
+// The record at the front of these bytes, its gate open and the one behind it closed.
+fn alone(alloc: Global, rest: &[u8], size: usize) -> Result<Vec<u8>, AllocError>
+    ensures { IfOk result (λ made. 1 ≤ length made.items) }
+{
+    let mut record = vec![in alloc; 0u8; size.saturating_add(1)]?;
+    if let Some(from) = rest.get(..size) {
+        put(&mut record, 0, from);
+    }
+    put(&mut record, 0, &[GATE_OPEN]);
+    Ok(record)
+}
+
+// The case that a Store record says which reads as the only record of a half.
+fn stored(
+    alloc: Global,
+    rest: &[u8],
+    length: usize,
+    blocks: u32,
+) -> Result<Option<Entry>, OpenFault>
+    ensures only { IsOpenRefusal result }
+{
+    if blocks > MOST_BLOCKS {
+        return Ok(None);
+    }
+    let Ok(record) = alone(alloc, rest, length) else {
+        return Err(OpenFault::OutOfMemory);
+    };
+    match replay(alloc, &record, 0, VERSION, blocks) {
+        Ok(said) => {
+            let mut entries = said.entries;
+            Ok(entries.pop())
+        }
+        Err(OpenFault::OutOfMemory) => Err(OpenFault::OutOfMemory),
+        Err(_) => Ok(None),
+    }
+}
+
+impl Scan {
+    /// Nothing is read yet.
+    pub(crate) fn new(alloc: Global) -> Scan
+        ensures drops { result.drops.items ≡ [] }
+    {
+        Scan {
+            reads: Vec::new(alloc),
+            drops: Vec::new(alloc),
+            dropped: BTreeMap::new(alloc),
+            latest: BTreeMap::new(alloc),
+        }
+    }
+
+    /// A record that names a number to delete its case, if one does that reads.
+    pub(crate) fn deleting(&self, seq: u32) -> Option<usize>
+        ensures { IfSome result (λ place. IsDeleted self.now.drops.items seq) }
+    {
+        let index = *self.dropped.get(&seq)?;
+        match self.drops.get(index) {
+            Some(dropped) if dropped.seq == seq => Some(dropped.place),
+            _ => None,
+        }
+    }
+
+    // Takes a case that a record at this place stores.
+    fn take_store(&mut self, place: Span, entry: Entry) -> Result<(), AllocError>
+        ensures drops { self.new.drops ≡ self.old.drops }
+    {
+        self.latest.insert(entry.seq, self.reads.len())?;
+        self.reads.push(Read {
+            place,
+            entry,
+            label: None,
+            fate: Fate::Same,
+        })?;
+        Ok(())
+    }
+
+    // Keeps which of `drops` is the first of a number. The next one has it.
+    fn keep_number(&mut self, seq: u32) -> Result<(), AllocError>
+        ensures drops { self.new.drops ≡ self.old.drops }
+    {
+        if self.dropped.get(&seq).is_none() {
+            self.dropped.insert(seq, self.drops.len())?;
+        }
+        Ok(())
+    }
+
+    // Takes the number at a place of a Drop record.
+    fn take_number(&mut self, front: &[u8], place: usize, index: usize) -> Result<(), AllocError>
+        requires kind { slice_index front.now (place + 1) ≡ 2 }
+        requires small { place + 12 + 4 * index < 2 ^ 64 }
+        ensures drops { AreDrops front.now self.old.drops.items → AreDrops front.now self.new.drops.items }
+    {
+        let seq = number_at(front, place + 12 + 4 * index);
+        self.keep_number(seq)?;
+        self.drops.push(Dropped { seq, place })?;
+        Ok(())
+    }
+
+    // Takes the numbers that a Drop record at this place names.
+    fn take_drop(&mut self, front: &[u8], place: Span) -> Result<(), AllocError>
+        ensures drops { AreDrops front.now self.old.drops.items → AreDrops front.now self.new.drops.items }
+    {
+        let at = place.start;
+        if at >= front.len() || byte_at(front, at + 1) != DROP {
+            return Ok(());
+        }
+        for index in 0..number_at(front, at + 8) {
+            self.take_number(front, at, index as usize)?;
+        }
+        Ok(())
+    }
+
+    // Takes the flag of a Pin record.
+    fn take_pin(&mut self, seq: u32, flag: bool)
+        ensures drops { self.new.drops ≡ self.old.drops }
+    {
+        let Some(index) = self.latest.get(&seq) else {
+            return;
+        };
+        if *index < self.reads.len() {
+            self.reads[*index].entry.pinned = flag;
+        }
+    }
+
+    // Takes where the record of a label is.
+    fn take_label(&mut self, seq: u32, place: Span)
+        ensures drops { self.new.drops ≡ self.old.drops }
+    {
+        let Some(index) = self.latest.get(&seq) else {
+            return;
+        };
+        if *index < self.reads.len() {
+            self.reads[*index].label = Some(place);
+        }
+    }
+
+    // Takes what a record says that is no Store record.
+    fn take_other(&mut self, front: &[u8], place: Span) -> Result<(), AllocError>
+        ensures drops { AreDrops front.now self.old.drops.items → AreDrops front.now self.new.drops.items }
+    {
+        let Some(rest) = front.get(place.start..) else {
+            return Ok(());
+        };
+        let seq = number_at(rest, 8);
+        match byte_at(rest, 1) {
+            DROP => self.take_drop(front, place)?,
+            PIN => self.take_pin(seq, byte_at(rest, 12) == 1),
+            LABEL => self.take_label(seq, place),
+            _ => {}
+        }
+        Ok(())
+    }
+
+    // Takes what a record says that reads at the begin of a place. Tells its length, or 0 if none does.
+    fn take(
+        &mut self,
+        alloc: Global,
+        front: &[u8],
+        place: Span,
+        blocks: u32,
+    ) -> Result<usize, OpenFault>
+        ensures only { IsOpenRefusal result }
+        ensures drops { AreDrops front.now self.old.drops.items → AreDrops front.now self.new.drops.items }
+    {
+        let Some(rest) = front.get(place.start..place.end) else {
+            return Ok(0);
+        };
+        let length = head_length(rest);
+        let record = Span {
+            start: place.start,
+            end: place.start.saturating_add(length),
+        };
+        if is_other(rest) {
+            return counted(self.take_other(front, record), length);
+        }
+        if length == 0 || byte_at(rest, 1) != STORE {
+            return Ok(0);
+        }
+        match stored(alloc, rest, length, blocks)? {
+            Some(entry) => counted(self.take_store(record, entry), length),
+            None => Ok(0),
+        }
+    }
+
+    /// Reads the records of a half, unless its gate is closed. The first begins behind the header, and the next one behind each that
+    /// reads. If none reads there, it may begin 16 bytes on. A closed gate right behind a record that reads ends them, and so does the
+    /// end of the half.
+    pub(crate) fn read_half(
+        &mut self,
+        alloc: Global,
+        front: &[u8],
+        half: Span,
+        blocks: u32,
+    ) -> Result<(), OpenFault>
+        ensures only { IsOpenRefusal result }
+        ensures drops { AreDrops front.now self.old.drops.items → AreDrops front.now self.new.drops.items }
+    {
+        self.latest = BTreeMap::new(alloc);
+        if !was_open(byte_at(front, half.start)) {
+            return Ok(());
+        }
+        let end = half.end.min(front.len());
+        let mut start = half.start.saturating_add(HEADER);
+        let mut is_in_row = true;
+        while start < end {
+            let length = self.take(alloc, front, Span { start, end }, blocks)?;
+            if length == 0 && is_in_row && !was_open(byte_at(front, start)) {
+                return Ok(());
+            }
+            is_in_row = length > 0;
+            start = start.saturating_add(length.max(STEP));
+        }
+        Ok(())
+    }
+
+    /// Whether a record reads at this place.
+    pub(crate) fn reads_at(&self, front: &[u8], place: usize) -> bool {
+        for read in &self.reads {
+            if read.place.start == place {
+                return true;
+            }
+        }
+        match front.get(place..) {
+            Some(rest) => is_other(rest),
+            None => false,
+        }
+    }
+
+    // Whether a journal has a case, or a record deletes it that reads.
+    fn keeps(&self, journal: &Journal, entry: &Entry) -> bool
+        ensures { IsTrue result → HasCase journal.now.standing.cases (case_of entry.now) ⊎ IsDeleted self.now.drops.items entry.now.seq }
+    {
+        if has_case(journal, entry) {
+            return true;
+        }
+        self.deleting(entry.seq).is_some()
+    }
+
+    /// Whether a journal has each case of another that no record deletes which reads.
+    pub(crate) fn has_each(&self, journal: &Journal, first: &Journal) -> bool
+        ensures { IsTrue result → HasEachBut self.now.drops.items journal.now.standing.cases first.now.standing.cases }
+    {
+        for entry in first.entries() {
+            if !self.keeps(journal, entry) {
+                return false;
+            }
+        }
+        true
+    }
+}
+
+// So many bytes are read, if there was memory for what they say.
+fn counted(taken: Result<(), AllocError>, length: usize) -> Result<usize, OpenFault>
+    ensures only { IsOpenRefusal result }
+{
+    match taken {
+        Ok(()) => Ok(length),
+        Err(_) => Err(OpenFault::OutOfMemory),
+    }
+}
