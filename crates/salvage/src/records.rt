@@ -136,6 +136,24 @@ fn rounded(bytes: usize) -> usize {
     bytes.div_ceil(STEP).saturating_mul(STEP)
 }
 
+// The length of a Label record with a label of so many bytes; 0 if others than zeros fill it up.
+fn label_length(rest: &[u8], label: usize) -> usize {
+    let length = rounded(label.saturating_add(16));
+    match rest.get(label.saturating_add(16)..length) {
+        Some(padding) if are_zeros(padding) => length,
+        _ => 0,
+    }
+}
+
+fn are_zeros(bytes: &[u8]) -> bool {
+    for byte in bytes {
+        if *byte != 0 {
+            return false;
+        }
+    }
+    true
+}
+
 // The length that the body of a record wants which is no Store record; 0 if it can't be one.
 fn wanted(rest: &[u8]) -> usize {
     match byte_at(rest, 1) {
@@ -148,9 +166,7 @@ fn wanted(rest: &[u8]) -> usize {
         }
         PIN if byte_at(rest, 12) <= 1 => STEP,
         NEXT => STEP,
-        LABEL if byte_at(rest, 12) <= 64 && byte_at(rest, 13) == 0 => {
-            rounded(16 + byte_at(rest, 12) as usize)
-        }
+        LABEL if number_at(rest, 12) <= 64 => label_length(rest, number_at(rest, 12) as usize),
         _ => 0,
     }
 }
