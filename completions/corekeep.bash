@@ -42,7 +42,7 @@ _corekeep() {
     extract | salvage) options="--no-wait --quiet --help" ;;
     check) options="--images --no-wait --help" ;;
     copy) options="--half --data --layout --sparse --no-wait --quiet --help" ;;
-    resize) options="--half --data --sparse --no-wait --quiet --help" ;;
+    resize) options="--half --data --sparse --drop-rights --no-wait --quiet --help" ;;
     memory) options="--half --data $session --help" ;;
     esac
     case $word in

@@ -13,7 +13,7 @@ use Rattle.script_streams.specs.declared.streams.StreamFault.{StreamFault}
 use Rattle.archive_files.specs.declared.failures.Failure.{Failure}
 use Rattle.archive_files.specs.declared.failures.Failure.TheVariants.{Refused, Aside, Faulted, Unwritten, Told}
 use Rattle.archive_files.specs.declared.failures.Refusal.{Refusal}
-use Rattle.archive_files.specs.declared.failures.Refusal.TheVariants.{BadLine, NoLine, Pipe, TemplateTooLong, BadShape, File, Output, LineTooLong, NotUtf8, OutOfMemory, Disk, Open, Call}
+use Rattle.archive_files.specs.declared.failures.Refusal.TheVariants.{BadLine, NoLine, Pipe, TemplateTooLong, BadShape, File, Unsafe, Output, LineTooLong, NotUtf8, OutOfMemory, Disk, Open, Call}
 
 -- A text goes to an output that had taken `before`: it takes all of it, or a front of it until a write fails.
 abbrev pub IsToldAs : Option (List ℕ) → Option (List ℕ) → ℕ → ℕ → List ℕ → Type 0
@@ -46,6 +46,7 @@ refusal_words Pipe = codes "Pipe"
 refusal_words TemplateTooLong = codes "TemplateTooLong"
 refusal_words BadShape = codes "BadShape"
 refusal_words (File word fault) = file_words fault
+refusal_words (Unsafe word danger) = codes "File"
 refusal_words Output = codes "File"
 refusal_words LineTooLong = codes "LineTooLong"
 refusal_words (NotUtf8 part) = codes "NotUtf8"

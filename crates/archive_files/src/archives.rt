@@ -9,7 +9,9 @@ ghost use Rattle.diagnostics.specs.Counts.{HasRisen};
 use crate::archive_path::ArchivePath;
 use crate::failures::{FileWord, Refusal};
 use crate::making::format_over;
-use crate::part_file::{clear, give_name, is_named, is_same, part_of};
+use crate::part_file::{
+    clear, create, give_name, is_named, is_same, part_of, remove_part, sync_folder,
+};
 use case_journal::settle;
 use diagnostics::Onlooker;
 use disk_model::{Disk, FileDisk, FileFault};
@@ -17,6 +19,7 @@ use journal_layout::{OpenFault, Shape};
 use std::alloc::Global;
 use std::fs;
 use std::fs::{File, Metadata, TryLockError};
+use std::os::unix::fs::FileExt;
 use std::rt::Files;
 
 /// What is done to an archive: what only looks needs no right to write its file, and shares its lock.
@@ -33,6 +36,9 @@ pub(crate) const MOST_TRIES: u32 = 1_000_000;
 const BLOCK: u64 = 4096;
 
 const MOST_HALF_BLOCKS: u32 = 4096;
+
+// The bytes of one write of zeros.
+const ZEROS: usize = 65_536;
 
 /// What is asked of a new archive.
 #[derive(Clone, Copy)]
@@ -55,38 +61,83 @@ pub fn make_archive<R: AllocGlobal + Files<File = File>, W: Onlooker>(
     let length = wanted.shape.length()?;
     let part = part_of(rt.alloc(), path)?;
     clear(rt, path, &part).map_err(|fault| Refusal::File(FileWord::NewArchive, fault))?;
-    let disk = make_file(rt, &part, length, wanted.is_sparse, onlooker)?;
+    let (file, disk) = make_file(rt, &part, length, wanted.is_sparse, onlooker)?;
     let (formatted, disk) = format_over(rt.alloc(), disk, wanted);
     tell_trouble(&disk, onlooker);
     if formatted.is_err() {
-        let _ = fs::remove_file(rt, &part);
+        remove_part(rt, &part, &file);
     }
     formatted?;
     // The lock of its file is kept until it has its name.
-    let named = give_name(rt, path, &part);
+    let named = give_name(rt, path, &part, &file);
     drop(disk);
     named.map_err(|fault| fault.refusal(FileWord::NewArchive))
 }
 
-// Makes the file of an archive. One that can't be made whole is removed, unless another process made it.
+// Makes the file of an archive, and gives it and the disk in it, which share its lock. One that can't be made whole is removed, unless
+// another process has it.
 pub(crate) fn make_file<R: AllocGlobal + Files<File = File>, W: Onlooker>(
     rt: &R,
     part: &str,
     length: u64,
     is_sparse: bool,
     onlooker: &mut W,
-) -> Result<FileDisk, Refusal> {
-    let made = if is_sparse {
-        FileDisk::create_sparse(rt, part, length)
-    } else {
-        FileDisk::create(rt, part, length, onlooker)
-    };
-    made.map_err(|fault| {
-        if fault != FileFault::Exists && fault != FileFault::Busy {
-            let _ = fs::remove_file(rt, part);
+) -> Result<(File, FileDisk), Refusal> {
+    let file = create(rt, part).map_err(|fault| Refusal::File(FileWord::Made, fault))?;
+    match disk_of_zeros(rt, part, &file, length, is_sparse, onlooker) {
+        Ok(disk) => Ok((file, disk)),
+        Err(fault) => {
+            if fault != FileFault::Busy {
+                remove_part(rt, part, &file);
+            }
+            Err(Refusal::File(FileWord::Made, fault))
         }
-        Refusal::File(FileWord::Made, fault)
-    })
+    }
+}
+
+// Gives a new file its length, writes its zeros unless it is to be sparse, and makes it durable, with its name. So the file system has
+// room for all of its bytes from then on.
+fn disk_of_zeros<R: AllocGlobal + Files<File = File>, W: Onlooker>(
+    rt: &R,
+    part: &str,
+    file: &File,
+    length: u64,
+    is_sparse: bool,
+    onlooker: &mut W,
+) -> Result<FileDisk, FileFault> {
+    lock(file, false, Access::Changing)?;
+    file.set_len(length).map_err(|_| FileFault::Length)?;
+    if !is_sparse {
+        onlooker.begin("makes room", Some(length));
+        let written = write_zeros(file, length, onlooker);
+        onlooker.end();
+        written?;
+    }
+    file.sync_all().map_err(|_| FileFault::Sync)?;
+    sync_folder(rt, part).map_err(|_| FileFault::Sync)?;
+    match FileDisk::from_locked(rt.alloc(), file.try_clone()?) {
+        Ok(disk) if !disk.has_lost_writes() => Ok(disk),
+        Ok(_) | Err(FileFault::Settle) => Err(FileFault::Sync),
+        Err(fault) => Err(fault),
+    }
+}
+
+// Writes zeros over the whole file.
+fn write_zeros<W: Onlooker>(file: &File, length: u64, onlooker: &mut W) -> Result<(), FileFault> {
+    let zeros = [0u8; ZEROS];
+    let mut at = 0u64;
+    while at < length {
+        let left = length - at;
+        let size = if left < ZEROS as u64 {
+            left as usize
+        } else {
+            ZEROS
+        };
+        file.write_all_at(&zeros[..size], at)?;
+        at += size as u64;
+        onlooker.advance(size as u64);
+    }
+    Ok(())
 }
 
 /// Tells an onlooker of the last call on the disk's file that failed, if one has.
@@ -115,8 +166,13 @@ fn disk_of<R: AllocGlobal + Files<File = File>>(
     let file = take_file(rt, place, access)?;
     match access {
         Access::Looking => FileDisk::from_shared(file),
-        Access::Changing => settled(rt.alloc(), FileDisk::from_locked(rt.alloc(), file)?),
+        Access::Changing => disk_to_change(rt.alloc(), file),
     }
+}
+
+// The disk of an archive in a file that is open for reading and writing, and has its lock alone.
+pub(crate) fn disk_to_change(alloc: Global, file: File) -> Result<FileDisk, FileFault> {
+    settled(alloc, FileDisk::from_locked(alloc, file)?)
 }
 
 // Has the gates written again that an earlier process may have failed to write: reads don't tell. If the system tells of a lost

@@ -1,10 +1,11 @@
 // Archives, copied into new files.
 use crate::archive_path::ArchivePath;
-use crate::archives::{Access, make_file, take_disk, tell_trouble};
+use crate::archives::{Access, disk_to_change, make_file, take_disk, take_file, tell_trouble};
 use crate::copy_over::copy_disk;
-use crate::failures::{FileWord, Refusal};
+use crate::failures::{Danger, FileWord, Refusal};
+use crate::folders::shared_among;
 use crate::over_disk::look_over;
-use crate::part_file::{clear, clear_part, give_name, part_of, take_place};
+use crate::part_file::{clear, clear_part, folder_of, give_name, part_of, remove_part, take_place};
 use archive_care::CopyWish;
 use archive_checks::shape_on;
 use diagnostics::Onlooker;
@@ -14,6 +15,7 @@ use shown_progress::CountedDisk;
 use std::alloc::Global;
 use std::fs;
 use std::fs::File;
+use std::os::unix::fs::MetadataExt;
 use std::rt::Files;
 
 /// What is asked of a copy of an archive.
@@ -27,6 +29,19 @@ pub struct CopyWords {
     pub keeps_labels: bool,
     /// Its zeros are not written.
     pub is_sparse: bool,
+    /// If it takes the archive's place: the rights that others than the owner have on that need not come along.
+    pub drops_rights: bool,
+}
+
+// The bits of a mode that are rights of the group and of others.
+const OTHERS_RIGHTS: u32 = 0o077;
+
+// What is held until a copy has its name: both disks with their locks, and the copy's file.
+#[derive(Drop)]
+struct Copied {
+    from: FileDisk,
+    onto: FileDisk,
+    file: File,
 }
 
 /// Copies the archive in a file into a new file, which has its name only once it is whole and durable: until then it is called
@@ -42,39 +57,66 @@ pub fn copy_archive_file<R: AllocGlobal + Files<File = File>, W: Onlooker>(
     let part = part_of(rt.alloc(), new)?;
     clear(rt, new, &part).map_err(|fault| Refusal::File(FileWord::New, fault))?;
     // The locks of both files are kept until the new one has its name.
-    let (from, onto) = copy_part(rt, from, &part, wanted, onlooker)?;
-    let named = give_name(rt, new, &part);
-    drop(onto);
-    drop(from);
+    let copy = copy_part(rt, from, &part, wanted, onlooker)?;
+    let named = give_name(rt, new, &part, &copy.file);
+    drop(copy);
     named.map_err(|fault| fault.refusal(FileWord::New))
 }
 
 /// Copies the archive in a file into a file in the same folder, which takes its place once it is whole and durable. The archive's lock is held
-/// alone meanwhile: whoever waits for it finds the new file. The new file has the owner and the mode of the old one.
+/// alone meanwhile: whoever waits for it finds the new file. The new file has the owner of the old one, and what rights that owner has. A link
+/// stays, and what it names is resized.
 pub fn resize_archive_file<R: AllocGlobal + Files<File = File>, W: Onlooker>(
     rt: &R,
     place: ArchivePath<'_>,
     wanted: CopyWords,
     onlooker: &mut W,
 ) -> Result<(), Refusal> {
-    let from = take_disk(rt, place, Access::Changing)?;
-    let part = part_of(rt.alloc(), place.path)?;
-    clear_part(rt, &part).map_err(|fault| Refusal::File(FileWord::Archive, fault))?;
-    let (from, onto) = copy_part(rt, from, &part, wanted, onlooker)?;
-    let placed = take_place(rt, place.path, &part);
-    drop(onto);
-    drop(from);
+    let path = fs::canonicalize(rt, place.path).map_err(|error| refused(FileFault::from(error)))?;
+    let path = path.as_str();
+    if shared_among(rt, folder_of(path)).is_some() {
+        return Err(Refusal::Unsafe(FileWord::Archive, Danger::SharedFolder));
+    }
+    let waits = place.waits;
+    let old = take_file(rt, ArchivePath { path, waits }, Access::Changing).map_err(refused)?;
+    refuse_rights(&old, wanted.drops_rights)?;
+    let part = part_of(rt.alloc(), path)?;
+    clear_part(rt, &part).map_err(refused)?;
+    let from = disk_beside(rt.alloc(), &old).map_err(refused)?;
+    let copy = copy_part(rt, from, &part, wanted, onlooker)?;
+    let placed = take_place(rt, path, &part, &old, &copy.file);
+    drop(copy);
     placed.map_err(|fault| fault.refusal(FileWord::Archive))
 }
 
-// Copies the archive on a disk into a new file of this name, and gives both disks. A copy that fails leaves no file.
+// The archive's file is refused.
+fn refused(fault: FileFault) -> Refusal {
+    Refusal::File(FileWord::Archive, fault)
+}
+
+// Refuses an archive on which its group or others have a right, unless that may be dropped. The system's call that tells the rights tells
+// no access control list: where there is one, the group's bits are all that it may grant.
+fn refuse_rights(file: &File, drops_rights: bool) -> Result<(), Refusal> {
+    let about = file.metadata().map_err(|_| refused(FileFault::Length))?;
+    if about.mode() & OTHERS_RIGHTS == 0 || drops_rights {
+        return Ok(());
+    }
+    Err(Refusal::Unsafe(FileWord::Archive, Danger::Rights))
+}
+
+// The disk of an archive whose file stays open too, and has its lock.
+fn disk_beside(alloc: Global, file: &File) -> Result<FileDisk, FileFault> {
+    disk_to_change(alloc, file.try_clone()?)
+}
+
+// Copies the archive on a disk into a new file of this name. A copy that fails leaves no file.
 fn copy_part<R: AllocGlobal + Files<File = File>, W: Onlooker>(
     rt: &R,
     from: FileDisk,
     part: &str,
     wanted: CopyWords,
     onlooker: &mut W,
-) -> Result<(FileDisk, FileDisk), Refusal> {
+) -> Result<Copied, Refusal> {
     let (looked, from) = look_over(rt.alloc(), from, 0);
     looked?;
     let mut from = from;
@@ -83,13 +125,13 @@ fn copy_part<R: AllocGlobal + Files<File = File>, W: Onlooker>(
     };
     let wish = wish_of(wanted, shape);
     let length = wish.shape.length()?;
-    let onto = make_file(rt, part, length, wanted.is_sparse, onlooker)?;
+    let (file, onto) = make_file(rt, part, length, wanted.is_sparse, onlooker)?;
     let (copied, from, onto) = copy_counted(rt.alloc(), from, onto, wish, onlooker);
     if copied.is_err() {
-        let _ = fs::remove_file(rt, part);
+        remove_part(rt, part, &file);
     }
     copied?;
-    Ok((from, onto))
+    Ok(Copied { from, onto, file })
 }
 
 // Copies the archive on a disk onto a new disk, and gives both disks.

@@ -71,6 +71,17 @@ impl FileWord {
     }
 }
 
+/// Why it isn't safe to put a file under the name that a word says.
+#[derive(Clone, Copy, Debug, PartialEq, Eq)]
+pub enum Danger {
+    /// Another file is under that name, or under that of its .part.
+    Exchanged,
+    /// Others may write a folder on its path.
+    SharedFolder,
+    /// Its group or others have a right, or may have one by an access control list.
+    Rights,
+}
+
 /// Which part of the command line is not UTF-8.
 #[derive(Clone, Copy, Debug, PartialEq, Eq)]
 pub enum WordPart {
@@ -95,6 +106,8 @@ pub enum Refusal {
     BadShape,
     /// The file that a word names could not be made, opened or locked.
     File(FileWord, FileFault),
+    /// It isn't safe to put a file under the name that a word says.
+    Unsafe(FileWord, Danger),
     /// Standard output goes to a file that a word names.
     Output,
     /// A line of over 1,024 bytes.
@@ -228,6 +241,7 @@ pub fn tell_unwritten<E: Output>(file: &[u8], kind: io::ErrorKind, errors: &mut 
 fn tell_in_words<E: Output>(alloc: Global, refusal: Refusal, errors: &mut E) {
     let text = match refusal {
         Refusal::File(word, fault) => file_text(alloc, word, fault),
+        Refusal::Unsafe(word, danger) => danger_text(alloc, word, danger),
         Refusal::Output => format!(in alloc;
             "corekeep: standard output goes to a file that the command names, and would overwrite it\n"
         ),
@@ -266,6 +280,22 @@ fn named_text(alloc: Global, name: &str, number: Option<i32>) -> Result<String, 
     format!(in alloc;
         "corekeep: {name} is there, and whole: what failed is the removal of its .part, or the sync of its folder: {why}\n"
     )
+}
+
+// Why it isn't safe to put a file under the name that a word says, and what to do.
+fn danger_text(alloc: Global, word: FileWord, danger: Danger) -> Result<String, AllocError> {
+    let name = word.shown();
+    match danger {
+        Danger::Exchanged => format!(in alloc;
+            "corekeep: {name}: another file was put under its name, or under that of its .part, meanwhile\n"
+        ),
+        Danger::SharedFolder => format!(in alloc;
+            "corekeep: {name}: others may write a folder on its path, and could put another file in its place: take that right away, or make the folder sticky if it is root's or yours\n"
+        ),
+        Danger::Rights => format!(in alloc;
+            "corekeep: {name}: its group or others have a right, and access control lists, extended attributes and labels would not come along: --drop-rights says that they need not, and leaves the owner's rights alone\n"
+        ),
+    }
 }
 
 // Tells what is refused.
@@ -309,6 +339,7 @@ fn tell_reason<O: Output>(reply: &mut Reply<'_, O>, refusal: Refusal)
         Refusal::TemplateTooLong => reply.tell(b"TemplateTooLong"),
         Refusal::BadShape => reply.tell(b"BadShape"),
         Refusal::File(_, fault) => reply.tell(file_reason(fault)),
+        Refusal::Unsafe(_, _) => reply.tell(b"File"),
         Refusal::Output => reply.tell(b"File"),
         Refusal::LineTooLong => reply.tell(b"LineTooLong"),
         Refusal::NotUtf8(_) => reply.tell(b"NotUtf8"),

@@ -10,6 +10,7 @@ mod copies;
 mod copy_over;
 mod failures;
 mod file_store;
+mod folders;
 mod held;
 mod look_session;
 mod looking;
@@ -30,12 +31,16 @@ pub use checks::check;
 pub use collected::Collected;
 pub use copies::{CopyWords, copy_archive_file, resize_archive_file};
 pub use copy_over::copy_disk;
-pub use failures::{Failure, FileWord, Refusal, WordPart, reason_of, tell_failure, tell_unwritten};
+pub use failures::{
+    Danger, Failure, FileWord, Refusal, WordPart, reason_of, tell_failure, tell_unwritten,
+};
 pub use file_store::{refuse_taken, store_file, store_taken};
+pub use folders::{note_shared, shared_folder};
 pub use held::Held;
 pub use look_session::look;
 pub use looking::take_look;
 pub use over_disk::{ask_over, run_over};
+pub use part_file::{is_same, open_looked};
 pub use salvaging::{fault_found, salvage, salvage_onto};
 pub use single::{ask, extract};
 pub use storing::{StoreRequest, StoreWords};

@@ -8,7 +8,7 @@ use crate::archive_path::ArchivePath;
 use crate::archives::{Access, make_file, take_file, tell_trouble};
 use crate::copy_over::copy_refusal;
 use crate::failures::{Failure, FileWord, Refusal};
-use crate::part_file::{clear, give_name, part_of};
+use crate::part_file::{clear, give_name, part_of, remove_part};
 use archive_care::CopyWish;
 use diagnostics::Onlooker;
 use disk_model::{Disk, DiskFault, FileDisk, FileFault};
@@ -17,7 +17,6 @@ use journal_layout::OpenFault;
 use salvage::{Found, Source, copy_cases, find_cases, tell_cases};
 use script_streams::Output;
 use std::alloc::Global;
-use std::fs;
 use std::fs::File;
 use std::os::unix::fs::FileExt;
 use std::rt::Files;
@@ -121,15 +120,15 @@ fn put_cases<R: AllocGlobal + Files<File = File>, W: Onlooker>(
     let part = part_of(rt.alloc(), new)?;
     clear(rt, new, &part).map_err(|fault| Refusal::File(FileWord::New, fault))?;
     let length = found.shape().length()?;
-    let onto = make_file(rt, &part, length, false, onlooker)?;
+    let (file, onto) = make_file(rt, &part, length, false, onlooker)?;
     let (copied, onto) = salvage_onto(rt.alloc(), source, found, onto);
     tell_trouble(&onto, onlooker);
     if copied.is_err() {
-        let _ = fs::remove_file(rt, &part);
+        remove_part(rt, &part, &file);
     }
     copied?;
     // The lock of its file is kept until it has its name.
-    let named = give_name(rt, new, &part);
+    let named = give_name(rt, new, &part, &file);
     drop(onto);
     named.map_err(|fault| fault.refusal(FileWord::New))
 }

@@ -11,13 +11,12 @@ use crate::failures::{Failure, FileWord, Refusal};
 use crate::held::Held;
 use crate::looking::take_look;
 use crate::over_disk::{CaseNumber, Unfinished, ask_over, copy_over};
-use crate::part_file::{begin, give_name, part_of};
+use crate::part_file::{begin, give_name, part_of, remove_part};
 use diagnostics::Onlooker;
 use disk_model::FileFault;
 use inspector_cli::{Question, SessionFault};
 use script_streams::{Output, WriteOutput};
 use shown_progress::CountedOutput;
-use std::fs;
 use std::fs::File;
 use std::io::ErrorKind;
 use std::rt::Files;
@@ -88,13 +87,12 @@ fn extract_to_file<R: AllocGlobal + Files<File = File>, W: Onlooker>(
         Ok(()) => {
             file.sync_all()
                 .map_err(|error| Failure::Unwritten(error.kind()))?;
-            give_name(rt, path, &part).map_err(|fault| Failure::Aside(fault.refusal(
-                FileWord::NewFile,
-            )))
+            let named = give_name(rt, path, &part, &file);
+            named.map_err(|fault| Failure::Aside(fault.refusal(FileWord::NewFile)))
         }
         Err(unfinished) => {
             if is_empty(&file) || !unfinished.is_front {
-                let _ = fs::remove_file(rt, &part);
+                remove_part(rt, &part, &file);
             }
             Err(told_why(unfinished.failure, why))
         }

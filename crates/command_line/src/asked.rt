@@ -101,6 +101,19 @@ pub(crate) enum Asked<'a> {
     Nothing,
 }
 
+impl<'a> Asked<'a> {
+    // The path of the file that is made, if one is.
+    pub(crate) fn made(&self) -> Option<&'a str> {
+        match self {
+            Asked::Format { archive, .. } => Some(*archive),
+            Asked::Extract { file, .. } => *file,
+            Asked::Copy { new, .. } | Asked::Salvage { new, .. } => Some(*new),
+            Asked::Resize { archive, .. } => Some(archive.path),
+            _ => None,
+        }
+    }
+}
+
 // What a session goes by, as the words say it.
 #[derive(Clone, Copy)]
 pub(crate) struct SessionWords<'a> {
@@ -240,6 +253,7 @@ fn copy_of(given: &Given<'_>) -> CopyWords {
         data_blocks: given.number("data"),
         keeps_labels: keeps_labels(given),
         is_sparse: given.flag("sparse"),
+        drops_rights: given.flag("drop-rights"),
     }
 }
 

@@ -127,7 +127,11 @@ fn reason_in(line: &[u8]) -> Option<&[u8]> {
 fn is_told(refusal: Refusal) -> bool {
     matches!(
         refusal,
-        Refusal::File(_, _) | Refusal::NoLine(_) | Refusal::Output | Refusal::NotUtf8(_)
+        Refusal::File(_, _)
+            | Refusal::Unsafe(_, _)
+            | Refusal::NoLine(_)
+            | Refusal::Output
+            | Refusal::NotUtf8(_)
     )
 }
 

@@ -1,14 +1,14 @@
 // The program: what its words ask for, and the status that it ends with.
-ghost use Rattle.std.specs.Prelude.{◌≡◌, ◌≤◌, false};
-ghost use Rattle.command_words.specs.Notes.{IsQuietButForANote, asks_to_store};
+ghost use Rattle.std.specs.Prelude.{◌≡◌, ◌≤◌, []};
+ghost use Rattle.command_words.specs.Notes.{IsQuietButForANote, IsQuietButForSomeNote, subject};
 
 use crate::ask_words::{AskedLine, Form};
 use crate::asked::{Asked, SessionWords, read_words};
 use crate::endings::{Clues, Ending, tell_ending};
 use archive_files::{
     Access, ArchivePath, Collected, Failure, Refusal, StoreRequest, ask, check, copy_archive_file,
-    look, make_archive, names_output, resize_archive_file, run_over, salvage, take_disk,
-    tell_trouble,
+    look, make_archive, names_output, note_shared, resize_archive_file, run_over, salvage,
+    take_disk, tell_trouble,
 };
 use case_info::{ask_rows, info_archive, info_case};
 use case_listing::{ask_case, ask_plain, extract_case, list, would_retire};
@@ -40,7 +40,7 @@ pub fn run_program<
     W: Onlooker,
 >(rt: &R, input: &mut I, output: &mut O, errors: &mut E, onlooker: &mut W) -> u8
     ensures most { result ≤ 2 }
-    ensures quiet { result ≡ 0 → IsQuietButForANote E.Output errors.old errors.new }
+    ensures quiet { result ≡ 0 → IsQuietButForSomeNote E.Output errors.old errors.new }
 {
     match words_of(rt) {
         Ok(words) => run_words(rt, words.as_slice(), input, output, errors, onlooker),
@@ -102,10 +102,11 @@ pub fn run_words<
     E: Output,
     W: Onlooker,
 >(rt: &R, words: &[String], input: &mut I, output: &mut O, errors: &mut E, onlooker: &mut W) -> u8
-    // The status. If it is 0, nothing was written to the errors, but for a note on the case that `store` stored.
+    // The status. If it is 0, nothing was written to the errors, but for a note on the case that `store` stored, or on the folder in which
+    // a file was made.
     ensures most { result ≤ 2 }
-    ensures quiet { result ≡ 0 → asks_to_store words.now ≡ false → errors.new ≡ errors.old }
-    ensures note { result ≡ 0 → IsQuietButForANote E.Output errors.old errors.new }
+    ensures quiet { result ≡ 0 → subject words.now ≡ [] → errors.new ≡ errors.old }
+    ensures note { result ≡ 0 → IsQuietButForANote (subject words.now) E.Output errors.old errors.new }
 {
     let mut watched = Watched::new(output);
     let mut note = Collected::new(rt.alloc());
@@ -153,6 +154,9 @@ fn answer_words<R: AllocGlobal + Files<File = File> + Clock, I: Read, O: Output,
         Ok((asked, is_quiet)) => {
             if is_quiet {
                 listener.hush();
+            }
+            if let Some(path) = asked.made() {
+                note_shared(rt, path, note);
             }
             Ok(answer_asked(rt, asked, input, output, note, listener)?)
         }

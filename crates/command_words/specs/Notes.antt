@@ -1,19 +1,37 @@
 -- What is told to people though the program ends with status 0.
-use Rattle.std.specs.Prelude.{◌≡◌, ◌⊎◌, ℕ, Bool, false, List, [], ◌∷◌, ◌++◌, String, codes, string_bytes}
+use Rattle.std.specs.Prelude.{◌≡◌, ◌⊎◌, ℕ, Bool, true, List, [], ◌∷◌, ◌++◌, String, codes, string_bytes, if◌then◌else◌}
 use Rattle.std.specs.Io.KnownBytes.{Appends}
 use Rattle.std.specs.Str.{bytes_eq}
 use Rattle.script_streams.specs.declared.streams.Output as output
 
--- the words are those of `store`
-abbrev pub asks_to_store : {Z : Type 0} → List (String Z) → Bool
-asks_to_store [] = false
-asks_to_store (word ∷ words) = bytes_eq (string_bytes word) (codes "store")
+-- the command makes a file
+abbrev pub makes_file : List ℕ → Bool
+makes_file command =
+    if bytes_eq command (codes "format") then true else
+    if bytes_eq command (codes "extract") then true else
+    if bytes_eq command (codes "copy") then true else
+    if bytes_eq command (codes "resize") then true else bytes_eq command (codes "salvage")
 
--- the line of a note on a case
-abbrev pub note_line : List ℕ → List ℕ
-note_line note = codes "corekeep: case " ++ (note ++ 10 ∷ [])
+-- what a note is on if there is one, by the command: the case that is stored, or the folder of the file that is made
+abbrev pub subject_of : List ℕ → List ℕ
+subject_of command =
+    if bytes_eq command (codes "store") then codes "case " else
+    if makes_file command then codes "folder " else []
 
--- Nothing is written, or the line of a note, or a front of it.
-abbrev pub IsQuietButForANote : {E : Type 0} → output.Ghosts E → E → E → Type 0
-IsQuietButForANote {E} g old new =
-    (new ≡ old) ⊎ ((note : List ℕ) × (front : List ℕ) × (rest : List ℕ) × (note_line note ≡ front ++ rest) × Appends (g.taken old) (g.taken new) front)
+-- nothing is noted of other words
+abbrev pub subject : {Z : Type 0} → List (String Z) → List ℕ
+subject [] = []
+subject (word ∷ words) = subject_of (string_bytes word)
+
+-- the line of a note
+abbrev pub note_line : List ℕ → List ℕ → List ℕ
+note_line on note = ((codes "corekeep: " ++ on) ++ note) ++ 10 ∷ []
+
+-- Nothing is written, or the line of a note on this, or a front of it.
+abbrev pub IsQuietButForANote : List ℕ → {E : Type 0} → output.Ghosts E → E → E → Type 0
+IsQuietButForANote on {E} g old new =
+    (new ≡ old) ⊎ ((note : List ℕ) × (front : List ℕ) × (rest : List ℕ) × (note_line on note ≡ front ++ rest) × Appends (g.taken old) (g.taken new) front)
+
+-- The same, whatever the words are: it is on a case, or on a folder.
+abbrev pub IsQuietButForSomeNote : {E : Type 0} → output.Ghosts E → E → E → Type 0
+IsQuietButForSomeNote {E} g old new = (command : List ℕ) × IsQuietButForANote (subject_of command) g old new

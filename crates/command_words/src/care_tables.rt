@@ -21,7 +21,15 @@ pub(crate) static RESIZE: CommandWords = CommandWords {
     name: "resize",
     about: "makes an archive larger or smaller: copies it into a file beside it, which takes its place",
     after_help: None,
-    words: &[ARCHIVE, NEW_HALF, NEW_DATA, NEW_SPARSE, NO_WAIT, QUIET],
+    words: &[
+        ARCHIVE,
+        NEW_HALF,
+        NEW_DATA,
+        NEW_SPARSE,
+        DROP_RIGHTS,
+        NO_WAIT,
+        QUIET,
+    ],
 };
 
 pub(crate) static SALVAGE: CommandWords = CommandWords {
@@ -92,4 +100,13 @@ const NEW_SPARSE: Word = Word {
     takes: Takes::Flag,
     default: None,
     help: "does not write the new file's zeros: quick, but the file system may be full when a core file comes",
+};
+
+// Whether rights on an archive go that can't be copied.
+const DROP_RIGHTS: Word = Word {
+    id: "drop-rights",
+    shown: "",
+    takes: Takes::Flag,
+    default: None,
+    help: "rights of the group and of others, access control lists, extended attributes and labels need not come along: the new file has its owner's rights alone",
 };

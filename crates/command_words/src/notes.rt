@@ -1,38 +1,58 @@
-// What people are told of a case that was stored.
-ghost use Rattle.std.specs.Prelude.{◌≡◌, false};
-ghost use Rattle.command_words.specs.Notes.{IsQuietButForANote, asks_to_store};
+// What people are told though a command did what was asked: of a case that was stored, and of a folder in which a file was made.
+ghost use Rattle.std.specs.Prelude.{◌≡◌, []};
+ghost use Rattle.command_words.specs.Notes.{IsQuietButForANote, makes_file, subject};
 
 use script_streams::{Output, Reply};
 
-/// Tells people what can't be read of the case that was stored, if the words ask to store a file and there is a note on it.
+/// Tells people of a note, if there is one: if the words ask to store a file, what can't be read of the case; if they ask to make a file,
+/// that others may write its folder.
 pub fn tell_note<E: Output>(words: &[String], note: &[u8], errors: &mut E)
-    ensures quiet { asks_to_store words.now ≡ false → errors.new ≡ errors.old }
-    ensures note { IsQuietButForANote E.Output errors.old errors.new }
+    ensures quiet { subject words.now ≡ [] → errors.new ≡ errors.old }
+    ensures note { IsQuietButForANote (subject words.now) E.Output errors.old errors.new }
 {
-    if asks_to_store(words) {
-        tell_note_line(note, errors);
+    let subject = subject(words);
+    if !subject.is_empty() {
+        tell_note_line(subject, note, errors);
     }
 }
 
-// Whether the words ask to store a file.
-fn asks_to_store(words: &[String]) -> bool
-    ensures { result ≡ asks_to_store words.now }
+// What a note of these words is on.
+fn subject(words: &[String]) -> &'static [u8]
+    ensures { result.now ≡ subject words.now }
 {
-    match words.first() {
-        Some(word) => word.as_str() == "store",
-        None => false,
+    let Some(word) = words.first() else {
+        return b"";
+    };
+    if word.as_str() == "store" {
+        b"case "
+    } else if makes_file(word.as_str()) {
+        b"folder "
+    } else {
+        b""
     }
+}
+
+// Whether a command makes a file.
+fn makes_file(command: &str) -> bool
+    ensures { result ≡ makes_file command.now }
+{
+    command == "format"
+        || command == "extract"
+        || command == "copy"
+        || command == "resize"
+        || command == "salvage"
 }
 
 // Tells people of a note, if it is not empty.
-fn tell_note_line<E: Output>(note: &[u8], errors: &mut E)
-    ensures { IsQuietButForANote E.Output errors.old errors.new }
+fn tell_note_line<E: Output>(subject: &[u8], note: &[u8], errors: &mut E)
+    ensures { IsQuietButForANote subject.now E.Output errors.old errors.new }
 {
     if note.is_empty() {
         return;
     }
     let mut reply = Reply::new(errors);
-    reply.tell(b"corekeep: case ");
+    reply.tell(b"corekeep: ");
+    reply.tell(subject);
     reply.tell(note);
     reply.tell(b"\n");
     let _ = reply.finish();
