@@ -197,6 +197,7 @@ fn answer_asked<R: AllocGlobal + Files<File = File> + Clock, I: Read, O: Output,
                 alloc: rt.alloc(),
                 log: Log {
                     path: log.unwrap_or(""),
+                    archive: Some(archive.path),
                 },
             };
             store_told(

@@ -1,11 +1,12 @@
 // What holds by a handler's configuration, told to a person.
 use crate::config_file::Document;
-use crate::handling::{HANDLER_LIMIT, HANDLER_TEMPLATE, HandleWords, UNNAMED};
+use crate::handling::{HANDLER_LIMIT, HANDLER_TEMPLATE, HandleWords, UNNAMED, log_of};
 use crate::labels::escaped_label;
-use crate::log::KERNEL_LOG;
+use crate::log::{KERNEL_LOG, Log, LogFault};
 use crate::outcome_lines::words_of;
 use archive_files::{
-    Access, ArchivePath, Failure, Refusal, fault_found, reason_of, shape_on, take_disk,
+    Access, ArchivePath, Failure, Refusal, fault_found, reason_of, shape_on, shared_folder,
+    take_disk,
 };
 use disk_model::Disk;
 use handler_config::{Burst, Config};
@@ -15,7 +16,6 @@ use name_template::Template;
 use script_streams::{Output, Reply};
 use std::alloc::Global;
 use std::fs::File;
-use std::os::unix::fs::OpenOptionsExt;
 use std::rt::Files;
 
 // The bytes of a block.
@@ -33,11 +33,12 @@ pub(crate) fn check<R: AllocGlobal + Files<File = File>, O: Output>(
     let mut reply = Reply::new(output);
     let is_read = !tell_unread(rt, &mut reply, words, document);
     tell_config(&mut reply, &config, words.archive);
-    tell_relative(&mut reply, b"configuration ", Some(words.path()));
-    tell_relative(&mut reply, b"archive ", config.archive.or(words.archive));
-    tell_relative(&mut reply, b"log ", config.log);
+    let log = log_of(&config, words.archive);
+    tell_path(rt, &mut reply, b"configuration ", Some(words.path()));
+    tell_path(rt, &mut reply, b"archive ", log.archive);
+    tell_path(rt, &mut reply, b"log ", config.log);
     let are_known = tell_faults(rt, &mut reply, words, document);
-    let are_taken = tell_values(rt, &mut reply, &config);
+    let are_taken = tell_values(rt, &mut reply, &config, log);
     let is_large = tell_size(rt, &mut reply, &config, words.archive);
     reply.finish()?;
     if is_read && are_known && are_taken && is_large {
@@ -118,18 +119,37 @@ fn tell_flag_line<O: Output>(reply: &mut Reply<'_, O>, key: &[u8], flag: bool) {
     reply.tell(if flag { b"true\n" } else { b"false\n" });
 }
 
-// Tells of a path that the kernel's handler finds in another folder than the one who asks.
-fn tell_relative<O: Output>(reply: &mut Reply<'_, O>, key: &[u8], path: Option<&str>) {
+// Tells of a path that the kernel's handler finds in another folder than the one who asks, and of one that others may give to another file.
+fn tell_path<R: AllocGlobal + Files<File = File>, O: Output>(
+    rt: &R,
+    reply: &mut Reply<'_, O>,
+    key: &[u8],
+    path: Option<&str>,
+) {
     let Some(path) = path else {
         return;
     };
-    if path.is_empty() || path.starts_with('/') {
+    if path.is_empty() {
         return;
     }
+    if !path.starts_with('/') {
+        tell_note(reply, key, path);
+        reply.tell(b"the kernel starts its handler in /\n");
+    }
+    if let Some(folder) = shared_folder(rt, path) {
+        tell_note(reply, key, path);
+        reply.tell(b"others may write a folder on its path, ");
+        reply.tell_text(folder.as_bytes());
+        reply.tell(b"\n");
+    }
+}
+
+// Begins a note on a path.
+fn tell_note<O: Output>(reply: &mut Reply<'_, O>, key: &[u8], path: &str) {
     reply.tell(b"note ");
     reply.tell(key);
     reply.tell_text(path.as_bytes());
-    reply.tell(b": the kernel starts its handler in /\n");
+    reply.tell(b": ");
 }
 
 // Tells each fault. Says whether there is none.
@@ -166,6 +186,7 @@ fn tell_values<R: AllocGlobal + Files<File = File>, O: Output>(
     rt: &R,
     reply: &mut Reply<'_, O>,
     config: &Config<'_>,
+    log: Log<'_>,
 ) -> bool {
     let template = config.template.unwrap_or(HANDLER_TEMPLATE);
     let is_template = Template::parse(template.as_bytes()).is_ok();
@@ -179,27 +200,30 @@ fn tell_values<R: AllocGlobal + Files<File = File>, O: Output>(
     if !is_label {
         reply.tell(b"fault label: it has over 64 bytes\n");
     }
-    let log = config.log.unwrap_or(KERNEL_LOG);
-    let is_log = takes_lines(rt, log);
-    if !is_log {
-        reply.tell(b"fault log: ");
-        reply.tell_text(log.as_bytes());
-        reply.tell(b" can't be written\n");
-    }
+    let is_log = tell_log(rt, reply, log);
     is_template && is_label && is_log
 }
 
-// Whether a log can be written. It is made if it is not there, as with the first line.
-fn takes_lines<R: Files<File = File>>(rt: &R, path: &str) -> bool {
-    if path.is_empty() {
+// Tells if a log takes no line. Says whether it does. It is made if it is not there, as with the first line.
+fn tell_log<R: Files<File = File>, O: Output>(
+    rt: &R,
+    reply: &mut Reply<'_, O>,
+    log: Log<'_>,
+) -> bool {
+    if log.path.is_empty() {
         return true;
     }
-    let opened = File::options()
-        .append(true)
-        .create(true)
-        .mode(0o600)
-        .open(rt, path);
-    opened.is_ok()
+    let Err(fault) = log.open(rt) else {
+        return true;
+    };
+    reply.tell(b"fault log: ");
+    reply.tell_text(log.path.as_bytes());
+    reply.tell(match fault {
+        LogFault::Closed => b" can't be written\n",
+        LogFault::Special => b" is a link, or no regular file: no line is written\n",
+        LogFault::Archive => b" is the archive: no line is written\n",
+    });
+    false
 }
 
 // Tells whether the archive can keep what is asked. Says whether it can.

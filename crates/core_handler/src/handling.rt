@@ -89,9 +89,7 @@ pub fn handle<R: AllocGlobal + Files<File = File> + Clock, I: Read, O: Output, W
     let config = Config::of(&document.value);
     let teller = Teller {
         alloc: rt.alloc(),
-        log: Log {
-            path: config.log.unwrap_or(KERNEL_LOG),
-        },
+        log: log_of(&config, words.archive),
     };
     if words.is_check {
         return check(rt, &words, &document, output);
@@ -110,9 +108,20 @@ pub fn handle<R: AllocGlobal + Files<File = File> + Clock, I: Read, O: Output, W
     handler.store(rt, place, request, input, output, onlooker)
 }
 
+// Where a configuration has outcomes told, if the words name this archive.
+pub(crate) fn log_of<'a>(config: &Config<'a>, archive: Option<&'a str>) -> Log<'a> {
+    Log {
+        path: config.log.unwrap_or(KERNEL_LOG),
+        archive: config.archive.or(archive),
+    }
+}
+
 /// Tells the kernel's log of a core that is lost since the words can't be read: no configuration names another log.
 pub fn tell_lost_words<R: AllocGlobal + Files<File = File>>(rt: &R) {
-    let log = Log { path: KERNEL_LOG };
+    let log = Log {
+        path: KERNEL_LOG,
+        archive: None,
+    };
     let words = b"the words of handle are refused";
     let line = lost_line(rt.alloc(), b"", b"", "", b"BadLine", words);
     log.tell(rt, rt.alloc(), Level::Error, line.text());

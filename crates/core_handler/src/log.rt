@@ -1,9 +1,10 @@
 // The log of a handler: one line for each outcome.
-use archive_files::Collected;
+use archive_files::{Collected, is_same, open_looked};
 use script_streams::Reply;
 use std::alloc::Global;
+use std::fs;
 use std::fs::File;
-use std::io::Write;
+use std::io::{ErrorKind, Write};
 use std::os::unix::fs::OpenOptionsExt;
 use std::rt::Files;
 
@@ -12,6 +13,9 @@ pub(crate) const KERNEL_LOG: &str = "/dev/kmsg";
 
 // The most bytes of a line: the kernel takes no more than some 970 at a time.
 const LONGEST: usize = 900;
+
+// A log that is made may be read and written by its owner alone.
+const OWNER_ALONE: u32 = 0o600;
 
 // How grave a line is, as the kernel's log counts it (syslog(2)).
 #[derive(Clone, Copy, Debug, PartialEq, Eq)]
@@ -29,6 +33,19 @@ pub(crate) enum Level {
 pub struct Log<'a> {
     /// The file's path. None is told if it is empty.
     pub path: &'a str,
+    /// The archive's path, if it is known. If both name one file, nothing is told: a line would be written over the archive.
+    pub archive: Option<&'a str>,
+}
+
+// Why a log takes no line.
+#[derive(Clone, Copy, Debug, PartialEq, Eq)]
+pub(crate) enum LogFault {
+    // It can't be made or opened.
+    Closed,
+    // It is a link, or no regular file.
+    Special,
+    // It is the archive.
+    Archive,
 }
 
 // The mark that the kernel's log has before a line.
@@ -53,13 +70,18 @@ impl<'a> Log<'a> {
             return;
         }
         let line = self.line(alloc, level, text);
-        let opened = File::options()
-            .append(true)
-            .create(true)
-            .mode(0o600)
-            .open(rt, self.path);
-        if let Ok(mut file) = opened {
+        if let Ok(mut file) = self.open(rt) {
             let _ = file.write(line.text());
+        }
+    }
+
+    // Opens the log to add a line, and makes it if there is none. No call waits: what is no regular file is refused, but for the kernel's
+    // log, and so is a link.
+    pub(crate) fn open<R: Files<File = File>>(&self, rt: &R) -> Result<File, LogFault> {
+        let file = open_to_add(rt, self.path)?;
+        match self.archive {
+            Some(archive) if is_file_of(rt, archive, &file) => Err(LogFault::Archive),
+            _ => Ok(file),
         }
     }
 
@@ -75,5 +97,40 @@ impl<'a> Log<'a> {
         reply.tell(b"\n");
         let _ = reply.finish();
         line
+    }
+}
+
+// Opens a log, or makes it. Nothing is opened that was not looked at, but for the kernel's log.
+fn open_to_add<R: Files<File = File>>(rt: &R, path: &str) -> Result<File, LogFault> {
+    let mut options = File::options();
+    options.append(true).mode(OWNER_ALONE);
+    if path == KERNEL_LOG {
+        options.create(true);
+    } else {
+        options.create_new(true);
+    }
+    match options.open(rt, path) {
+        Ok(file) => Ok(file),
+        Err(error) if error.kind() == ErrorKind::AlreadyExists => open_there(rt, path),
+        Err(_) => Err(LogFault::Closed),
+    }
+}
+
+// Opens a log that is there.
+fn open_there<R: Files<File = File>>(rt: &R, path: &str) -> Result<File, LogFault> {
+    let Ok(looked) = fs::symlink_metadata(rt, path) else {
+        return Err(LogFault::Closed);
+    };
+    if !looked.is_file() {
+        return Err(LogFault::Special);
+    }
+    open_looked(rt, path, &looked).map_err(|_| LogFault::Closed)
+}
+
+// Whether a file is the one of this path, itself or by a link.
+fn is_file_of<R: Files<File = File>>(rt: &R, path: &str, file: &File) -> bool {
+    match (fs::metadata(rt, path), file.metadata()) {
+        (Ok(named), Ok(opened)) => is_same(&named, &opened),
+        _ => false,
     }
 }
