@@ -1,5 +1,7 @@
 // What the first bytes of a core say of it.
-ghost use Rattle.std.specs.Prelude.{IfOk};
+ghost use Rattle.std.specs.Prelude.{◌≡◌, IfOk};
+ghost use Rattle.core_length.specs.Whole.{whole_length};
+ghost use Rattle.unread_notes.specs.Unread.{unread_notes};
 ghost use Rattle.case_info.specs.Screens.{SeesFront};
 
 use archive_files::Refusal;
@@ -35,10 +37,17 @@ pub(crate) fn front_of<D: Disk>(
     };
     let mut front = vec![in alloc; 0u8; length.min(FRONT) as usize]?;
     match archive.image_part(seq, 0, &mut front) {
-        Ok(()) => Ok(CoreFront {
-            whole: whole_length(&front),
-            unread: unread_notes(&front),
-        }),
+        Ok(()) => Ok(said_by(&front)),
         Err(fault) => Err(Refusal::Call(fault)),
+    }
+}
+
+fn said_by(front: &[u8]) -> CoreFront
+    ensures whole { result.whole ≡ whole_length front.now }
+    ensures unread { result.unread ≡ unread_notes front.now }
+{
+    CoreFront {
+        whole: whole_length(front),
+        unread: unread_notes(front),
     }
 }

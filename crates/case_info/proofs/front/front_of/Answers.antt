@@ -14,6 +14,6 @@ returns-in-Ok-image_part g c =
       search (c.deref_mut.ensures.len, c.in_ok-front.ensures.len, c.min.ensures, rules),
       c.image_part.new.into,
       rw c.in-Ok-image_part.is at c.image_part.ensures,
-      c.whole_length.ensures ∙ ap whole_length (c.deref.ensures.value ∙ bytes),
-      c.unread_notes.ensures ∙ ap unread_notes (c.deref-2.ensures.value ∙ bytes),
+      c.said_by.ensures.whole ∙ ap whole_length (c.deref.ensures.value ∙ bytes),
+      c.said_by.ensures.unread ∙ ap unread_notes (c.deref.ensures.value ∙ bytes),
     )
