@@ -3,8 +3,12 @@
 
 mod ask_words;
 mod asked;
+mod begin_line;
 mod endings;
+mod handle_words;
 mod list_words;
+mod named_words;
+mod store_words;
 mod words;
 
 pub use words::{run_program, run_words};

@@ -3,12 +3,12 @@ ghost use Rattle.std.specs.Prelude.{◌≡◌, ◌≤◌, []};
 ghost use Rattle.command_words.specs.Notes.{IsQuietButForANote, IsQuietButForSomeNote, subject};
 
 use crate::ask_words::{AskedLine, Form};
-use crate::asked::{Asked, SessionWords, read_words};
+use crate::asked::{Asked, SessionWords, naming_of, read_words};
 use crate::endings::{Clues, Ending, tell_ending};
 use archive_files::{
-    Access, ArchivePath, Collected, Failure, Refusal, StoreRequest, ask, check, copy_archive_file,
-    look, make_archive, names_output, note_shared, resize_archive_file, run_over, salvage,
-    take_disk, tell_trouble,
+    Access, ArchivePath, Collected, Failure, Refusal, ask, check, copy_archive_file, look,
+    make_archive, names_output, note_shared, resize_archive_file, run_over, salvage, take_disk,
+    tell_trouble,
 };
 use case_info::{ask_rows, info_archive, info_case};
 use case_listing::{ask_case, ask_plain, extract_case, list, would_retire};
@@ -18,10 +18,9 @@ use command_words::{
 };
 use core_handler::{Log, Teller, handle, store_told, tell_lost_words};
 use diagnostics::Onlooker;
-use inspector_cli::{Naming, memory_session};
+use inspector_cli::memory_session;
 use intake::Settings;
 use journal_layout::Shape;
-use name_template::Template;
 use script_lines::Question;
 use script_streams::{Output, ReadInput};
 use shown_progress::Listener;
@@ -187,12 +186,9 @@ fn answer_asked<R: AllocGlobal + Files<File = File> + Clock, I: Read, O: Output,
         Asked::Store {
             archive,
             file,
-            wanted,
-            settings,
+            request,
             log,
         } => {
-            let naming = naming_of(settings)?;
-            let request = StoreRequest::of(wanted, &naming, settings.limit);
             let teller = Teller {
                 alloc: rt.alloc(),
                 log: Log {
@@ -324,13 +320,4 @@ fn run_memory<R: AllocGlobal, I: Read, O: Output>(
         output,
     );
     Ok(ended?)
-}
-
-// How cores are named.
-fn naming_of(settings: SessionWords<'_>) -> Result<Naming, Refusal> {
-    let template = Template::parse(settings.template.as_bytes())?;
-    Ok(Naming {
-        template,
-        uses_pid: settings.uses_pid,
-    })
 }

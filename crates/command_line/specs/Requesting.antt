@@ -1,0 +1,258 @@
+-- What the words of `store` and of `handle` ask for.
+use Rattle.std.specs.Prelude.{◌≡◌, ◌⊎◌, ℕ, ◌==◌, nat_lt, Bool, true, false, List, [], ◌∷◌, ◌++◌, length, map, Option, None, Some, is_some, Result, Ok, Err, codes, if◌then◌else◌}
+use Rattle.std.specs.List.{before_first, position_or_len}
+use Rattle.std.specs.Borrow.{Bor}
+use Rattle.std.specs.Option.{option_copied, unwrap_or}
+use Rattle.arrayvec.specs.ArrayVec.{ArrayVec}
+use Rattle.archive_files.specs.declared.archive_path.ArchivePath.{ArchivePath}
+use Rattle.archive_files.specs.declared.failures.Refusal.{Refusal}
+use Rattle.archive_files.specs.declared.failures.WordPart.{WordPart}
+use Rattle.archive_files.specs.declared.failures.Refusal.TheVariants.{BadLine, NotUtf8, OutOfMemory}
+use Rattle.archive_files.specs.declared.storing.StoreRequest.{StoreRequest}
+use Rattle.archive_files.specs.declared.storing.StoreWords.{StoreWords}
+use Rattle.core_handler.specs.Fronts.{named_by}
+use Rattle.core_handler.specs.Requesting.{policy_within}
+use Rattle.core_handler.specs.declared.handling.HandleWords.{HandleWords}
+use Rattle.inspector_cli.specs.Storing.{line_stream}
+use Rattle.name_template.specs.Template.{template_fault}
+use Rattle.name_template.specs.declared.template.TemplateFault.{TemplateFault}
+use Rattle.retention.specs.declared.Policy.{Policy}
+use Rattle.script_lines.specs.Commands.{label_bytes}
+use Rattle.script_lines.specs.Said.{Said, said, label_of, begin_core}
+use Rattle.script_words.specs.Number.{number_of}
+use Rattle.stream_names.specs.Commands.{stream_found}
+use Rattle.command_line.specs.declared.store_words.GivenStore.{GivenStore}
+use Rattle.command_line.specs.declared.handle_words.GivenHandle.{GivenHandle}
+use Rattle.command_line.specs.declared.asked.Asked.{Asked}
+use Rattle.command_line.specs.declared.asked.Asked.TheVariants.{Store}
+use Rattle.command_line.specs.declared.named_words.NamedWords as named
+
+-- ---- How a line of a script has the words.
+
+-- A text as a line has it: as it is, unless its bytes are escaped. What they are then is in no clause.
+abbrev pub IsSpelled : Bool → List ℕ → List ℕ → Type 0
+IsSpelled true text spelled = Unit {0}
+IsSpelled false text spelled = spelled ≡ text
+
+abbrev pub is_equals : ℕ → Bool
+is_equals c = c == 61
+
+-- the word has an `=`
+abbrev pub has_equals : List ℕ → Bool
+has_equals word = nat_lt (position_or_len is_equals word) (length word)
+
+-- A pair as a line has it: as it is; if VALUE is escaped, KEY is as it is, and so is a word that has no `=`.
+abbrev pub IsPair : Bool → List ℕ → List ℕ → Type 0
+IsPair false pair spelled = spelled ≡ pair
+IsPair true pair spelled =
+    ((has_equals pair ≡ false) × (spelled ≡ pair))
+    ⊎ ((has_equals pair ≡ true) × (value : List ℕ) × (spelled ≡ before_first is_equals pair ++ 61 ∷ value))
+
+-- A line with these pairs behind it, in their order, a space before each.
+abbrev pub IsJoined : Bool → List ℕ → List (List ℕ) → List ℕ → Type 0
+IsJoined escapes line [] whole = whole ≡ line
+IsJoined escapes line (pair ∷ pairs) whole = (spelled : List ℕ) × IsPair escapes pair spelled × IsJoined escapes (line ++ 32 ∷ spelled) pairs whole
+
+-- why a text has no place in a line: a word is not UTF-8, or there is no memory
+abbrev pub IsUnspelled : Refusal → Type 0
+IsUnspelled why = (why ≡ OutOfMemory) ⊎ ((part : WordPart) × (why ≡ NotUtf8 part))
+
+-- ---- What a word says.
+
+abbrev pub number_or_bad : Option ℕ → Result (Option ℕ) Refusal
+number_or_bad None = Err BadLine
+number_or_bad (Some n) = Ok (Some n)
+
+-- A limit, or a length: the number of the word. If the word is left out there is none.
+abbrev pub number_said : Option (List ℕ) → Result (Option ℕ) Refusal
+number_said None = Ok None
+number_said (Some word) = number_or_bad (number_of word)
+
+abbrev pub policy_by : Result (Option ℕ) Refusal → Result (Option ℕ) Refusal → Result (Option ℕ) Refusal → Result (Option Policy) Refusal
+policy_by (Ok keep) (Ok bytes) (Ok before) = Ok (policy_within keep bytes before)
+policy_by (Ok keep) (Ok bytes) (Err why) = Err why
+policy_by (Ok keep) (Err why) before = Err why
+policy_by (Err why) bytes before = Err why
+
+-- Which cases go first: those that the line `retire` takes with the limits that are given. None go if none is.
+abbrev pub policy_said : GivenStore → Result (Option Policy) Refusal
+policy_said given = policy_by (number_said (option_copied given.keep)) (number_said (option_copied given.bytes)) (number_said (option_copied given.before))
+
+-- The line that begins the stream: of an executable, if it has a name, or of a core with its pairs. Both together say nothing.
+abbrev pub IsBegun : GivenStore → Option (List ℕ) → List (List ℕ) → List ℕ → Type 0
+IsBegun given None pairs line = IsJoined given.escapes (codes "begin core 0") pairs line
+IsBegun given (Some name) [] line = (text : List ℕ) × (line ≡ codes "begin exec 0 " ++ text) × IsSpelled given.escapes name text
+IsBegun given (Some name) (pair ∷ pairs) line = ⊥
+
+-- the words of the given pairs
+abbrev pub pairs_of : GivenStore → List (List ℕ)
+pairs_of given = map (λ p. p.now) given.pairs.now
+
+-- A label, as the line `label` has it; none, if none is given.
+abbrev pub IsLabelled : Bool → Option (List ℕ) → Option (ArrayVec ℕ) → Type 0
+IsLabelled escapes None None = Unit {0}
+IsLabelled escapes None (Some label) = ⊥
+IsLabelled escapes (Some text) None = ⊥
+IsLabelled escapes (Some text) (Some label) =
+    (spelled : List ℕ) × IsSpelled escapes text spelled × (case : ℕ) × (said (codes "label 1 " ++ spelled) ≡ label_of case (label_bytes label))
+
+-- ---- What is asked for.
+
+-- The words of `store` as what is to be stored.
+pub record AsksFor (given : GivenStore) (words : StoreWords) : Type 0 where
+  -- the cases that go first
+  pub policy : policy_said given ≡ Ok words.policy
+  pub begun : IsBegun given (option_copied given.exec) (pairs_of given) words.begin.items
+  pub label : IsLabelled given.escapes (option_copied given.label) words.options.label
+  pub pin : words.options.pin ≡ given.pin
+  -- cases go while it is stored
+  pub fit : words.options.fit ≡ given.fit
+  -- what has more bytes than the limit, or finds no room, is kept up to there
+  pub cut : words.options.cut ≡ (if given.cut then Some given.settings.limit else None)
+  -- how many bytes it has
+  pub length : number_said (option_copied given.length) ≡ Ok words.options.length
+  -- no core is too much
+  pub burst : words.options.burst ≡ None
+
+-- What `store` asks for.
+pub record Asks (given : GivenStore) (request : StoreRequest) : Type 0 where
+  pub words : StoreWords
+  pub asked : AsksFor given words
+  pub policy : request.policy ≡ words.policy
+  -- the stream that the line begins, named by the template, or why there is none
+  pub found : stream_found request.found ≡ line_stream (named_by given.settings.template.now given.settings.uses_pid) (said words.begin.items)
+  pub options : request.options ≡ words.options
+  -- the most bytes of an image
+  pub limit : request.limit ≡ given.settings.limit
+  pub template : template_fault given.settings.template.now ≡ None
+
+-- ---- Which of the words is refused.
+
+-- a text is no label
+abbrev pub IsNoLabel : Bool → Option (List ℕ) → Type 0
+IsNoLabel escapes None = ⊥
+IsNoLabel escapes (Some text) =
+    (spelled : List ℕ) × IsSpelled escapes text spelled × ((case : ℕ) (label : ArrayVec ℕ) → said (codes "label 1 " ++ spelled) ≡ label_of case (label_bytes label) → ⊥)
+
+-- an executable has pairs of a core
+abbrev pub HasBoth : Option (List ℕ) → List (List ℕ) → Type 0
+HasBoth None pairs = ⊥
+HasBoth (Some name) [] = ⊥
+HasBoth (Some name) (pair ∷ pairs) = Unit {0}
+
+-- A word is at fault: a limit or a length is no number, an executable has pairs, or the label is none.
+abbrev pub IsAtFault : GivenStore → Type 0
+IsAtFault given =
+    (policy_said given ≡ Err BadLine)
+    ⊎ (HasBoth (option_copied given.exec) (pairs_of given)
+    ⊎ (IsNoLabel given.escapes (option_copied given.label)
+    ⊎ (number_said (option_copied given.length) ≡ Err BadLine)))
+
+-- Why words are refused: one is at fault, or not UTF-8, or there is no memory.
+abbrev pub AreRefused : GivenStore → Refusal → Type 0
+AreRefused given why = ((why ≡ BadLine) × IsAtFault given) ⊎ IsUnspelled why
+
+-- The same with the template, which is looked at behind the words: it is refused only if none of them is at fault.
+abbrev pub IsRefused : GivenStore → Refusal → Type 0
+IsRefused given why =
+    AreRefused given why
+    ⊎ ((words : StoreWords) × AsksFor given words × (fault : TemplateFault) × (template_fault given.settings.template.now ≡ Some fault))
+
+-- ---- Under which name each word is given.
+
+-- What is given under each name.
+pub record IsGiven {W : Type 0} (g : named.Ghosts W) (words : W) (given : GivenStore) : Type 0 where
+  pub file : (file : Option (List ℕ)) × g.stands words (codes "file") file × (given.file.now ≡ unwrap_or file [])
+  pub keep : g.stands words (codes "keep") (option_copied given.keep)
+  pub bytes : g.stands words (codes "bytes") (option_copied given.bytes)
+  pub before : g.stands words (codes "before") (option_copied given.before)
+  pub exec : g.stands words (codes "exec") (option_copied given.exec)
+  pub label : g.stands words (codes "label") (option_copied given.label)
+  pub length : g.stands words (codes "length") (option_copied given.length)
+  pub escapes : g.stated words (codes "escape") given.escapes
+  pub pin : g.stated words (codes "pin") given.pin
+  pub fit : g.stated words (codes "fit") given.fit
+  pub cut : g.stated words (codes "cut") given.cut
+  pub template : (template : Option (List ℕ)) × g.stands words (codes "template") template × (given.settings.template.now ≡ unwrap_or template [])
+  pub uses_pid : g.stated words (codes "uses-pid") given.settings.uses_pid
+  pub limit : g.counts words (codes "limit") given.settings.limit
+  pub log : g.stands words (codes "log") (option_copied given.log)
+
+-- What `store` asks for over this archive: which file is stored, as what, and where it is told.
+pub record AsksToStore (given : GivenStore) (archive : ArchivePath) (asked : Asked) : Type 0 where
+  pub file : Bor (List ℕ)
+  pub path : file.now ≡ given.file.now
+  pub request : StoreRequest
+  pub asks : Asks given request
+  pub same : asked ≡ Store archive file request given.log
+
+-- ---- The words of `handle`.
+
+-- the line begins a core
+abbrev pub begins_core : Said → Bool
+begins_core (begin_core slot process) = true
+begins_core _ = false
+
+-- The line has the pair then, and begins a core still; or it would begin none, and is as it was.
+abbrev pub HasTaken : List ℕ → List ℕ → List ℕ → Bool → Type 0
+HasTaken line pair line' true = (spelled : List ℕ) × IsPair true pair spelled × (line' ≡ line ++ 32 ∷ spelled) × (begins_core (said line') ≡ true)
+HasTaken line pair line' false = (line' ≡ line) × (spelled : List ℕ) × IsPair true pair spelled × (begins_core (said (line ++ 32 ∷ spelled)) ≡ false)
+
+-- the length that a pair states
+abbrev pub IsLengthIn : List ℕ → Option (List ℕ) → Type 0
+IsLengthIn pair None = (value : List ℕ) → pair ≡ codes "length=" ++ value → ⊥
+IsLengthIn pair (Some value) = pair ≡ codes "length=" ++ value
+
+-- A pair that states a length has no place in the line, and is not left out. Any other is in the line, or is left out if the line can't
+-- have it.
+abbrev pub HasAdded : List ℕ → List (Bor (List ℕ)) → Bor (List ℕ) → List ℕ → List (Bor (List ℕ)) → Type 0
+HasAdded line left pair line' left' =
+    ((value : List ℕ) × IsLengthIn pair.now (Some value) × (line' ≡ line) × (left' ≡ left))
+    ⊎ (IsLengthIn pair.now None × ((HasTaken line pair.now line' true × (left' ≡ left)) ⊎ (HasTaken line pair.now line' false × (left' ≡ left ++ pair ∷ []))))
+
+-- The line with each of these pairs that it can have, in their order, and those that are left out.
+abbrev pub TakesPairs : List ℕ → List (Bor (List ℕ)) → List (Bor (List ℕ)) → List ℕ → List (Bor (List ℕ)) → Type 0
+TakesPairs line left [] whole all = (whole ≡ line) × (all ≡ left)
+TakesPairs line left (pair ∷ pairs) whole all =
+    (line' : List ℕ) × (left' : List (Bor (List ℕ))) × HasAdded line left pair line' left' × TakesPairs line' left' pairs whole all
+
+abbrev pub or_else : Option (List ℕ) → Option (List ℕ) → Option (List ℕ)
+or_else None other = other
+or_else (Some value) other = Some value
+
+-- What states a length: the last pair that states one, or else the option.
+abbrev pub IsStatedBy : Option (List ℕ) → List (Bor (List ℕ)) → Option (List ℕ) → Type 0
+IsStatedBy option [] stated = stated ≡ option
+IsStatedBy option (pair ∷ pairs) stated = (value : Option (List ℕ)) × IsLengthIn pair.now value × IsStatedBy (or_else value option) pairs stated
+
+abbrev pub length_of : Option (List ℕ) → Option ℕ
+length_of None = None
+length_of (Some word) = number_of word
+
+-- the first word, unless it has an `=`
+abbrev pub config_of : List (Bor (List ℕ)) → Option (List ℕ)
+config_of [] = None
+config_of (word ∷ words) = if has_equals word.now then None else Some word.now
+
+-- the words behind it
+abbrev pub pairs_beside : List (Bor (List ℕ)) → List (Bor (List ℕ))
+pairs_beside [] = []
+pairs_beside (word ∷ words) = if has_equals word.now then word ∷ words else words
+
+-- What is given under each name.
+pub record IsGivenToHandle {W : Type 0} (g : named.Ghosts W) (words : W) (given : GivenHandle) : Type 0 where
+  pub archive : g.stands words (codes "archive") (option_copied given.archive)
+  pub length : g.stands words (codes "length") (option_copied given.length)
+  pub is_check : g.stated words (codes "check") given.is_check
+
+-- What `handle` asks for.
+pub record Handles (given : GivenHandle) (asked : HandleWords) : Type 0 where
+  pub config : option_copied asked.config ≡ config_of given.words.now
+  pub archive : option_copied asked.archive ≡ option_copied given.archive
+  pub begun : TakesPairs (codes "begin core 0") [] (pairs_beside given.words.now) asked.begin.items asked.left_out.items
+  pub stated : Option (List ℕ)
+  pub states : IsStatedBy (option_copied given.length) (pairs_beside given.words.now) stated
+  pub length : asked.length ≡ length_of stated
+  -- what states a length, and is no number
+  pub faulty : option_copied asked.faulty_length ≡ (if is_some asked.length then None else stated)
+  pub is_check : asked.is_check ≡ given.is_check

@@ -1,0 +1,51 @@
+// Words that are told apart by their names.
+ghost use Rattle.std.specs.Prelude.{ℕ, Bool, List, Option};
+ghost use Rattle.std.specs.Option.{option_copied};
+
+use command_words::Given;
+
+// Words, each with a name. What reads them is generic in them, so that it has no value but theirs, and its clauses say under which name
+// each is read.
+pub(crate) trait NamedWords<'a> {
+    // Whether this may stand for the word of a name, if anything does.
+    ghost stands: { Self → List ℕ → Option (List ℕ) → Type 0 };
+
+    // Whether the word of a name may be there, or may not.
+    ghost stated: { Self → List ℕ → Bool → Type 0 };
+
+    // Whether this may be the number that the word of a name is.
+    ghost counts: { Self → List ℕ → ℕ → Type 0 };
+
+    // The word of a name, if it is there.
+    fn word(&self, name: &str) -> Option<&'a str>
+        ensures { stands self.now name.now (option_copied result) };
+
+    // Whether a word that takes no value is there.
+    fn states(&self, name: &str) -> bool
+        ensures { stated self.now name.now result };
+
+    // The number that the word of a name is.
+    fn count(&self, name: &str) -> u64
+        ensures { counts self.now name.now result };
+}
+
+// No clause says what clap found under a name.
+impl<'a> NamedWords<'a> for Given<'a> {
+    ghost stands = { λ words name value. Unit {0} };
+
+    ghost stated = { λ words name is_there. Unit {0} };
+
+    ghost counts = { λ words name number. Unit {0} };
+
+    fn word(&self, name: &str) -> Option<&'a str> {
+        self.text(name)
+    }
+
+    fn states(&self, name: &str) -> bool {
+        self.flag(name)
+    }
+
+    fn count(&self, name: &str) -> u64 {
+        self.number::<u64>(name).unwrap_or(0)
+    }
+}

@@ -1,0 +1,199 @@
+// What the words of `store` ask for.
+ghost use Rattle.std.specs.Prelude.{◌≡◌, ◌⊎◌, None, Some, Err, IfOk, IfErr, if◌then◌else◌};
+ghost use Rattle.std.specs.Option.{option_copied};
+ghost use Rattle.archive_files.specs.declared.failures.Refusal.TheVariants.{BadLine};
+ghost use Rattle.command_line.specs.Requesting as spec;
+
+use crate::asked::{Asked, SessionWords, checked, naming_of};
+use crate::begin_line::{core_line, valued_line};
+use crate::named_words::NamedWords;
+use archive_files::{ArchivePath, Refusal, StoreRequest, StoreWords};
+use arrayvec::ArrayVec;
+use core_handler::policy_within;
+use inspector_cli::StoreOptions;
+use retention::Policy;
+use script_lines::{Call, Question, parse_question};
+use script_words::parse_number;
+use std::alloc::Global;
+
+// The words of `store` that say what is stored, and how.
+#[derive(Clone, Copy)]
+pub(crate) struct GivenStore<'g, 'a> {
+    file: &'a str,
+    // The limits of the cases that stay.
+    keep: Option<&'a str>,
+    bytes: Option<&'a str>,
+    before: Option<&'a str>,
+    // The name of an executable.
+    exec: Option<&'a str>,
+    // What is known of a core.
+    pairs: &'g [&'a str],
+    label: Option<&'a str>,
+    length: Option<&'a str>,
+    // The bytes of a text are taken as they are.
+    escapes: bool,
+    pin: bool,
+    fit: bool,
+    cut: bool,
+    settings: SessionWords<'a>,
+    // Where the outcome is told.
+    log: Option<&'a str>,
+}
+
+impl<'g, 'a> GivenStore<'g, 'a> {
+    // What is given under each name, beside these pairs.
+    pub(crate) fn of<W: NamedWords<'a>>(words: &W, pairs: &'g [&'a str]) -> Self
+        ensures given { spec.IsGiven W.NamedWords words.now result }
+        ensures pairs { result.pairs.now ≡ pairs.entry.now }
+    {
+        GivenStore {
+            file: words.word("file").unwrap_or(""),
+            keep: words.word("keep"),
+            bytes: words.word("bytes"),
+            before: words.word("before"),
+            exec: words.word("exec"),
+            pairs,
+            label: words.word("label"),
+            length: words.word("length"),
+            escapes: words.states("escape"),
+            pin: words.states("pin"),
+            fit: words.states("fit"),
+            cut: words.states("cut"),
+            settings: SessionWords {
+                template: words.word("template").unwrap_or(""),
+                uses_pid: words.states("uses-pid"),
+                limit: words.count("limit"),
+            },
+            log: words.word("log"),
+        }
+    }
+}
+
+// What the words of `store` ask for over this archive.
+pub(crate) fn store_words<'a>(
+    alloc: Global,
+    given: &GivenStore<'_, 'a>,
+    archive: ArchivePath<'a>,
+) -> Result<Asked<'a>, Refusal>
+    ensures asked { IfOk result (λ asked. spec.AsksToStore given.now archive.entry asked) }
+    ensures refused { IfErr result (spec.IsRefused given.now) }
+{
+    let file = checked(given.file)?;
+    let request = request_of(alloc, given)?;
+    Ok(Asked::Store {
+        archive,
+        file,
+        request,
+        log: given.log,
+    })
+}
+
+// What is stored, and by what. The template is looked at behind the words.
+fn request_of(alloc: Global, given: &GivenStore<'_, '_>) -> Result<StoreRequest, Refusal>
+    ensures asked { IfOk result (λ request. spec.Asks given.now request) }
+    ensures refused { IfErr result (spec.IsRefused given.now) }
+    ensures limits { spec.policy_said given.now ≡ Err BadLine → result ≡ Err BadLine }
+{
+    let words = wanted_of(alloc, given)?;
+    checked(given.settings.template)?;
+    if let Some(log) = given.log {
+        checked(log)?;
+    }
+    let naming = naming_of(given.settings)?;
+    Ok(StoreRequest::of(words, &naming, given.settings.limit))
+}
+
+// What is stored, and what goes for it.
+fn wanted_of(alloc: Global, given: &GivenStore<'_, '_>) -> Result<StoreWords, Refusal>
+    ensures asked { IfOk result (λ words. spec.AsksFor given.now words) }
+    ensures refused { IfErr result (spec.AreRefused given.now) }
+    ensures limits { spec.policy_said given.now ≡ Err BadLine → result ≡ Err BadLine }
+{
+    let policy = policy_of(given)?;
+    let begin = first_line(alloc, given)?;
+    let label = label_of(alloc, given)?;
+    let length = number_of(given.length)?;
+    let options = StoreOptions {
+        label,
+        pin: given.pin,
+        fit: given.fit,
+        cut: cut_of(given),
+        length,
+        burst: None,
+    };
+    Ok(StoreWords {
+        policy,
+        begin,
+        options,
+    })
+}
+
+// The most bytes that are kept of a file that has more: those of the limit, if it may be cut.
+fn cut_of(given: &GivenStore<'_, '_>) -> Option<u64>
+    ensures { result ≡ (if given.now.cut then Some given.now.settings.limit else None) }
+{
+    if given.cut {
+        Some(given.settings.limit)
+    } else {
+        None
+    }
+}
+
+// What the archive is to be brought down to, of the limits that are there.
+fn policy_of(given: &GivenStore<'_, '_>) -> Result<Option<Policy>, Refusal>
+    ensures said { result ≡ spec.policy_said given.now }
+    ensures refused { IfErr result (λ why. (why ≡ BadLine) × (spec.policy_said given.now ≡ Err BadLine)) }
+{
+    let keep = number_of(given.keep)?;
+    let bytes = number_of(given.bytes)?;
+    let before = number_of(given.before)?;
+    Ok(policy_within(keep, bytes, before))
+}
+
+// The number of a word, if it is there, as a script has it.
+fn number_of(word: Option<&str>) -> Result<Option<u64>, Refusal>
+    ensures said { result ≡ spec.number_said (option_copied word.entry) }
+    ensures refused { IfErr result (λ why. (why ≡ BadLine) × (spec.number_said (option_copied word.entry) ≡ Err BadLine)) }
+{
+    let Some(word) = word else {
+        return Ok(None);
+    };
+    match parse_number(word.as_bytes()) {
+        Some(number) => Ok(Some(number)),
+        None => Err(Refusal::BadLine),
+    }
+}
+
+// The line of a script that begins the stream: of an executable where it has a name, else of a core with its pairs. A core's
+// pairs say nothing of an executable, so both together are refused.
+fn first_line(alloc: Global, given: &GivenStore<'_, '_>) -> Result<Vec<u8>, Refusal>
+    ensures begun { IfOk result (λ line. spec.IsBegun given.now (option_copied given.now.exec) (spec.pairs_of given.now) line.items) }
+    ensures refused { IfErr result (λ why. ((why ≡ BadLine) × spec.HasBoth (option_copied given.now.exec) (spec.pairs_of given.now)) ⊎ spec.IsUnspelled why) }
+{
+    match given.exec {
+        None => core_line(alloc, given.pairs, given.escapes),
+        Some(name) if given.pairs.is_empty() => valued_line(
+            alloc,
+            b"begin exec 0 ",
+            name,
+            given.escapes,
+        ),
+        Some(_) => Err(Refusal::BadLine),
+    }
+}
+
+// The label of the case that is stored, where one is asked for. It is read as the line `label` of a script has it, and what no
+// line can say is refused before anything is stored.
+fn label_of(alloc: Global, given: &GivenStore<'_, '_>) -> Result<Option<ArrayVec<u8, 64>>, Refusal>
+    ensures labelled { IfOk result (λ label. spec.IsLabelled given.now.escapes (option_copied given.now.label) label) }
+    ensures refused { IfErr result (λ why. ((why ≡ BadLine) × spec.IsNoLabel given.now.escapes (option_copied given.now.label)) ⊎ spec.IsUnspelled why) }
+{
+    let Some(text) = given.label else {
+        return Ok(None);
+    };
+    let line = valued_line(alloc, b"label 1 ", text, given.escapes)?;
+    match parse_question(&line) {
+        Some(Question::Call(Call::Label { label, .. })) => Ok(Some(label)),
+        _ => Err(Refusal::BadLine),
+    }
+}
