@@ -23,8 +23,7 @@ i32_field d p = cast_signed w32 (field d p 4)
 abbrev pub status_fault : List ℕ → Option NoteField
 status_fault d = if length d == 376 then None else Some DescSize
 
--- elf_prstatus: si_signo i32 0, si_code i32 4, si_errno i32 8, pr_cursig i16 12, pr_sigpend u64 16, pr_sighold u64 24,
--- pr_pid i32 32, pr_ppid i32 36, pr_pgrp i32 40, pr_sid i32 44, four timevals, 32 words of registers at 112, pr_fpvalid i32 368
+-- The fields of elf_prstatus at their places in bytes. Between pr_sid and pr_reg are the four times, which nobody reads.
 abbrev pub status_signo : List ℕ → ℤ
 status_signo d = i32_field d 0
 
@@ -65,8 +64,8 @@ pr_fpvalid d = i32_field d 368
 abbrev pub psinfo_fault : List ℕ → Option NoteField
 psinfo_fault d = if length d == 136 then None else Some DescSize
 
--- elf_prpsinfo: pr_state u8 0, pr_sname u8 1, pr_zomb u8 2, pr_nice i8 3, pr_flag u64 8, pr_uid u32 16, pr_gid u32 20,
--- pr_pid i32 24, pr_ppid i32 28, pr_pgrp i32 32, pr_sid i32 36, pr_fname 16 bytes at 40, pr_psargs 80 bytes at 56
+-- The fields of elf_prpsinfo at their places in bytes. The first three, of one byte each, are the state, its letter and the
+-- zombie's mark.
 abbrev pub pr_nice : List ℕ → ℤ
 pr_nice d = i8_field d 3
 

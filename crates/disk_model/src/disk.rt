@@ -1,9 +1,9 @@
 // A disk: a row of bytes of fixed length that is read, written and synced.
 //
-// The disk model. An honest disk reads back what was last written. Between two successful syncs each written range may
-// hold any bytes after a crash, the range of a write in progress too; bytes outside the written ranges stay. After a
-// successful sync a crash leaves what a read gives. After a failed write its range may also read as any bytes; a failed
-// sync makes nothing stable; a failed read changes nothing.
+// What a disk is taken to do. As long as it is honest, a read gives the bytes that the latest write put there, and it changes
+// nothing, also where it fails. A write, while it goes on and after it, leaves its range open: if the machine stops before a later
+// sync has succeeded, anything may stand in that range, and if the write failed a read may find anything in it at once. The
+// rest of the disk is as it was. A sync that succeeds settles what reads give; one that fails settles nothing.
 ghost use Rattle.std.specs.Prelude.{◌≡◌, ◌+◌, ◌^◌, ◌<◌, ◌≤◌, ℕ, Bool, List, length, IsTrue, OnOk, IsOkUnless};
 ghost use Rattle.disk_model.specs.Places.{AreBytes, part, overwritten, SameOutside};
 ghost use Rattle.disk_model.specs.Disk.{Follows, Only, Elapses, HasCause};

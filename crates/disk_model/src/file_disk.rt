@@ -7,7 +7,7 @@ ghost use Rattle.disk_model.specs.Gathers.{place_of, bytes_of};
 use crate::gathered::Gathered;
 use crate::raw_file::RawFile;
 use crate::{Disk, DiskFault, Gathering};
-use diagnostics::{Onlooker, Trouble};
+use diagnostics::Trouble;
 use std::alloc::{AllocError, Global};
 use std::fs::{File, Permissions, TryLockError};
 use std::io;
@@ -26,7 +26,7 @@ const ZEROS: usize = 65_536;
 /// Why a disk in a file could not be made or opened.
 #[derive(Clone, Copy, Debug, PartialEq, Eq, Error)]
 pub enum FileFault {
-    /// There is a file of that name already. Only `create` and `create_sparse` answer this.
+    /// There is a file of that name already. Only `create` answers this.
     #[error("the file exists")]
     Exists,
     /// There is no file of that name, or no such folder.
@@ -41,7 +41,7 @@ pub enum FileFault {
     /// It is neither a regular file nor a folder: a pipe, a socket or a device.
     #[error("it is no regular file")]
     Special,
-    /// The file system is full. Only `create` and `create_sparse` answer this.
+    /// The file system is full. Only `create` answers this.
     #[error("the file system is full")]
     Full,
     /// The file could not be made or opened for reading and writing, for another reason.
@@ -50,7 +50,7 @@ pub enum FileFault {
     /// Its permissions or its length could not be set or asked, or its zeros not be written.
     #[error("the file's length could not be set or asked")]
     Length,
-    /// Its bytes or its name could not be made durable. Only `create` and `create_sparse` answer this.
+    /// Its bytes or its name could not be made durable. Only `create` answers this.
     #[error("the file could not be synced")]
     Sync,
     /// It has no lock here.
@@ -115,28 +115,8 @@ impl FileDisk {
     /// system has room for all of its bytes from then on, and made durable, and so is its name in its folder. Only its
     /// owner may read and write it.
     ///
-    /// A file that was made stays where a later step fails. It never waits. The onlooker is told of each write.
-    pub fn create<R: AllocGlobal + Files<File = File>, W: Onlooker>(
-        rt: &R,
-        path: &str,
-        length: u64,
-        onlooker: &mut W,
-    ) -> Result<FileDisk, FileFault>
-        ensures size { IfOk result (λ d. ⟦<FileDisk as Disk>⟧.size d ≡ length) }
-        ensures uncounted { IfOk result (λ d. ⟦<FileDisk as Disk>⟧.failures d ≡ 0) }
-    {
-        let disk = made(rt, path, length)?;
-        onlooker.begin("makes room", Some(length));
-        let written = write_zeros(disk.file(), length, onlooker);
-        onlooker.end();
-        written?;
-        make_durable(rt, path, disk.file())?;
-        Ok(disk)
-    }
-
-    /// The same, but its zeros are not written: the file system finds room for a byte when it is written first, and may
-    /// be full by then.
-    pub fn create_sparse<R: AllocGlobal + Files<File = File>>(
+    /// A file that was made stays where a later step fails. It never waits.
+    pub fn create<R: AllocGlobal + Files<File = File>>(
         rt: &R,
         path: &str,
         length: u64,
@@ -145,6 +125,7 @@ impl FileDisk {
         ensures uncounted { IfOk result (λ d. ⟦<FileDisk as Disk>⟧.failures d ≡ 0) }
     {
         let disk = made(rt, path, length)?;
+        write_zeros(disk.file(), length)?;
         make_durable(rt, path, disk.file())?;
         Ok(disk)
     }
@@ -264,7 +245,7 @@ fn asked_for(tried: Result<(), TryLockError>) -> Result<(), FileFault> {
 }
 
 // Writes zeros over the whole file.
-fn write_zeros<W: Onlooker>(file: &File, length: u64, onlooker: &mut W) -> Result<(), FileFault> {
+fn write_zeros(file: &File, length: u64) -> Result<(), FileFault> {
     let zeros = [0u8; ZEROS];
     let mut at = 0u64;
     while at < length {
@@ -276,7 +257,6 @@ fn write_zeros<W: Onlooker>(file: &File, length: u64, onlooker: &mut W) -> Resul
         };
         file.write_all_at(&zeros[..size], at)?;
         at += size as u64;
-        onlooker.advance(size as u64);
     }
     Ok(())
 }
