@@ -39,7 +39,8 @@ _corekeep() {
     info) options="--threads --json --no-wait --help" ;;
     ask) options="--text --plain --json --no-wait --help" ;;
     look) options="--no-wait --help" ;;
-    extract | salvage) options="--no-wait --quiet --help" ;;
+    extract) options="--no-wait --quiet --help" ;;
+    salvage) options="--half --data --no-wait --quiet --help" ;;
     check) options="--images --no-wait --help" ;;
     copy) options="--half --data --layout --sparse --no-wait --quiet --help" ;;
     resize) options="--half --data --sparse --drop-rights --no-wait --quiet --help" ;;

@@ -1,1 +1,2 @@
 mod CheckLemmas
+mod GapLemmas

@@ -1,2 +1,4 @@
 pub mod Texts
+pub mod Gaps
+pub mod GapLaws
 pub mod Checking

@@ -12,6 +12,8 @@ use Rattle.journal_layout.specs.declared.entry.Kind.TheVariants.{Core, Exec}
 use Rattle.journal_layout.specs.declared.shape.Half.{Half}
 use Rattle.journal_layout.specs.declared.shape.Half.TheVariants.{A, B}
 use Rattle.script_streams.specs.Replies.{no_reply}
+use Rattle.archive_checks.specs.declared.gaps.Gap.{Gap}
+use Rattle.archive_checks.specs.declared.gaps.Gap.TheVariants.{Generation, Newer}
 use Rattle.archive_checks.specs.declared.lines.Place.{Place}
 use Rattle.archive_checks.specs.declared.lines.Place.TheVariants.{Superblock, Header, Record}
 
@@ -64,3 +66,14 @@ place_words (Record half number) = codes ", record " ++ (decimal number ++ (code
 -- the block, and in words what it is a part of
 abbrev pub place_line : ℕ → Place → List ℕ
 place_line block place = codes "damaged in block " ++ (decimal block ++ place_words place)
+
+-- what it may mean if no writing leaves the halves of a journal so
+abbrev pub doubt : List ℕ
+doubt = codes ": a header may be damaged, and the half that is not taken the right one: docs/OPERATIONS.md has a recipe for that, under 'The care of an archive'"
+
+-- a generation that isn't the one before the other, or a next number that is greater than the taken one
+abbrev pub gap_line : Gap → List ℕ
+gap_line (Generation half is wants) =
+    codes "the generation of half " ++ (half_name half ++ (codes " of the journal is " ++ (decimal is ++ (codes ", not " ++ (decimal wants ++ doubt)))))
+gap_line (Newer half next taken) =
+    codes "by half " ++ (half_name half ++ (codes " of the journal, which is not taken, the next case is " ++ (decimal next ++ (codes ", by the other " ++ (decimal taken ++ doubt)))))

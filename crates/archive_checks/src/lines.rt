@@ -1,14 +1,19 @@
 // What `check` tells of an archive, line by line.
 ghost use Rattle.std.specs.Prelude.{◌≡◌};
 ghost use Rattle.script_streams.specs.Replies.{TellsText, telling};
-ghost use Rattle.archive_checks.specs.Texts.{core_words, cut_by, exec_words, facts_lines, half_name, image_line, place_line, place_words};
+ghost use Rattle.archive_checks.specs.Texts.{core_words, cut_by, exec_words, facts_lines, half_name, image_line, gap_line, place_line, place_words};
 
+use crate::gaps::Gap;
 use core_length::whole_length;
 use elf_view::{Elf, Want};
 use image_replies::{CoreImage, tell_core_fault, tell_elf_fault};
 use intake::Space;
 use journal_layout::{Half, Kind};
 use script_streams::{Output, Reply};
+
+// What it may mean if no writing leaves the halves of a journal so.
+const DOUBT: &[u8] =
+    b": a header may be damaged, and the half that is not taken the right one: docs/OPERATIONS.md has a recipe for that, under 'The care of an archive'";
 
 /// Where the first faulty field of an archive is.
 #[derive(Clone, Copy)]
@@ -120,6 +125,32 @@ fn tell_part<O: Output>(reply: &mut Reply<'_, O>, place: Place)
             reply.tell(b" of half ");
             reply.tell(half_word(half));
             reply.tell(b" of the journal\n");
+        }
+    }
+}
+
+/// Tells in words what the two halves of a journal say of one another. The line is not ended.
+pub fn tell_gap<O: Output>(reply: &mut Reply<'_, O>, gap: Gap)
+    ensures { TellsText (telling O.Output reply.old reply.new) (gap_line gap) }
+{
+    match gap {
+        Gap::Generation { half, is, wants } => {
+            reply.tell(b"the generation of half ");
+            reply.tell(half_word(half));
+            reply.tell(b" of the journal is ");
+            reply.tell_decimal(u128::from(is));
+            reply.tell(b", not ");
+            reply.tell_decimal(u128::from(wants));
+            reply.tell(DOUBT);
+        }
+        Gap::Newer { half, next, taken } => {
+            reply.tell(b"by half ");
+            reply.tell(half_word(half));
+            reply.tell(b" of the journal, which is not taken, the next case is ");
+            reply.tell_decimal(u128::from(next));
+            reply.tell(b", by the other ");
+            reply.tell_decimal(u128::from(taken));
+            reply.tell(DOUBT);
         }
     }
 }

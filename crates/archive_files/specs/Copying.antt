@@ -1,5 +1,5 @@
 -- Archives that are copied onto new disks, and how that is told.
-use Rattle.std.specs.Prelude.{◌≡◌, Result, Ok, Err}
+use Rattle.std.specs.Prelude.{◌≡◌, ℕ, ◌+◌, nat_lt, if◌then◌else◌, Option, None, Some, Result, Ok, Err}
 use Rattle.archive_care.specs.Copied.{CopyCall}
 use Rattle.archive_care.specs.declared.copying.CopyWish.{CopyWish}
 use Rattle.archive_care.specs.declared.faults.CopyFault.{CopyFault}
@@ -27,3 +27,10 @@ copy_told (Err fault) = Err (copy_refusal fault)
 abbrev pub CopiesDisk : {D N : Type 0} → disk.Ghosts D → disk.Ghosts N → CopyWish → D → N → Result (Unit {0}) Refusal → D → N → Type 0
 CopiesDisk g h wanted from onto r from' onto' =
     (done : Result (Unit {0}) CopyFault) × CopyCall g h wanted from from' onto onto' done × (r ≡ copy_told done)
+
+-- What is tried after a copy was refused so: halves of one block more, if the records of the cases leave no room in a half and no size of a
+-- half is asked for.
+abbrev pub larger_wish : Option ℕ → CopyWish → Refusal → Option CopyWish
+larger_wish None wish (Call archive.JournalFull) =
+    if nat_lt wish.shape.half_blocks 4096 then Some (record wish { shape = record wish.shape { half_blocks = wish.shape.half_blocks + 1 } }) else None
+larger_wish half wish refusal = None

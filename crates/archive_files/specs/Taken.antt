@@ -1,5 +1,6 @@
 -- What is done over the archive on a disk that was taken from its file, or why it was not taken.
 use Rattle.std.specs.Prelude.{◌≡◌, ℕ, List, Option, Some, None, Result, Ok, Err}
+use Rattle.case_journal.specs.Viewing.{OnlyReads}
 use Rattle.disk_model.specs.declared.disk.Disk as disk
 use Rattle.disk_model.specs.declared.file_disk.FileFault.{FileFault}
 use Rattle.archive_files.specs.declared.failures.Failure.{Failure}
@@ -26,3 +27,9 @@ abbrev pub RefusesTaken : {D : Type 0} → disk.Ghosts D → ℕ → FileFault �
 RefusesTaken {D} g limit fault (Ok before) r left =
     (after : D) × (looked : Result (Unit {0}) Refusal) × (left ≡ Some after) × LooksOnDisk g limit before looked after × (r ≡ refused_after looked fault)
 RefusesTaken g limit fault (Err refusal) r left = (r ≡ Err (Refused refusal)) × (left ≡ None)
+
+-- The disk that was taken, if one was, is only read; and what was told instead stays.
+abbrev pub OnlyReadsTaken : {D : Type 0} → disk.Ghosts D → Result D Refusal → Result D Refusal → Type 0
+OnlyReadsTaken g (Ok before) (Ok after) = OnlyReads g before after
+OnlyReadsTaken g (Ok before) (Err refusal) = ⊥
+OnlyReadsTaken g (Err refusal) new = new ≡ Err refusal

@@ -1,7 +1,8 @@
 // Archives, copied into new files.
 use crate::archive_path::ArchivePath;
 use crate::archives::{Access, disk_to_change, make_file, take_disk, take_file, tell_trouble};
-use crate::copy_over::copy_disk;
+use crate::collected::Collected;
+use crate::copy_over::{copy_disk, larger_wish};
 use crate::failures::{Danger, FileWord, Refusal};
 use crate::folders::shared_among;
 use crate::over_disk::look_over;
@@ -11,6 +12,7 @@ use archive_checks::shape_on;
 use diagnostics::Onlooker;
 use disk_model::{FileDisk, FileFault};
 use journal_layout::Shape;
+use script_streams::Reply;
 use shown_progress::CountedDisk;
 use std::alloc::Global;
 use std::fs;
@@ -45,19 +47,20 @@ struct Copied {
 }
 
 /// Copies the archive in a file into a new file, which has its name only once it is whole and durable: until then it is called
-/// NEW.part. The archive's lock is shared meanwhile with others that only look.
+/// NEW.part. The archive's lock is shared meanwhile with others that only look. If its halves are larger than asked for, that is noted.
 pub fn copy_archive_file<R: AllocGlobal + Files<File = File>, W: Onlooker>(
     rt: &R,
     place: ArchivePath<'_>,
     new: &str,
     wanted: CopyWords,
+    note: &mut Collected,
     onlooker: &mut W,
 ) -> Result<(), Refusal> {
     let from = take_disk(rt, place, Access::Looking)?;
     let part = part_of(rt.alloc(), new)?;
     clear(rt, new, &part).map_err(|fault| Refusal::File(FileWord::New, fault))?;
     // The locks of both files are kept until the new one has its name.
-    let copy = copy_part(rt, from, &part, wanted, onlooker)?;
+    let copy = copy_part(rt, from, &part, wanted, note, onlooker)?;
     let named = give_name(rt, new, &part, &copy.file);
     drop(copy);
     named.map_err(|fault| fault.refusal(FileWord::New))
@@ -70,6 +73,7 @@ pub fn resize_archive_file<R: AllocGlobal + Files<File = File>, W: Onlooker>(
     rt: &R,
     place: ArchivePath<'_>,
     wanted: CopyWords,
+    note: &mut Collected,
     onlooker: &mut W,
 ) -> Result<(), Refusal> {
     let path = fs::canonicalize(rt, place.path).map_err(|error| refused(FileFault::from(error)))?;
@@ -83,7 +87,7 @@ pub fn resize_archive_file<R: AllocGlobal + Files<File = File>, W: Onlooker>(
     let part = part_of(rt.alloc(), path)?;
     clear_part(rt, &part).map_err(refused)?;
     let from = disk_beside(rt.alloc(), &old).map_err(refused)?;
-    let copy = copy_part(rt, from, &part, wanted, onlooker)?;
+    let copy = copy_part(rt, from, &part, wanted, note, onlooker)?;
     let placed = take_place(rt, path, &part, &old, &copy.file);
     drop(copy);
     placed.map_err(|fault| fault.refusal(FileWord::Archive))
@@ -109,12 +113,14 @@ fn disk_beside(alloc: Global, file: &File) -> Result<FileDisk, FileFault> {
     disk_to_change(alloc, file.try_clone()?)
 }
 
-// Copies the archive on a disk into a new file of this name. A copy that fails leaves no file.
+// Copies the archive on a disk into a new file of this name. A copy that fails leaves no file. If the records of its cases leave no room in
+// a half, it is tried again with larger ones, unless a size is asked for, and that is noted.
 fn copy_part<R: AllocGlobal + Files<File = File>, W: Onlooker>(
     rt: &R,
     from: FileDisk,
     part: &str,
     wanted: CopyWords,
+    note: &mut Collected,
     onlooker: &mut W,
 ) -> Result<Copied, Refusal> {
     let (looked, from) = look_over(rt.alloc(), from, 0);
@@ -124,14 +130,60 @@ fn copy_part<R: AllocGlobal + Files<File = File>, W: Onlooker>(
         return Err(Refusal::File(FileWord::Archive, FileFault::Settle));
     };
     let wish = wish_of(wanted, shape);
-    let length = wish.shape.length()?;
-    let (file, onto) = make_file(rt, part, length, wanted.is_sparse, onlooker)?;
-    let (copied, from, onto) = copy_counted(rt.alloc(), from, onto, wish, onlooker);
-    if copied.is_err() {
-        remove_part(rt, part, &file);
+    let (refusal, from) = match copy_into(rt, from, part, wish, wanted.is_sparse, onlooker) {
+        Ok(copied) => return Ok(copied),
+        Err(refused) => refused,
+    };
+    let Some(larger) = larger_wish(wanted.half_blocks, wish, refusal) else {
+        return Err(refusal);
+    };
+    match copy_into(rt, from, part, larger, wanted.is_sparse, onlooker) {
+        Ok(copied) => {
+            note_larger(larger.shape, note);
+            Ok(copied)
+        }
+        Err((refusal, _)) => Err(refusal),
     }
-    copied?;
-    Ok(Copied { from, onto, file })
+}
+
+// Notes that a new archive has larger halves than the old one. A second note is a line of its own.
+fn note_larger(shape: Shape, note: &mut Collected) {
+    let is_second = !note.text().is_empty();
+    let mut reply = Reply::new(note);
+    if is_second {
+        reply.tell(b"\ncorekeep: ");
+    }
+    reply.tell(b"the new archive has halves of ");
+    reply.tell_decimal(u128::from(shape.half_blocks));
+    reply.tell(b" blocks, one more than ARCHIVE: the records of the cases fill a half");
+    let _ = reply.finish();
+}
+
+// Copies the archive on a disk into a new file, as a wish says, or hands its disk back. A copy that fails leaves no file.
+fn copy_into<R: AllocGlobal + Files<File = File>, W: Onlooker>(
+    rt: &R,
+    from: FileDisk,
+    part: &str,
+    wish: CopyWish,
+    is_sparse: bool,
+    onlooker: &mut W,
+) -> Result<Copied, (Refusal, FileDisk)> {
+    let length = match wish.shape.length() {
+        Ok(length) => length,
+        Err(fault) => return Err((Refusal::from(fault), from)),
+    };
+    let (file, onto) = match make_file(rt, part, length, is_sparse, onlooker) {
+        Ok(made) => made,
+        Err(refusal) => return Err((refusal, from)),
+    };
+    let (copied, from, onto) = copy_counted(rt.alloc(), from, onto, wish, onlooker);
+    match copied {
+        Ok(()) => Ok(Copied { from, onto, file }),
+        Err(refusal) => {
+            remove_part(rt, part, &file);
+            Err((refusal, from))
+        }
+    }
 }
 
 // Copies the archive on a disk onto a new disk, and gives both disks.

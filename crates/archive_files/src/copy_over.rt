@@ -1,12 +1,16 @@
 // What `copy` and `resize` do over disks.
 ghost use Rattle.std.specs.Prelude.{◌≡◌};
-ghost use Rattle.archive_files.specs.Copying.{CopiesDisk, copy_refusal};
+ghost use Rattle.archive_files.specs.Copying.{CopiesDisk, copy_refusal, larger_wish};
 
 use crate::failures::Refusal;
 use archive_care::{CopyFault, CopyWish, copy_archive};
 use disk_model::Disk;
 use intake::ArchiveFault;
+use journal_layout::Shape;
 use std::alloc::Global;
+
+// The most blocks of a half of a journal.
+const MOST_HALF_BLOCKS: u32 = 4096;
 
 /// Copies the archive on a disk onto a new disk, and hands both back.
 pub fn copy_disk<D: Disk, N: Disk>(
@@ -37,5 +41,33 @@ pub(crate) fn copy_refusal(fault: CopyFault) -> Refusal
         CopyFault::OutOfMemory => Refusal::OutOfMemory,
         CopyFault::Source => Refusal::Call(ArchiveFault::Disk),
         CopyFault::Target => Refusal::Disk,
+    }
+}
+
+/// What is tried after a copy was refused so: halves of one block more, if the records of the cases and the gate after them leave no room and
+/// no size of a half is asked for.
+pub(crate) fn larger_wish(
+    half_asked: Option<u32>,
+    wish: CopyWish,
+    refusal: Refusal,
+) -> Option<CopyWish>
+    ensures { result ≡ larger_wish half_asked wish refusal }
+{
+    let CopyWish {
+        shape,
+        keeps_labels,
+    } = wish;
+    match refusal {
+        Refusal::Call(ArchiveFault::JournalFull)
+            if half_asked.is_none() && shape.half_blocks < MOST_HALF_BLOCKS => {
+            Some(CopyWish {
+                shape: Shape {
+                    half_blocks: shape.half_blocks + 1,
+                    data_blocks: shape.data_blocks,
+                },
+                keeps_labels,
+            })
+        }
+        _ => None,
     }
 }

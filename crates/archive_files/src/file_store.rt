@@ -1,6 +1,6 @@
 // A file as a case of an archive.
 ghost use Rattle.std.specs.Prelude.{◌≡◌};
-ghost use Rattle.archive_files.specs.Taken.{StoresTaken, RefusesTaken, refused_after};
+ghost use Rattle.archive_files.specs.Taken.{OnlyReadsTaken, RefusesTaken, StoresTaken, refused_after};
 
 use crate::archive_path::ArchivePath;
 use crate::archives::{Access, take_disk, tell_trouble};
@@ -133,7 +133,9 @@ fn length_of(file: &File) -> Option<u64> {
 }
 
 // How many bytes an archive's data may take, if a disk was taken and its superblock tells.
-fn room_in<D: Disk>(taken: &mut Result<D, Refusal>) -> Option<u64> {
+fn room_in<D: Disk>(taken: &mut Result<D, Refusal>) -> Option<u64>
+    ensures quiet { OnlyReadsTaken D.Disk taken.old taken.new }
+{
     let Ok(disk) = taken else {
         return None;
     };

@@ -1,6 +1,6 @@
 -- What the words of `store` and of `handle` ask for.
 use Rattle.std.specs.Prelude.{◌≡◌, ◌⊎◌, ℕ, ◌==◌, nat_lt, Bool, true, false, List, [], ◌∷◌, ◌++◌, length, map, Option, None, Some, is_some, Result, Ok, Err, codes, if◌then◌else◌}
-use Rattle.std.specs.List.{before_first, position_or_len}
+use Rattle.std.specs.List.{after_first, before_first, flat_map, position_or_len}
 use Rattle.std.specs.Borrow.{Bor}
 use Rattle.std.specs.Option.{option_copied, unwrap_or}
 use Rattle.arrayvec.specs.ArrayVec.{ArrayVec}
@@ -10,6 +10,7 @@ use Rattle.archive_files.specs.declared.failures.WordPart.{WordPart}
 use Rattle.archive_files.specs.declared.failures.Refusal.TheVariants.{BadLine, NotUtf8, OutOfMemory}
 use Rattle.archive_files.specs.declared.storing.StoreRequest.{StoreRequest}
 use Rattle.archive_files.specs.declared.storing.StoreWords.{StoreWords}
+use Rattle.command_words.specs.RawWords.{bytes_meant}
 use Rattle.core_handler.specs.Fronts.{named_by}
 use Rattle.core_handler.specs.Requesting.{policy_within}
 use Rattle.core_handler.specs.declared.handling.HandleWords.{HandleWords}
@@ -20,6 +21,7 @@ use Rattle.retention.specs.declared.Policy.{Policy}
 use Rattle.script_lines.specs.Commands.{label_bytes}
 use Rattle.script_lines.specs.Said.{Said, said, label_of, begin_core}
 use Rattle.script_words.specs.Number.{number_of}
+use Rattle.script_words.specs.Printing.{shown_byte}
 use Rattle.stream_names.specs.Commands.{stream_found}
 use Rattle.command_line.specs.declared.store_words.GivenStore.{GivenStore}
 use Rattle.command_line.specs.declared.handle_words.GivenHandle.{GivenHandle}
@@ -29,9 +31,13 @@ use Rattle.command_line.specs.declared.named_words.NamedWords as named
 
 -- ---- How a line of a script has the words.
 
--- A text as a line has it: as it is, unless its bytes are escaped. What they are then is in no clause.
+-- the bytes of a text, each as a script prints it: \xHH, if it doesn't print
+abbrev pub shown_text : List ℕ → List ℕ
+shown_text text = flat_map shown_byte (bytes_meant text)
+
+-- a text as a line has it: as it is, unless its bytes are escaped
 abbrev pub IsSpelled : Bool → List ℕ → List ℕ → Type 0
-IsSpelled true text spelled = Unit {0}
+IsSpelled true text spelled = spelled ≡ shown_text text
 IsSpelled false text spelled = spelled ≡ text
 
 abbrev pub is_equals : ℕ → Bool
@@ -46,7 +52,7 @@ abbrev pub IsPair : Bool → List ℕ → List ℕ → Type 0
 IsPair false pair spelled = spelled ≡ pair
 IsPair true pair spelled =
     ((has_equals pair ≡ false) × (spelled ≡ pair))
-    ⊎ ((has_equals pair ≡ true) × (value : List ℕ) × (spelled ≡ before_first is_equals pair ++ 61 ∷ value))
+    ⊎ ((has_equals pair ≡ true) × (spelled ≡ before_first is_equals pair ++ 61 ∷ shown_text (after_first is_equals pair)))
 
 -- A line with these pairs behind it, in their order, a space before each.
 abbrev pub IsJoined : Bool → List ℕ → List (List ℕ) → List ℕ → Type 0

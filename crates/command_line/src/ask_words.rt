@@ -1,4 +1,12 @@
 // What the words of `ask` ask for.
+ghost use Rattle.std.specs.Prelude.{◌≡◌, ◌⊎◌, ℕ, None, List, codes, IfErr, IfOk, map};
+ghost use Rattle.std.specs.Borrow.{Bor};
+ghost use Rattle.archive_files.specs.declared.failures.Refusal.TheVariants.{NoLine};
+ghost use Rattle.command_words.specs.Lines.{joined};
+ghost use Rattle.command_words.specs.Words.{text_in};
+ghost use Rattle.command_line.specs.Asking as asking;
+ghost use Rattle.command_line.specs.Requesting.{IsUnspelled};
+
 use crate::asked::{Asked, checked};
 use archive_files::{ArchivePath, Refusal};
 use case_listing::{foreseen_by, names_a_case};
@@ -6,7 +14,6 @@ use command_words::{Given, digits_of, line_of, usage_told};
 use line_help::rows_of;
 use script_lines::{Question, parse_question};
 use std::alloc::{AllocError, Global};
-use std::str;
 
 // The most bytes of a line of a script.
 const LONGEST_LINE: usize = 1024;
@@ -33,39 +40,79 @@ pub(crate) enum Form {
 pub(crate) struct AskedLine<'a> {
     words: Vec<&'a str>,
     // The last word of the line, if its bytes are said as a text: their digits.
-    digits: Option<Vec<u8>>,
+    digits: Option<String>,
     pub(crate) form: Form,
 }
 
 impl AskedLine<'_> {
     // The words of the line.
-    pub(crate) fn words(&self, alloc: Global) -> Result<Vec<&str>, AllocError> {
+    pub(crate) fn words(&self, alloc: Global) -> Result<Vec<&str>, AllocError>
+        ensures { IfOk result (λ words. map (λ word. word.now) words.items ≡ asking.words_of self.now) }
+    {
         let mut words = Vec::new(alloc);
         for word in &self.words {
             words.push(*word)?;
         }
         if let Some(digits) = &self.digits {
-            words.push(str::from_utf8(digits).unwrap_or(""))?;
+            words.push(digits.as_str())?;
         }
         Ok(words)
     }
 
     // What the line asks, if it has a number for the case. If it has none its second word names a case.
-    fn question(&self, alloc: Global) -> Result<Option<Question>, Refusal> {
-        for word in &self.words {
-            checked(word)?;
-        }
-        let words = self.words(alloc)?;
-        let line = line_of(alloc, &words)?;
+    fn question(&self, alloc: Global) -> Result<Option<Question>, Refusal>
+        ensures asked { IfOk result (asking.IsAsked (joined (asking.words_of self.now))) }
+        ensures refused { IfErr result (asking.IsNoQuestion (joined (asking.words_of self.now))) }
+    {
+        check_all(&self.words)?;
+        let line = self.line(alloc)?;
         if line.len() > LONGEST_LINE {
             return Err(Refusal::LineTooLong);
         }
         match parse_question(&line) {
             Some(question) => Ok(Some(question)),
-            None if names_a_case(alloc, &words)? => Ok(None),
-            None => Err(Refusal::NoLine(usage_told(first_of(&self.words)))),
+            None => self.named_case(alloc),
         }
     }
+
+    // The line.
+    fn line(&self, alloc: Global) -> Result<Vec<u8>, Refusal>
+        ensures same { IfOk result (λ line. line.items ≡ joined (asking.words_of self.now)) }
+        ensures refused { IfErr result IsUnspelled }
+    {
+        let Ok(words) = self.words(alloc) else {
+            return Err(Refusal::OutOfMemory);
+        };
+        match line_of(alloc, &words) {
+            Ok(line) => Ok(line),
+            Err(_) => Err(Refusal::OutOfMemory),
+        }
+    }
+
+    // No question, if the second word names a case.
+    fn named_case(&self, alloc: Global) -> Result<Option<Question>, Refusal>
+        ensures none { IfOk result (λ question. question ≡ None) }
+        ensures refused { IfErr result (λ why. ((words : Bor (List ℕ)) × (why ≡ NoLine words)) ⊎ IsUnspelled why) }
+    {
+        let Ok(words) = self.words(alloc) else {
+            return Err(Refusal::OutOfMemory);
+        };
+        match names_a_case(alloc, &words) {
+            Ok(true) => Ok(None),
+            Ok(false) => Err(Refusal::NoLine(usage_told(first_of(&self.words)))),
+            Err(_) => Err(Refusal::OutOfMemory),
+        }
+    }
+}
+
+// Each of them has to be text.
+fn check_all(words: &[&str]) -> Result<(), Refusal>
+    ensures refused { IfErr result IsUnspelled }
+{
+    for word in words {
+        checked(word)?;
+    }
+    Ok(())
 }
 
 // What the words of `ask` ask for.
@@ -73,18 +120,16 @@ pub(crate) fn ask_words<'a>(
     alloc: Global,
     given: &Given<'a>,
     archive: ArchivePath<'a>,
-) -> Result<Asked<'a>, Refusal> {
+) -> Result<Asked<'a>, Refusal>
+    ensures asked { IfOk result (asking.IsAsk given.now archive.entry) }
+{
     let words = given.words.as_slice();
     let form = form_of(given);
     if let Some(policy) = foreseen_by(alloc, words)? {
         refuse_forms(given, form)?;
         return Ok(Asked::WouldRetire { archive, policy });
     }
-    let line = AskedLine {
-        words: words.to_vec(alloc)?,
-        digits: digits_said(alloc, given)?,
-        form,
-    };
+    let line = line_said(alloc, given)?;
     let question = line.question(alloc)?;
     if form == Form::Rows && rows_of(first_of(words)).is_empty() {
         return Err(Refusal::NoLine(ROWS));
@@ -93,6 +138,17 @@ pub(crate) fn ask_words<'a>(
         archive,
         line,
         question,
+    })
+}
+
+// The line, and how its reply is told.
+fn line_said<'a>(alloc: Global, given: &Given<'a>) -> Result<AskedLine<'a>, Refusal>
+    ensures { IfOk result (asking.IsLine given.now) }
+{
+    Ok(AskedLine {
+        words: given.words.to_vec(alloc)?,
+        digits: digits_said(alloc, given)?,
+        form: form_of(given),
     })
 }
 
@@ -107,7 +163,9 @@ fn refuse_forms(given: &Given<'_>, form: Form) -> Result<(), Refusal> {
     }
 }
 
-fn form_of(given: &Given<'_>) -> Form {
+fn form_of(given: &Given<'_>) -> Form
+    ensures { result ≡ asking.form_said given.now }
+{
     if given.flag("json") {
         Form::Rows
     } else if given.flag("plain") {
@@ -118,7 +176,9 @@ fn form_of(given: &Given<'_>) -> Form {
 }
 
 // The digits of the text that `find` looks for, if one is said.
-fn digits_said(alloc: Global, given: &Given<'_>) -> Result<Option<Vec<u8>>, Refusal> {
+fn digits_said(alloc: Global, given: &Given<'_>) -> Result<Option<String>, Refusal>
+    ensures { IfOk result (λ digits. asking.digits_behind digits ≡ asking.digits_meant (text_in given.now (codes "text"))) }
+{
     let Some(text) = given.text("text") else {
         return Ok(None);
     };

@@ -1,8 +1,11 @@
 // What the words ask for.
-ghost use Rattle.std.specs.Prelude.{◌≡◌, None, Some, IfOk, IfErr, OnOk};
+ghost use Rattle.std.specs.Prelude.{◌≡◌, None, Some, IfOk, IfErr, OnOk, map, string_bytes};
 ghost use Rattle.core_handler.specs.Fronts.{named_by};
 ghost use Rattle.name_template.specs.Template.{template_fault};
 ghost use Rattle.name_template.specs.declared.template.TemplateFault.{TemplateFault};
+ghost use Rattle.std.specs.Option.{option_copied};
+ghost use Rattle.command_words.specs.Words.{text_in};
+ghost use Rattle.command_line.specs.Asking as asking;
 ghost use Rattle.command_line.specs.Requesting.{IsUnspelled};
 
 use crate::ask_words::{AskedLine, ask_words};
@@ -10,7 +13,9 @@ use crate::endings::Ending;
 use crate::handle_words::{GivenHandle, handle_words};
 use crate::list_words::list_words;
 use crate::store_words::{GivenStore, store_words};
-use archive_files::{ArchivePath, CopyWords, NewArchive, Refusal, StoreRequest, WordPart};
+use archive_files::{
+    ArchivePath, CopyWords, NewArchive, Refusal, Salvaged, ShapeWish, StoreRequest, WordPart,
+};
 use case_info::InfoWords;
 use case_listing::ListWords;
 use command_words::{Given, is_text};
@@ -101,7 +106,7 @@ pub(crate) enum Asked<'a> {
     // The cases of a damaged archive in a new file.
     Salvage {
         archive: ArchivePath<'a>,
-        new: &'a str,
+        new: Salvaged<'a>,
     },
     // Nothing.
     Nothing,
@@ -113,7 +118,8 @@ impl<'a> Asked<'a> {
         match self {
             Asked::Format { archive, .. } => Some(*archive),
             Asked::Extract { file, .. } => *file,
-            Asked::Copy { new, .. } | Asked::Salvage { new, .. } => Some(*new),
+            Asked::Copy { new, .. } => Some(*new),
+            Asked::Salvage { new, .. } => Some(new.path),
             Asked::Resize { archive, .. } => Some(archive.path),
             _ => None,
         }
@@ -133,13 +139,17 @@ pub(crate) struct SessionWords<'a> {
 pub(crate) fn read_words<'a>(
     alloc: Global,
     words: &'a [String],
-) -> Result<(Asked<'a>, bool), Ending> {
+) -> Result<(Asked<'a>, bool), Ending>
+    ensures { IfOk result (asking.AreAsked (map string_bytes words.now)) }
+{
     let given = Given::read(alloc, words)?;
     Ok((asked_of(alloc, &given)?, given.flag("quiet")))
 }
 
 // What the words of a command ask for.
-fn asked_of<'a>(alloc: Global, given: &Given<'a>) -> Result<Asked<'a>, Refusal> {
+fn asked_of<'a>(alloc: Global, given: &Given<'a>) -> Result<Asked<'a>, Refusal>
+    ensures { IfOk result (asking.IsAskedBy given.now) }
+{
     match given.command {
         "format" => format_words(given),
         "memory" => Ok(Asked::Memory {
@@ -159,7 +169,9 @@ fn over_archive<'a>(
     alloc: Global,
     given: &Given<'a>,
     archive: ArchivePath<'a>,
-) -> Result<Asked<'a>, Refusal> {
+) -> Result<Asked<'a>, Refusal>
+    ensures { IfOk result (asking.IsOver given.now archive.entry) }
+{
     match given.command {
         "run" => Ok(Asked::Run {
             archive,
@@ -203,13 +215,19 @@ fn over_archive<'a>(
         }),
         "salvage" => Ok(Asked::Salvage {
             archive,
-            new: text_of(given, "new")?,
+            new: Salvaged {
+                path: text_of(given, "new")?,
+                wish: wish_of(given),
+            },
         }),
         _ => Ok(Asked::Nothing),
     }
 }
 
-fn format_words<'a>(given: &Given<'a>) -> Result<Asked<'a>, Refusal> {
+fn format_words<'a>(given: &Given<'a>) -> Result<Asked<'a>, Refusal>
+    ensures asked { IfOk result (asking.IsFormat given.now) }
+    ensures refused { IfErr result IsUnspelled }
+{
     Ok(Asked::Format {
         archive: text_of(given, "archive")?,
         wanted: NewArchive {
@@ -220,10 +238,22 @@ fn format_words<'a>(given: &Given<'a>) -> Result<Asked<'a>, Refusal> {
     })
 }
 
-fn copy_of(given: &Given<'_>) -> CopyWords {
+// What is known of the shape of a damaged archive.
+fn wish_of(given: &Given<'_>) -> ShapeWish
+    ensures wish { asking.IsWish given.now result }
+{
+    ShapeWish {
+        half_blocks: given.small_number("half"),
+        data_blocks: given.small_number("data"),
+    }
+}
+
+fn copy_of(given: &Given<'_>) -> CopyWords
+    ensures { asking.IsCopy given.now result }
+{
     CopyWords {
-        half_blocks: given.number("half"),
-        data_blocks: given.number("data"),
+        half_blocks: given.small_number("half"),
+        data_blocks: given.small_number("data"),
         keeps_labels: keeps_labels(given),
         is_sparse: given.flag("sparse"),
         drops_rights: given.flag("drop-rights"),
@@ -231,17 +261,28 @@ fn copy_of(given: &Given<'_>) -> CopyWords {
 }
 
 // Whether the archive that is made is of the version that keeps labels.
-fn keeps_labels(given: &Given<'_>) -> bool {
-    given.number::<u32>("layout") == Some(2)
+fn keeps_labels(given: &Given<'_>) -> bool
+    ensures { result ≡ asking.labels_said given.now }
+{
+    match given.number("layout") {
+        Some(version) => version == 2,
+        None => false,
+    }
 }
 
 // The text of a word that has to be there.
-fn text_of<'a>(given: &Given<'a>, name: &str) -> Result<&'a str, Refusal> {
+fn text_of<'a>(given: &Given<'a>, name: &str) -> Result<&'a str, Refusal>
+    ensures same { IfOk result (λ text. text.now ≡ asking.text_said given.now name.now) }
+    ensures refused { IfErr result IsUnspelled }
+{
     checked(given.text(name).unwrap_or(""))
 }
 
 // The text of a word that may be left out.
-pub(crate) fn text_if<'a>(given: &Given<'a>, name: &str) -> Result<Option<&'a str>, Refusal> {
+pub(crate) fn text_if<'a>(given: &Given<'a>, name: &str) -> Result<Option<&'a str>, Refusal>
+    ensures same { IfOk result (λ text. option_copied text ≡ text_in given.now name.now) }
+    ensures refused { IfErr result IsUnspelled }
+{
     match given.text(name) {
         Some(word) => Ok(Some(checked(word)?)),
         None => Ok(None),
@@ -267,25 +308,33 @@ pub(crate) fn checked_part<'a>(word: &'a str, part: WordPart) -> Result<&'a str,
     }
 }
 
-fn place_of<'a>(given: &Given<'a>) -> Result<ArchivePath<'a>, Refusal> {
+fn place_of<'a>(given: &Given<'a>) -> Result<ArchivePath<'a>, Refusal>
+    ensures place { IfOk result (asking.IsPlace given.now) }
+    ensures refused { IfErr result IsUnspelled }
+{
     Ok(ArchivePath {
         path: text_of(given, "archive")?,
         waits: !given.flag("no-wait"),
     })
 }
 
-fn shape_of(given: &Given<'_>) -> Shape {
+fn shape_of(given: &Given<'_>) -> Shape
+    ensures { asking.IsShape given.now result }
+{
     Shape {
-        half_blocks: given.number::<u32>("half").unwrap_or(0),
-        data_blocks: given.number::<u32>("data").unwrap_or(0),
+        half_blocks: given.small_number("half").unwrap_or(0),
+        data_blocks: given.small_number("data").unwrap_or(0),
     }
 }
 
-fn settings_of<'a>(given: &Given<'a>) -> Result<SessionWords<'a>, Refusal> {
+fn settings_of<'a>(given: &Given<'a>) -> Result<SessionWords<'a>, Refusal>
+    ensures settings { IfOk result (asking.AreSettings given.now) }
+    ensures refused { IfErr result IsUnspelled }
+{
     Ok(SessionWords {
         template: text_of(given, "template")?,
         uses_pid: given.flag("uses-pid"),
-        limit: given.number::<u64>("limit").unwrap_or(0),
+        limit: given.number("limit").unwrap_or(0),
     })
 }
 

@@ -2,7 +2,7 @@
 ghost use Rattle.std.specs.Prelude.{◌≡◌, ℕ, true, List, ◌∷◌, ◌++◌, map, codes, IfOk, IfErr};
 ghost use Rattle.archive_files.specs.declared.failures.Refusal.TheVariants.{OutOfMemory};
 ghost use Rattle.script_lines.specs.Said.{said};
-ghost use Rattle.command_line.specs.Requesting.{IsSpelled, IsPair, IsJoined, IsUnspelled, HasTaken, begins_core};
+ghost use Rattle.command_line.specs.Requesting.{IsSpelled, IsPair, IsJoined, IsUnspelled, HasTaken, begins_core, shown_text};
 
 use crate::asked::{checked, checked_part};
 use archive_files::{Refusal, WordPart};
@@ -131,6 +131,7 @@ fn spelled(alloc: Global, value: &str, escapes: bool) -> Result<Vec<u8>, Refusal
 
 // A text with the bytes that the line's grammar does not take as themselves escaped.
 fn escaped(alloc: Global, value: &str) -> Result<Vec<u8>, Refusal>
+    ensures shown { IfOk result (λ text. text.items ≡ shown_text value.now) }
     ensures refused { IfErr result (λ why. why ≡ OutOfMemory) }
 {
     let mut text = Vec::new(alloc);

@@ -8,12 +8,12 @@ use journal_layout::Kind;
 
 // What these words ask for.
 pub(crate) fn list_words<'a>(given: &Given<'a>) -> Result<ListWords<'a>, Refusal> {
-    let last = given.number::<u64>("last");
+    let last = given.number("last");
     Ok(ListWords {
         wanted: Wanted {
             kind: given.text("kind").map(kind_said).transpose()?,
             name: text_said(given, "name")?,
-            pid: given.number::<u64>("pid").map(pid_said).transpose()?,
+            pid: given.number("pid").map(pid_said).transpose()?,
             signal: given.text("signal").map(signal_said).transpose()?,
             since: None,
             until: None,

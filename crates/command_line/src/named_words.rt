@@ -1,6 +1,7 @@
 // Words that are told apart by their names.
-ghost use Rattle.std.specs.Prelude.{ℕ, Bool, List, Option};
+ghost use Rattle.std.specs.Prelude.{◌≡◌, ℕ, Bool, List, Option, unwrap_or};
 ghost use Rattle.std.specs.Option.{option_copied};
+ghost use Rattle.command_words.specs.Words.{flag_in, number_in, text_in};
 
 use command_words::Given;
 
@@ -29,13 +30,13 @@ pub(crate) trait NamedWords<'a> {
         ensures { counts self.now name.now result };
 }
 
-// No clause says what clap found under a name.
+// What is given under a name.
 impl<'a> NamedWords<'a> for Given<'a> {
-    ghost stands = { λ words name value. Unit {0} };
+    ghost stands = { λ words name value. value ≡ text_in words name };
 
-    ghost stated = { λ words name is_there. Unit {0} };
+    ghost stated = { λ words name is_there. is_there ≡ flag_in words name };
 
-    ghost counts = { λ words name number. Unit {0} };
+    ghost counts = { λ words name number. number ≡ unwrap_or (number_in words name) 0 };
 
     fn word(&self, name: &str) -> Option<&'a str> {
         self.text(name)
@@ -46,6 +47,6 @@ impl<'a> NamedWords<'a> for Given<'a> {
     }
 
     fn count(&self, name: &str) -> u64 {
-        self.number::<u64>(name).unwrap_or(0)
+        self.number(name).unwrap_or(0)
     }
 }

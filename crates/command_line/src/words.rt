@@ -1,14 +1,14 @@
 // The program: what its words ask for, and the status that it ends with.
-ghost use Rattle.std.specs.Prelude.{◌≡◌, ◌≤◌, []};
-ghost use Rattle.command_words.specs.Notes.{IsQuietButForANote, IsQuietButForSomeNote, subject};
+ghost use Rattle.std.specs.Prelude.{◌≡◌, ◌≤◌, false};
+ghost use Rattle.command_words.specs.Notes.{IsQuietButForANote, IsQuietButForSomeNote, may_note, subject};
 
 use crate::ask_words::{AskedLine, Form};
 use crate::asked::{Asked, SessionWords, naming_of, read_words};
 use crate::endings::{Clues, Ending, tell_ending};
 use archive_files::{
     Access, ArchivePath, Collected, Failure, Refusal, ask, check, copy_archive_file, look,
-    make_archive, names_output, note_shared, resize_archive_file, run_over, salvage, take_disk,
-    tell_trouble,
+    make_archive, names_output, note_gap, note_shared, resize_archive_file, run_over, salvage,
+    take_disk, tell_trouble,
 };
 use case_info::{ask_rows, info_archive, info_case};
 use case_listing::{ask_case, ask_plain, extract_case, list, would_retire};
@@ -101,10 +101,10 @@ pub fn run_words<
     E: Output,
     W: Onlooker,
 >(rt: &R, words: &[String], input: &mut I, output: &mut O, errors: &mut E, onlooker: &mut W) -> u8
-    // The status. If it is 0, nothing was written to the errors, but for a note on the case that `store` stored, or on the folder in which
-    // a file was made.
+    // The status. If it is 0, nothing was written to the errors, but for a note on the case that `store` stored, on the archive that `check`
+    // or `handle` looked at, or on a file that was made.
     ensures most { result ≤ 2 }
-    ensures quiet { result ≡ 0 → subject words.now ≡ [] → errors.new ≡ errors.old }
+    ensures quiet { result ≡ 0 → may_note words.now ≡ false → errors.new ≡ errors.old }
     ensures note { result ≡ 0 → IsQuietButForANote (subject words.now) E.Output errors.old errors.new }
 {
     let mut watched = Watched::new(output);
@@ -155,7 +155,7 @@ fn answer_words<R: AllocGlobal + Files<File = File> + Clock, I: Read, O: Output,
                 listener.hush();
             }
             if let Some(path) = asked.made() {
-                note_shared(rt, path, note);
+                note_shared(rt, path, folder_word(words), note);
             }
             Ok(answer_asked(rt, asked, input, output, note, listener)?)
         }
@@ -205,7 +205,7 @@ fn answer_asked<R: AllocGlobal + Files<File = File> + Clock, I: Read, O: Output,
             case,
             file,
         } => extract_case(rt, archive, case, file, output, onlooker),
-        Asked::Handle(words) => handle(rt, words, input, output, onlooker),
+        Asked::Handle(words) => handle(rt, words, input, output, note, onlooker),
         Asked::List { archive, wanted } => list(rt, archive, wanted, output),
         Asked::Ask {
             archive,
@@ -227,18 +227,40 @@ fn answer_asked<R: AllocGlobal + Files<File = File> + Clock, I: Read, O: Output,
         Asked::Check {
             archive,
             sees_images,
-        } => check(rt, archive, sees_images, output, onlooker),
+        } => check_noting(rt, archive, sees_images, output, note, onlooker),
         Asked::Copy {
             archive,
             new,
             wanted,
-        } => Ok(copy_archive_file(rt, archive, new, wanted, onlooker)?),
+        } => Ok(copy_archive_file(rt, archive, new, wanted, note, onlooker)?),
         Asked::Resize { archive, wanted } => {
-            Ok(resize_archive_file(rt, archive, wanted, onlooker)?)
+            Ok(resize_archive_file(rt, archive, wanted, note, onlooker)?)
         }
         Asked::Salvage { archive, new } => salvage(rt, archive, new, output, onlooker),
         Asked::Nothing => Ok(()),
     }
+}
+
+// What a note on a folder begins with: a note of a copy says itself what it is on.
+fn folder_word(words: &[String]) -> &'static [u8] {
+    match words.first() {
+        Some(word) if word.as_str() == "copy" || word.as_str() == "resize" => b"folder ",
+        _ => b"",
+    }
+}
+
+// Tells whether the archive in a file is sound, and notes what its halves say of one another.
+fn check_noting<R: AllocGlobal + Files<File = File>, O: Output, W: Onlooker>(
+    rt: &R,
+    place: ArchivePath<'_>,
+    sees_images: bool,
+    output: &mut O,
+    note: &mut Collected,
+    onlooker: &mut W,
+) -> Result<(), Failure> {
+    let checked = check(rt, place, sees_images, output, onlooker);
+    note_gap(rt, place, note);
+    checked
 }
 
 // Answers one line. Without a question its second word names a case.

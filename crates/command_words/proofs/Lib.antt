@@ -1,1 +1,4 @@
+mod CommandLemmas
+mod MadeLemmas
 mod NoteLemmas
+mod RuleLemmas

@@ -1,5 +1,5 @@
 -- What is told to people though the program ends with status 0.
-use Rattle.std.specs.Prelude.{◌≡◌, ◌⊎◌, ℕ, Bool, true, List, [], ◌∷◌, ◌++◌, String, codes, string_bytes, if◌then◌else◌}
+use Rattle.std.specs.Prelude.{◌≡◌, ◌⊎◌, ℕ, Bool, true, false, List, [], ◌∷◌, ◌++◌, String, codes, string_bytes, if◌then◌else◌}
 use Rattle.std.specs.Io.KnownBytes.{Appends}
 use Rattle.std.specs.Str.{bytes_eq}
 use Rattle.script_streams.specs.declared.streams.Output as output
@@ -12,16 +12,36 @@ makes_file command =
     if bytes_eq command (codes "copy") then true else
     if bytes_eq command (codes "resize") then true else bytes_eq command (codes "salvage")
 
--- what a note is on if there is one, by the command: the case that is stored, or the folder of the file that is made
+-- the command looks whether an archive is sound
+abbrev pub checks_archive : List ℕ → Bool
+checks_archive command = if bytes_eq command (codes "check") then true else bytes_eq command (codes "handle")
+
+-- the command makes an archive of another one
+abbrev pub copies_archive : List ℕ → Bool
+copies_archive command = if bytes_eq command (codes "copy") then true else bytes_eq command (codes "resize")
+
+-- what a note is on if there is one, by the command: the case that is stored, the archive that is looked at, or the folder of the file that
+-- is made. A note of a copy begins with what it is on.
 abbrev pub subject_of : List ℕ → List ℕ
 subject_of command =
     if bytes_eq command (codes "store") then codes "case " else
+    if checks_archive command then codes "archive " else
+    if copies_archive command then [] else
     if makes_file command then codes "folder " else []
 
--- nothing is noted of other words
 abbrev pub subject : {Z : Type 0} → List (String Z) → List ℕ
 subject [] = []
 subject (word ∷ words) = subject_of (string_bytes word)
+
+-- nothing is noted of other commands
+abbrev pub may_note_of : List ℕ → Bool
+may_note_of command =
+    if bytes_eq command (codes "store") then true else
+    if checks_archive command then true else makes_file command
+
+abbrev pub may_note : {Z : Type 0} → List (String Z) → Bool
+may_note [] = false
+may_note (word ∷ words) = may_note_of (string_bytes word)
 
 -- the line of a note
 abbrev pub note_line : List ℕ → List ℕ → List ℕ
@@ -32,6 +52,6 @@ abbrev pub IsQuietButForANote : List ℕ → {E : Type 0} → output.Ghosts E �
 IsQuietButForANote on {E} g old new =
     (new ≡ old) ⊎ ((note : List ℕ) × (front : List ℕ) × (rest : List ℕ) × (note_line on note ≡ front ++ rest) × Appends (g.taken old) (g.taken new) front)
 
--- The same, whatever the words are: it is on a case, or on a folder.
+-- The same, whatever the words are.
 abbrev pub IsQuietButForSomeNote : {E : Type 0} → output.Ghosts E → E → E → Type 0
 IsQuietButForSomeNote {E} g old new = (command : List ℕ) × IsQuietButForANote (subject_of command) g old new

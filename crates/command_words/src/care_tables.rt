@@ -36,7 +36,7 @@ pub(crate) static SALVAGE: CommandWords = CommandWords {
     name: "salvage",
     about: "copies the cases of a damaged archive into a new file, and tells of each whether it is whole",
     after_help: None,
-    words: &[ARCHIVE, NEW, NO_WAIT, QUIET],
+    words: &[ARCHIVE, NEW, SHAPE_HALF, SHAPE_DATA, NO_WAIT, QUIET],
 };
 
 // Whether nothing is shown of how far it is.
@@ -82,6 +82,24 @@ const NEW_DATA: Word = Word {
     takes: NEW_BLOCKS,
     default: None,
     help: "data blocks of 4096 bytes of the new archive; as many as there are, if this is left out",
+};
+
+// The blocks in each half of the journal of an archive whose superblock is damaged.
+const SHAPE_HALF: Word = Word {
+    id: "half",
+    shown: "N",
+    takes: NEW_BLOCKS,
+    default: None,
+    help: "blocks of 4096 bytes in each half of the journal, if the archive's superblock or its length says another number; NEW has as many",
+};
+
+// Its data blocks.
+const SHAPE_DATA: Word = Word {
+    id: "data",
+    shown: "N",
+    takes: NEW_BLOCKS,
+    default: None,
+    help: "data blocks of 4096 bytes, if the archive's superblock or its length says another number; NEW has as many",
 };
 
 // The version of a copy's layout.

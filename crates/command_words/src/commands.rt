@@ -1,4 +1,8 @@
 // The commands.
+ghost use Rattle.std.specs.Prelude.{◌≡◌, true, map};
+ghost use Rattle.clap.specs.Simple.{is_simple};
+ghost use Rattle.command_words.specs.Grammar.{grammar};
+
 use crate::ask_tables::ASK;
 use crate::care_tables::{CHECK, COPY, RESIZE, SALVAGE};
 use crate::info_tables::INFO;
@@ -6,7 +10,9 @@ use crate::list_tables::LIST;
 use crate::tables::{CommandWords, EXTRACT, FORMAT, HANDLE, LOOK, MEMORY, RUN, STORE};
 
 // All of them, in the order in which help shows them. What names a table is dear to prove: only this function does.
-pub(crate) fn commands() -> [&'static CommandWords; 14] {
+pub(crate) fn commands() -> [&'static CommandWords; 14]
+    ensures { is_simple (grammar (map (λ command. command.now) result)) ≡ true }
+{
     [
         &FORMAT, &RUN, &STORE, &HANDLE, &LIST, &ASK, &LOOK, &EXTRACT, &MEMORY, &INFO, &CHECK,
         &COPY, &RESIZE, &SALVAGE,

@@ -27,21 +27,21 @@ pub enum Context {
 static SALVAGE_MEANINGS: [Meaning; 3] = [
     Meaning {
         reason: b"NotAnArchive",
-        words: b"the file is no archive, or its superblock is damaged: docs/OPERATIONS.md has a recipe for that, under 'The care of an archive'",
+        words: b"the file is no archive, or its superblock is damaged and nothing else tells its shape: --half N and --data N say how it was made",
     },
     Meaning {
         reason: b"UnknownVersion",
-        words: b"the archive is of a later version of the layout, or the version of a half is damaged: docs/OPERATIONS.md has a recipe for that, under 'The care of an archive'",
+        words: b"the archive is of a later version of the layout, or the version of a half is damaged and nothing tells the shape: --half N and --data N say how the archive was made",
     },
     Meaning {
         reason: b"Damaged",
-        words: b"this byte is damaged, and neither half of the journal opens: docs/OPERATIONS.md has a recipe for a generation, under 'The care of an archive'; else take an older copy of the archive",
+        words: b"this byte is damaged, and neither half of the journal opens: take an older copy of the archive",
     },
 ];
 
 // What the shape in the superblock means to it.
 const SHAPE: &[u8] =
-    b"this byte of the superblock is damaged, or the file is not as long as its superblock says: docs/OPERATIONS.md has a recipe for each, under 'The care of an archive'";
+    b"this byte of the superblock is damaged, or the file is not as long as its superblock says: corekeep salvage ARCHIVE NEW finds the shape, and if it doesn't, --half N and --data N say how the archive was made";
 
 // Those that mean more to `store`, when it names the case.
 static NAME_MEANINGS: [Meaning; 2] = [
@@ -93,7 +93,7 @@ static COPY_MEANINGS: [Meaning; 2] = [
     },
     Meaning {
         reason: b"JournalFull",
-        words: b"the cases take more of the journal than a half has by --half: a larger one, or delete or retire cases before",
+        words: b"the records of the cases have no room in a half by --half: leave --half out, which takes as many blocks as ARCHIVE has or one more, or take a larger one, or delete or retire cases before",
     },
 ];
 

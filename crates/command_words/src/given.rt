@@ -1,9 +1,22 @@
 // The words of a command line, read by the grammar. This is the one place that hands out what `clap` found, as plain values.
+ghost use Rattle.std.specs.Prelude.{◌≡◌, true, IfErr, IfOk, map, string_bytes};
+ghost use Rattle.std.specs.Option.{option_copied};
+ghost use Rattle.clap.specs.Matches.{found_of};
+ghost use Rattle.clap.specs.Walk.{rows_of};
+ghost use Rattle.clap.specs.Takes.{takes};
+ghost use Rattle.clap.specs.Values.{kind_of};
+ghost use Rattle.clap.specs.declared.error.kind.ErrorKind.TheVariants as kind;
+ghost use Rattle.command_words.specs.declared.given.Unread.TheVariants.{OutOfMemory};
+ghost use Rattle.command_words.specs.Grammar.{grammar};
+ghost use Rattle.command_words.specs.Words.{IsFoundBy, IsRead, IsSaidBy, flag_in, found_in, number_in, small_number_in, text_in, without_sign};
+
+use crate::commands::commands;
 use crate::grammar::matches_of;
+use crate::tables::CommandWords;
 use clap::error::ErrorKind;
 use clap::{ArgMatches, Error};
+use script_words::{parse_number, parse_u32};
 use std::alloc::{AllocError, Global};
-use std::str::FromStr;
 
 /// A command, and what stands for its words.
 #[derive(Drop)]
@@ -12,8 +25,8 @@ pub struct Given<'a> {
     pub command: &'a str,
     /// The words that may be there several times: those of a line, or what is known of a core.
     pub words: Vec<&'a str>,
-    // Each word that is there or has a default, by the name that the grammar has for it, and its value.
-    values: Vec<(&'a str, &'a str)>,
+    // What clap found of its words, by the names that the grammar has for them.
+    found: ArgMatches<'a>,
 }
 
 /// Why words give no command.
@@ -33,57 +46,100 @@ impl<'a> Given<'a> {
     /// # Errors
     ///
     /// `Unread` if they give none.
-    pub fn read(alloc: Global, words: &'a [String]) -> Result<Given<'a>, Unread> {
-        match matches_of(alloc, words) {
-            Ok(matches) => match given_in(alloc, &matches) {
-                Ok(given) => Ok(given),
-                Err(AllocError) => Err(Unread::OutOfMemory),
-            },
-            Err(error) => Err(why_unread(alloc, &error)),
-        }
+    pub fn read(alloc: Global, words: &'a [String]) -> Result<Given<'a>, Unread>
+        ensures { IfOk result (IsRead (map string_bytes words.now)) }
+    {
+        read_by(alloc, &commands(), words)
     }
 
     /// The value of a word, if it is there.
-    pub fn text(&self, name: &str) -> Option<&'a str> {
-        for (known, value) in &self.values {
-            if *known == name {
-                return Some(*value);
-            }
-        }
-        None
+    pub fn text(&self, name: &str) -> Option<&'a str>
+        ensures { option_copied result ≡ text_in self.now name.now }
+    {
+        self.found.get_str(name)
     }
 
     /// Whether an option that takes no value is there.
-    pub fn flag(&self, name: &str) -> bool {
-        self.text(name) == Some("true")
+    pub fn flag(&self, name: &str) -> bool
+        ensures { result ≡ flag_in self.now name.now }
+    {
+        match self.text(name) {
+            Some(text) => text == "true",
+            None => false,
+        }
     }
 
-    /// The number that a word is, if it is there. The grammar takes `-0` for some numbers, which is 0.
-    pub fn number<T: FromStr>(&self, name: &str) -> Option<T>
-    where
-        T::Err: Drop,
+    /// The number that a word is, if it is there.
+    pub fn number(&self, name: &str) -> Option<u64>
+        ensures { result ≡ number_in self.now name.now }
     {
-        let text = self.text(name)?;
-        text.strip_prefix('-').unwrap_or(text).parse().ok()
+        parse_number(without_sign(self.text(name)?))
+    }
+
+    /// The number that a word is, if it is there and the number is below 2^32.
+    pub fn small_number(&self, name: &str) -> Option<u32>
+        ensures { result ≡ small_number_in self.now name.now }
+    {
+        parse_u32(without_sign(self.text(name)?))
     }
 }
 
-fn given_in<'a>(alloc: Global, matches: &ArgMatches<'a>) -> Result<Given<'a>, AllocError> {
-    let (command, found) = matches.subcommand().unwrap_or(("", matches));
-    let mut values = Vec::new(alloc);
-    for name in found.ids() {
-        if let Some(value) = found.get_str(name) {
-            values.push((name, value))?;
-        }
+// A number without a sign before it: the grammar takes `+1`, and `-0` for some numbers.
+fn without_sign(text: &str) -> &[u8]
+    ensures { result.now ≡ without_sign text.now }
+{
+    let bytes = text.as_bytes();
+    match bytes.split_first() {
+        Some((b'+' | b'-', rest)) => rest,
+        _ => bytes,
     }
+}
+
+// The command that these words give, of those that these tables have.
+fn read_by<'a>(
+    alloc: Global,
+    commands: &[&CommandWords],
+    words: &'a [String],
+) -> Result<Given<'a>, Unread>
+    ensures said { IfOk result (λ given. IsSaidBy (grammar (map (λ command. command.now) commands.now)) (map string_bytes words.now) given) }
+    ensures unread { IfErr result (λ why. takes (grammar (map (λ command. command.now) commands.now)) (map string_bytes words.now) ≡ true → why ≡ OutOfMemory) }
+{
+    match matches_of(alloc, commands, words) {
+        Ok(matches) => match given_in(alloc, matches) {
+            Ok(given) => Ok(given),
+            Err(AllocError) => Err(Unread::OutOfMemory),
+        },
+        Err(error) => Err(why_unread(alloc, &error)),
+    }
+}
+
+// What clap found of the command that the words name.
+fn given_in<'a>(alloc: Global, matches: ArgMatches<'a>) -> Result<Given<'a>, AllocError>
+    ensures { IfOk result (λ given. IsFoundBy matches.entry given) }
+{
+    let (command, found) = named_in(matches);
+    let words = found.get_strs("words").unwrap_or(&[]).to_vec(alloc)?;
     Ok(Given {
         command,
-        words: found.get_strs("words").unwrap_or(&[]).to_vec(alloc)?,
-        values,
+        words,
+        found,
     })
 }
 
-fn why_unread(alloc: Global, error: &Error) -> Unread {
+// The command that is named, and what was found of its words.
+fn named_in<'a>(matches: ArgMatches<'a>) -> (&'a str, ArgMatches<'a>)
+    ensures { (result.0.now, rows_of (found_of result.1)) ≡ found_in matches.entry }
+{
+    let mut matches = matches;
+    match matches.remove_subcommand() {
+        Some(named) => named,
+        None => ("", matches),
+    }
+}
+
+fn why_unread(alloc: Global, error: &Error) -> Unread
+    ensures { kind_of error.now ≡ kind.OutOfMemory → result ≡ OutOfMemory }
+{
     if error.kind() == ErrorKind::OutOfMemory {
         return Unread::OutOfMemory;
     }

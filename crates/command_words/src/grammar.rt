@@ -1,21 +1,40 @@
 // The grammar of the program's words: what the tables say of them.
-use crate::commands::commands;
+ghost use Rattle.std.specs.Prelude.{◌≡◌, true, IfErr, IfOk, map, string_bytes};
+ghost use Rattle.clap.specs.Simple.{HasMatchesOf, app_of, shape_of};
+ghost use Rattle.clap.specs.Takes.{takes};
+ghost use Rattle.clap.specs.Values.{kind_of};
+ghost use Rattle.clap.specs.declared.error.kind.ErrorKind.TheVariants.{OutOfMemory};
+ghost use Rattle.clap.specs.Walk.{rule_of};
+ghost use Rattle.command_words.specs.Grammar.{action_said, alone, begun, grammar, named_by, program_said, rule_said, shape_said};
+
 use crate::tables::{CommandWords, Takes, Word};
 use clap::builder::ValueParser;
 use clap::{Arg, ArgAction, ArgMatches, Command, Error};
-use std::alloc::Global;
+use std::alloc::{AllocError, Global};
 
 // What these words are by the grammar.
-pub(crate) fn matches_of<'a>(alloc: Global, words: &'a [String]) -> Result<ArgMatches<'a>, Error> {
-    let subcommands = subcommands_of(alloc)?;
+pub(crate) fn matches_of<'a>(
+    alloc: Global,
+    commands: &[&CommandWords],
+    words: &'a [String],
+) -> Result<ArgMatches<'a>, Error>
+    ensures read { IfOk result (HasMatchesOf (grammar (map (λ command. command.now) commands.now)) (map string_bytes words.now)) }
+    ensures passes { IfErr result (λ error. takes (grammar (map (λ command. command.now) commands.now)) (map string_bytes words.now) ≡ true → kind_of error ≡ OutOfMemory) }
+{
+    let subcommands = subcommands_of(alloc, commands)?;
     whole_program(alloc)?
         .subcommands(subcommands)?
         .try_get_matches_from(words)
 }
 
-fn subcommands_of<'a>(alloc: Global) -> Result<Vec<Command<'a>>, Error> {
+fn subcommands_of<'a>(
+    alloc: Global,
+    commands: &[&CommandWords],
+) -> Result<Vec<Command<'a>>, AllocError>
+    ensures { IfOk result (λ made. map shape_of made.items ≡ map (λ command. shape_said command.now) commands.now) }
+{
     let mut subcommands = Vec::new(alloc);
-    for words in commands() {
+    for words in commands {
         subcommands.push(command_of(alloc, words)?)?;
     }
     Ok(subcommands)
@@ -35,7 +54,9 @@ static PROGRAM: CommandWords = CommandWords {
 };
 
 // The program, before its commands.
-fn whole_program<'a>(alloc: Global) -> Result<Command<'a>, Error> {
+fn whole_program<'a>(alloc: Global) -> Result<Command<'a>, AllocError>
+    ensures { IfOk result (λ program. app_of program ≡ alone program_said) }
+{
     Ok(
         command_of(alloc, &PROGRAM)?
             .bin_name("corekeep")?
@@ -46,7 +67,9 @@ fn whole_program<'a>(alloc: Global) -> Result<Command<'a>, Error> {
 }
 
 // A command and its words.
-fn command_of<'a>(alloc: Global, words: &CommandWords) -> Result<Command<'a>, Error> {
+fn command_of<'a>(alloc: Global, words: &CommandWords) -> Result<Command<'a>, AllocError>
+    ensures { IfOk result (λ command. app_of command ≡ alone (shape_said words.now)) }
+{
     let arguments = arguments_of(alloc, words.words)?;
     let command = Command::new(alloc, words.name)
         .about(words.about)
@@ -57,7 +80,9 @@ fn command_of<'a>(alloc: Global, words: &CommandWords) -> Result<Command<'a>, Er
     }
 }
 
-fn arguments_of<'a>(alloc: Global, words: &[Word]) -> Result<Vec<Arg<'a>>, Error> {
+fn arguments_of<'a>(alloc: Global, words: &[Word]) -> Result<Vec<Arg<'a>>, AllocError>
+    ensures { IfOk result (λ made. map rule_of made.items ≡ map rule_said words.now) }
+{
     let mut arguments = Vec::new(alloc);
     for word in words {
         arguments.push(argument(alloc, word)?)?;
@@ -66,10 +91,10 @@ fn arguments_of<'a>(alloc: Global, words: &[Word]) -> Result<Vec<Arg<'a>>, Error
 }
 
 // A word of a command.
-fn argument<'a>(alloc: Global, word: &Word) -> Result<Arg<'a>, Error> {
-    let argument = Arg::new(alloc, word.id)
-        .help(word.help)
-        .action(action_of(word.takes));
+fn argument<'a>(alloc: Global, word: &Word) -> Result<Arg<'a>, AllocError>
+    ensures { IfOk result (λ argument. rule_of argument ≡ rule_said word.now) }
+{
+    let argument = begun(alloc, word);
     match word.takes {
         Takes::Flag => Ok(argument.long(word.id)),
         Takes::FlagWithoutJson => Ok(argument.long(word.id).conflicts_with("json")?),
@@ -94,8 +119,19 @@ fn argument<'a>(alloc: Global, word: &Word) -> Result<Arg<'a>, Error> {
     }
 }
 
+// A word, before it is said how it is known.
+fn begun<'a>(alloc: Global, word: &Word) -> Arg<'a>
+    ensures { rule_of result ≡ begun word.now }
+{
+    Arg::new(alloc, word.id)
+        .help(word.help)
+        .action(action_of(word.takes))
+}
+
 // What its uses do.
-fn action_of(takes: Takes) -> ArgAction {
+fn action_of(takes: Takes) -> ArgAction
+    ensures { result ≡ action_said takes }
+{
     match takes {
         Takes::Flag | Takes::FlagWithoutJson => ArgAction::SetTrue,
         Takes::Words(_) => ArgAction::Append,
@@ -104,7 +140,9 @@ fn action_of(takes: Takes) -> ArgAction {
 }
 
 // A value after its name.
-fn named<'a>(argument: Arg<'a>, word: &Word) -> Arg<'a> {
+fn named<'a>(argument: Arg<'a>, word: &Word) -> Arg<'a>
+    ensures { rule_of result ≡ named_by (rule_of argument.entry) word.now }
+{
     let argument = argument.long(word.id).value_name(word.shown);
     match word.default {
         Some(value) => argument.default_value(value),

@@ -1,19 +1,31 @@
-// What people are told though a command did what was asked: of a case that was stored, and of a folder in which a file was made.
-ghost use Rattle.std.specs.Prelude.{◌≡◌, []};
-ghost use Rattle.command_words.specs.Notes.{IsQuietButForANote, makes_file, subject};
+// What people are told though a command did what was asked: of a case that was stored, of an archive that was looked at, and of a file that
+// was made.
+ghost use Rattle.std.specs.Prelude.{◌≡◌, false};
+ghost use Rattle.command_words.specs.Notes.{IsQuietButForANote, checks_archive, copies_archive, makes_file, may_note, subject};
 
 use script_streams::{Output, Reply};
 
-/// Tells people of a note, if there is one: if the words ask to store a file, what can't be read of the case; if they ask to make a file,
-/// that others may write its folder.
+/// Tells people of a note, if there is one: if the words ask to store a file, what can't be read of the case; if they ask to look at an
+/// archive, that the half of its journal which is taken may be the wrong one; if they ask to make a file, that others may write its folder, or
+/// that a copy is larger.
 pub fn tell_note<E: Output>(words: &[String], note: &[u8], errors: &mut E)
-    ensures quiet { subject words.now ≡ [] → errors.new ≡ errors.old }
+    ensures quiet { may_note words.now ≡ false → errors.new ≡ errors.old }
     ensures note { IsQuietButForANote (subject words.now) E.Output errors.old errors.new }
 {
-    let subject = subject(words);
-    if !subject.is_empty() {
-        tell_note_line(subject, note, errors);
+    if may_note(words) {
+        tell_note_line(subject(words), note, errors);
     }
+}
+
+// Whether anything is noted of these words.
+fn may_note(words: &[String]) -> bool
+    ensures { result ≡ may_note words.now }
+{
+    let Some(word) = words.first() else {
+        return false;
+    };
+    let command = word.as_str();
+    command == "store" || checks_archive(command) || makes_file(command)
 }
 
 // What a note of these words is on.
@@ -25,11 +37,29 @@ fn subject(words: &[String]) -> &'static [u8]
     };
     if word.as_str() == "store" {
         b"case "
+    } else if checks_archive(word.as_str()) {
+        b"archive "
+    } else if copies_archive(word.as_str()) {
+        b""
     } else if makes_file(word.as_str()) {
         b"folder "
     } else {
         b""
     }
+}
+
+// Whether a command looks whether an archive is sound.
+fn checks_archive(command: &str) -> bool
+    ensures { result ≡ checks_archive command.now }
+{
+    command == "check" || command == "handle"
+}
+
+// Whether a command makes an archive of another one.
+fn copies_archive(command: &str) -> bool
+    ensures { result ≡ copies_archive command.now }
+{
+    command == "copy" || command == "resize"
 }
 
 // Whether a command makes a file.

@@ -4,6 +4,11 @@
 // stands for it, U+10FF80 for the byte 0x80 and so on to U+10FFFF for 0xff. Where a word has such a character itself, each
 // byte of the character is kept so. These are the last characters that Unicode has, for private use, so that no two words
 // are kept alike.
+ghost use Rattle.std.specs.Prelude.{◌≡◌, ◌++◌, ◌-◌, None, Some, IfOk, OnOk, if◌then◌else◌};
+ghost use Rattle.std.specs.List.{flat_map};
+ghost use Rattle.script_words.specs.Printing.{shown_byte};
+ghost use Rattle.command_words.specs.RawWords.{bytes_kept, bytes_meant, is_own, is_text};
+
 use script_words::print_byte;
 use std::alloc::{AllocError, Global};
 use std::env::FillError;
@@ -68,7 +73,9 @@ fn stand_in(byte: u8) -> char {
 }
 
 // The byte in whose place a character is.
-fn stood_for(character: char) -> Option<u8> {
+fn stood_for(character: char) -> Option<u8>
+    ensures { result ≡ (if is_own character then None else Some (character - 1113856)) }
+{
     let code = u32::from(character);
     if code < FIRST_STAND_IN {
         return None;
@@ -77,8 +84,15 @@ fn stood_for(character: char) -> Option<u8> {
 }
 
 /// Whether a word was UTF-8.
-pub fn is_text(word: &str) -> bool {
-    !word.chars().any(|character| stood_for(character).is_some())
+pub fn is_text(word: &str) -> bool
+    ensures { result ≡ is_text word.now }
+{
+    for character in word.chars() {
+        if u32::from(character) >= FIRST_STAND_IN {
+            return false;
+        }
+    }
+    true
 }
 
 /// Adds the bytes of a word to a line of a script, each that the line's grammar does not take as itself as \xHH.
@@ -86,31 +100,51 @@ pub fn is_text(word: &str) -> bool {
 /// # Errors
 ///
 /// `AllocError` if there is no memory for them.
-pub fn push_escaped(line: &mut Vec<u8>, word: &str) -> Result<(), AllocError> {
+pub fn push_escaped(line: &mut Vec<u8>, word: &str) -> Result<(), AllocError>
+    ensures { OnOk result (line.new.items ≡ line.old.items ++ flat_map shown_byte (bytes_meant word.now)) }
+{
     for character in word.chars() {
-        let mut buffer = [0u8; 4];
-        match stood_for(character) {
-            Some(byte) => push_spelled(line, &[byte])?,
-            None => push_spelled(line, character.encode_utf8(&mut buffer).as_bytes())?,
-        }
+        push_shown(line, character)?;
+    }
+    Ok(())
+}
+
+fn push_shown(line: &mut Vec<u8>, character: char) -> Result<(), AllocError>
+    ensures { OnOk result (line.new.items ≡ line.old.items ++ flat_map shown_byte (bytes_kept character)) }
+{
+    let mut buffer = [0u8; 4];
+    match stood_for(character) {
+        Some(byte) => push_spelled(line, &[byte])?,
+        None => push_spelled(line, character.encode_utf8(&mut buffer).as_bytes())?,
     }
     Ok(())
 }
 
 // The bytes of a word.
-pub(crate) fn bytes_of(alloc: Global, word: &str) -> Result<Vec<u8>, AllocError> {
+pub(crate) fn bytes_of(alloc: Global, word: &str) -> Result<Vec<u8>, AllocError>
+    ensures { IfOk result (λ bytes. bytes.items ≡ bytes_meant word.now) }
+{
     let mut bytes = Vec::new(alloc);
     for character in word.chars() {
-        let mut buffer = [0u8; 4];
-        match stood_for(character) {
-            Some(byte) => bytes.push(byte)?,
-            None => bytes.extend_from_slice(character.encode_utf8(&mut buffer).as_bytes())?,
-        }
+        push_kept(&mut bytes, character)?;
     }
     Ok(bytes)
 }
 
-fn push_spelled(line: &mut Vec<u8>, bytes: &[u8]) -> Result<(), AllocError> {
+fn push_kept(bytes: &mut Vec<u8>, character: char) -> Result<(), AllocError>
+    ensures { OnOk result (bytes.new.items ≡ bytes.old.items ++ bytes_kept character) }
+{
+    let mut buffer = [0u8; 4];
+    match stood_for(character) {
+        Some(byte) => bytes.push(byte)?,
+        None => bytes.extend_from_slice(character.encode_utf8(&mut buffer).as_bytes())?,
+    }
+    Ok(())
+}
+
+fn push_spelled(line: &mut Vec<u8>, bytes: &[u8]) -> Result<(), AllocError>
+    ensures { OnOk result (line.new.items ≡ line.old.items ++ flat_map shown_byte bytes.now) }
+{
     for byte in bytes {
         line.extend_from_slice(print_byte(*byte).as_slice())?;
     }

@@ -66,7 +66,7 @@ static MEANINGS: [Meaning; 40] = [
     },
     Meaning {
         reason: b"NotAnArchive",
-        words: b"the file is no archive, or its superblock is damaged (docs/OPERATIONS.md, 'The care of an archive')",
+        words: b"the file is no archive, or its superblock is damaged: then corekeep salvage ARCHIVE NEW copies what can be read",
     },
     Meaning {
         reason: b"BadLine",
@@ -82,7 +82,7 @@ static MEANINGS: [Meaning; 40] = [
     },
     Meaning {
         reason: b"UnknownVersion",
-        words: b"the archive is of a later version of the layout, or this byte is damaged (docs/OPERATIONS.md, 'The care of an archive')",
+        words: b"the archive is of a later version of the layout, or this byte is damaged: then corekeep salvage ARCHIVE NEW copies what can be read",
     },
     Meaning {
         reason: b"OldVersion",

@@ -5,8 +5,8 @@ use crate::labels::escaped_label;
 use crate::log::{KERNEL_LOG, Log, LogFault};
 use crate::outcome_lines::words_of;
 use archive_files::{
-    Access, ArchivePath, Failure, Refusal, fault_found, reason_of, shape_on, shared_folder,
-    take_disk,
+    Access, ArchivePath, Collected, Failure, Refusal, fault_found, note_gap, reason_of, shape_on,
+    shared_folder, take_disk,
 };
 use disk_model::Disk;
 use handler_config::{Burst, Config};
@@ -28,6 +28,7 @@ pub(crate) fn check<R: AllocGlobal + Files<File = File>, O: Output>(
     words: &HandleWords<'_>,
     document: &Document,
     output: &mut O,
+    note: &mut Collected,
 ) -> Result<(), Failure> {
     let config = Config::of(&document.value);
     let mut reply = Reply::new(output);
@@ -41,6 +42,9 @@ pub(crate) fn check<R: AllocGlobal + Files<File = File>, O: Output>(
     let are_taken = tell_values(rt, &mut reply, &config, log);
     let is_large = tell_size(rt, &mut reply, &config, words.archive);
     reply.finish()?;
+    if let Some(path) = log.archive {
+        note_gap(rt, ArchivePath { path, waits: true }, note);
+    }
     if is_read && are_known && are_taken && is_large {
         Ok(())
     } else {

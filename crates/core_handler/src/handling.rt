@@ -73,7 +73,7 @@ impl<'a> HandleWords<'a> {
 }
 
 /// Stores a core from the input as a configuration says, and tells its outcome to a log. With `--check` nothing is stored, and what
-/// holds is told on the output.
+/// holds is told on the output, but for what the two halves of the archive's journal say of one another: that is noted.
 ///
 /// # Errors
 ///
@@ -83,6 +83,7 @@ pub fn handle<R: AllocGlobal + Files<File = File> + Clock, I: Read, O: Output, W
     words: HandleWords<'_>,
     input: &mut I,
     output: &mut O,
+    note: &mut Collected,
     onlooker: &mut W,
 ) -> Result<(), Failure> {
     let document = read_document(rt, words.path());
@@ -92,7 +93,7 @@ pub fn handle<R: AllocGlobal + Files<File = File> + Clock, I: Read, O: Output, W
         log: log_of(&config, words.archive),
     };
     if words.is_check {
-        return check(rt, &words, &document, output);
+        return check(rt, &words, &document, output, note);
     }
     let handler = Handler { config, teller };
     tell_faults(rt, &handler, &words, &document);

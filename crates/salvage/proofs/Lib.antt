@@ -1,8 +1,15 @@
+mod AloneLemmas
+mod BlockLemmas
 mod CaseLemmas
 mod DropLemmas
 mod FindLemmas
 mod FrontLemmas
+mod HalfLemmas
+mod MendLemmas
+mod NumberLemmas
 mod PatchLemmas
 mod ReadLemmas
+mod ReadsLemmas
 mod ShutLemmas
 mod SightLemmas
+mod TellLemmas

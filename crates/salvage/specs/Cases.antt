@@ -12,3 +12,8 @@ pub record IsSameImage (c d : Case) : Type 0 where
 -- one of these cases has the number and the image of that one
 abbrev pub HasCase : List Case → Case → Type 0
 HasCase cases c = (d : Case) × (case_numbered c.seq cases ≡ Some d) × IsSameImage c d
+
+-- the same image under the same number
+pub record IsSameCase (c d : Case) : Type 0 where
+  pub seq : c.seq ≡ d.seq
+  pub image : IsSameImage d c

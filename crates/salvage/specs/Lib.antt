@@ -1,3 +1,4 @@
+pub mod Alone
 pub mod Cases
 pub mod Copying
 pub mod FaultLaws
@@ -7,10 +8,16 @@ pub mod Fronts
 pub mod GateLaws
 pub mod Keeping
 pub mod KeptLaws
+pub mod MendLaws
+pub mod Mending
 pub mod Readings
+pub mod Reads
 pub mod Records
 pub mod ShowLaws
 pub mod Showing
 pub mod Shut
+pub mod Telling
 pub mod Texts
+pub mod Told
+pub mod ToldLaws
 pub mod Views

@@ -1,5 +1,5 @@
 -- What is read of an archive after its first fault.
-use Rattle.std.specs.Prelude.{◌≡◌, ◌≢◌, ◌⊎◌, ◌<◌, ◌≤◌, ℕ, List, length, Option, None, Some, Result, Ok, Err}
+use Rattle.std.specs.Prelude.{◌≡◌, ◌≢◌, ◌⊎◌, ◌<◌, ◌≤◌, ℕ, true, List, length, Option, None, Some, Result, Ok, Err}
 use Rattle.disk_model.specs.Places.{part}
 use Rattle.journal_layout.specs.Layout.{data_start}
 use Rattle.journal_layout.specs.Standing.{Standing}
@@ -11,12 +11,15 @@ use Rattle.journal_layout.specs.Case.{Case}
 use Rattle.salvage.specs.Cases.{HasCase}
 use Rattle.salvage.specs.Finding.{HasNoGate, IsShort, SeesArchive}
 use Rattle.salvage.specs.Fronts.{fronted}
-use Rattle.salvage.specs.Records.{AreDrops, HasEachBut}
+use Rattle.salvage.specs.Mending.{AreBelow, blocks_in}
+use Rattle.salvage.specs.Reads.{AreFrom, AreHalvesRead}
+use Rattle.salvage.specs.Records.{AreDrops, AreIndexed, HasEachBut, IsDeleted}
 use Rattle.salvage.specs.Showing.{IsWithin, shown}
 use Rattle.salvage.specs.Shut.{shut_gate}
 use Rattle.salvage.specs.declared.cases_found.Found.{Found}
 use Rattle.salvage.specs.declared.cases_found.More.{More}
 use Rattle.salvage.specs.declared.doubts.Doubts.{Doubts}
+use Rattle.salvage.specs.declared.mending.Mend.{Mend}
 use Rattle.salvage.specs.declared.records.Dropped.{Dropped}
 
 -- A reading of the records of both halves. With other bytes in place of the superblock and the journal, the archive opens. It has each case
@@ -36,6 +39,11 @@ fault_by fault (Some gate) = Some (Damaged gate Gate)
 abbrev pub first_fault : Found → Option OpenFault
 first_fault f = fault_by f.sight.fault f.shut
 
+-- why the archive's own opening is refused, if it is
+abbrev pub reason_by : Option Mend → Option OpenFault → Option OpenFault
+reason_by None fault = fault
+reason_by (Some m) fault = Some m.fault
+
 -- The cases of an archive that are found.
 pub record SeesCases (b : List ℕ) (f : Found) : Type 0 where
   pub sees : SeesArchive b f.sight
@@ -45,6 +53,12 @@ pub record SeesCases (b : List ℕ) (f : Found) : Type 0 where
   pub more : (m : More) → f.more ≡ Some m → IsMore b f.first.standing f.scan.drops.items m
   -- what deletes a case is a record of the archive
   pub drops : AreDrops (part b 0 (data_start f.first.standing.shape)) f.scan.drops.items
+  -- what is told as stored is stored by a record of the archive
+  pub from : AreFrom f.first.standing.shape.data_blocks (part b 0 (data_start f.first.standing.shape)) f.scan.reads.items
+  -- what is looked up of them is all that they name
+  pub indexed : AreIndexed f.scan.drops.items f.scan.dropped
+  -- if something is at fault, what each record of a half says that reads by itself
+  pub reads : first_fault f ≢ None → AreHalvesRead f.first.standing.shape (part b 0 (data_start f.first.standing.shape)) f.scan.reads.items f.scan.drops.items
   -- of an archive that stands, the first damaged gate
   pub shut : (s : Standing) → Stands b s → f.shut ≡ shut_gate b s
   -- and of no other
@@ -71,6 +85,14 @@ abbrev pub IsBelow : Option Doubts → ℕ → Type 0
 IsBelow None seq = ⊥
 IsBelow (Some d) seq = seq < d.bound
 
--- A case is told whole: nothing is at fault, or the case precedes the first fault, and that leaves its number without a doubt.
+-- the shape that is taken is the archive's without a doubt, and the file has all blocks of the case
+abbrev pub IsHeldBy : Option Mend → Case → Type 0
+IsHeldBy None c = Unit {0}
+IsHeldBy (Some m) c = (m.is_sure ≡ true) × AreBelow (blocks_in m.held m.shape) c.blocks
+
+-- A case is told whole: the file has all of it; and nothing is at fault, or the case precedes the first fault, that leaves its number
+-- without a doubt, and no record which reads deletes it.
 abbrev pub IsWholeIn : Found → Case → Type 0
-IsWholeIn f c = (first_fault f ≡ None) ⊎ (HasCase f.first.standing.cases c × IsBelow f.doubts c.seq)
+IsWholeIn f c =
+    IsHeldBy f.mend c
+    × ((first_fault f ≡ None) ⊎ (HasCase f.first.standing.cases c × IsBelow f.doubts c.seq × (AreIndexed f.scan.drops.items f.scan.dropped → IsDeleted f.scan.drops.items c.seq → ⊥)))

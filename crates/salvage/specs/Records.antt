@@ -1,5 +1,8 @@
 -- What records say that read by themselves.
-use Rattle.std.specs.Prelude.{◌≡◌, ◌⊎◌, ℕ, ◌+◌, ◌*◌, List, [], ◌∷◌, length, nat_le, slice_index, if◌then◌else◌}
+use Rattle.std.specs.Prelude.{◌≡◌, ◌⊎◌, ℕ, ◌+◌, ◌*◌, List, [], ◌∷◌, length, nat_le, slice_index, if◌then◌else◌, Option, None, Some}
+use Rattle.std.specs.BTreeMap.{BTreeMap, get}
+use Rattle.std.specs.List.{Contains, slice_get}
+use Rattle.std.specs.Ordering.{nat_cmp}
 use Rattle.journal_layout.specs.Case.{Case}
 use Rattle.journal_layout.specs.Layout.{field}
 use Rattle.salvage.specs.Cases.{HasCase}
@@ -23,6 +26,16 @@ AreDrops bytes (d ∷ rest) = IsDrop bytes d × AreDrops bytes rest
 abbrev pub IsDeleted : List Dropped → ℕ → Type 0
 IsDeleted [] seq = ⊥
 IsDeleted (d ∷ rest) seq = (d.seq ≡ seq) ⊎ IsDeleted rest seq
+
+-- The index has the first record of each number that is named.
+pub record AreIndexed (drops : List Dropped) (index : BTreeMap ℕ ℕ) : Type 0 where
+  pub each : (seq : ℕ) → IsDeleted drops seq → (i : ℕ) × (get nat_cmp index seq ≡ Some i)
+  pub there : (seq i : ℕ) → get nat_cmp index seq ≡ Some i → (d : Dropped) × (slice_get drops i ≡ Some d) × (d.seq ≡ seq)
+
+-- a record at this place deletes the case of this number, if a place is told
+abbrev pub IsDeletedAt : List Dropped → ℕ → Option ℕ → Type 0
+IsDeletedAt drops seq None = Unit {0}
+IsDeletedAt drops seq (Some place) = Contains drops (record { seq = seq; place = place })
 
 -- of each of the second ones, if none of the records deletes it, the first ones have one
 abbrev pub HasEachBut : List Dropped → List Case → List Case → Type 0

@@ -1,5 +1,5 @@
 // Whether a journal has the cases of another.
-ghost use Rattle.std.specs.Prelude.{◌≡◌, IsTrue};
+ghost use Rattle.std.specs.Prelude.{◌≡◌, ◌↔◌, IsTrue};
 ghost use Rattle.journal_layout.specs.Case.{case_of};
 ghost use Rattle.salvage.specs.Cases.{HasCase, IsSameImage};
 
@@ -9,7 +9,7 @@ use journal_layout::Entry;
 
 // Whether two entries say an image of the same process or file.
 fn is_same_origin(one: &Entry, other: &Entry) -> bool
-    ensures { IsTrue result → (case_of other.now).origin ≡ (case_of one.now).origin }
+    ensures { IsTrue result ↔ (case_of other.now).origin ≡ (case_of one.now).origin }
 {
     if one.kind != other.kind {
         return false;
@@ -28,14 +28,14 @@ fn is_same_origin(one: &Entry, other: &Entry) -> bool
 
 // Whether two lists have the same blocks.
 fn are_same_blocks(one: &RunList, other: &RunList) -> bool
-    ensures { IsTrue result → other.now ≡ one.now }
+    ensures { IsTrue result ↔ other.now ≡ one.now }
 {
     one.runs() == other.runs()
 }
 
 /// Whether two entries say the same image, and the same blocks of it.
 pub(crate) fn is_same_image(one: &Entry, other: &Entry) -> bool
-    ensures { IsTrue result → IsSameImage (case_of one.now) (case_of other.now) }
+    ensures { IsTrue result ↔ IsSameImage (case_of one.now) (case_of other.now) }
 {
     if !is_same_origin(one, other) {
         return false;
@@ -48,7 +48,7 @@ pub(crate) fn is_same_image(one: &Entry, other: &Entry) -> bool
 
 /// Whether a journal has a case under its number, with the same facts and the same blocks.
 pub(crate) fn has_case(journal: &Journal, entry: &Entry) -> bool
-    ensures { IsTrue result → HasCase journal.now.standing.cases (case_of entry.now) }
+    ensures { IsTrue result ↔ HasCase journal.now.standing.cases (case_of entry.now) }
 {
     match journal.entry(entry.seq) {
         Some(found) => is_same_image(entry, found),

@@ -1,29 +1,36 @@
 // The cases of a damaged archive: those before the first fault, and those after it.
-ghost use Rattle.std.specs.Prelude.{◌≡◌, ◌≢◌, ◌≤◌, length, IfOk, IsTrue, None, Ok, Some, map};
+ghost use Rattle.std.specs.Prelude.{◌≡◌, ◌≢◌, ◌↔◌, ◌⊎◌, ◌+◌, ◌≤◌, length, true, IfOk, IsTrue, None, Ok, Some, map};
 ghost use Rattle.journal_layout.specs.Case.{case_of};
 ghost use Rattle.case_journal.specs.Viewing.{IsOpenRefusal};
 ghost use Rattle.disk_model.specs.Places.{part};
-ghost use Rattle.journal_layout.specs.Layout.{data_start};
+ghost use Rattle.journal_layout.specs.Layout.{data_start, half_length, half_start};
 ghost use Rattle.journal_layout.specs.Stands.{Stands};
 ghost use Rattle.salvage.specs.Cases.{HasCase};
 ghost use Rattle.salvage.specs.Fronts.{fronted};
-ghost use Rattle.salvage.specs.Readings.{FindsCases, FoundWithin, IsBelow, IsMore, IsWholeIn, cases_by, first_fault};
-ghost use Rattle.salvage.specs.Records.{AreDrops, HasEachBut};
+ghost use Rattle.salvage.specs.Readings.{FindsCases, FoundWithin, IsBelow, IsHeldBy, IsMore, IsWholeIn, cases_by, first_fault, reason_by};
+ghost use Rattle.salvage.specs.Reads.{AreFrom, AreHalvesRead, IsAmong, StayFrom, StayRead};
+ghost use Rattle.salvage.specs.Records.{AreDrops, AreIndexed, HasEachBut, IsDeletedAt};
 ghost use Rattle.salvage.specs.Shut.{IsShutFound};
+ghost use Rattle.salvage.specs.Told.{HasAll, IsAll, copied_cases};
+ghost use Rattle.salvage.specs.declared.cases_found.Loss.{Loss};
 ghost use Rattle.salvage.specs.declared.cases_found.More.{More};
 
 use crate::cases::has_case;
-use crate::choosing::choose;
+use crate::choosing::{choose, is_again, size_chosen};
 use crate::doubts::{Doubts, NO_BOUND, bound_of};
 use crate::finding::{Sight, find_sight, open_shown};
 use crate::fronted::Fronted;
-use crate::fronts::make_front;
+use crate::fronts::{last_of, make_front};
+use crate::mending::Mend;
 use crate::records::{Fate, Read, Scan, Span, number_at};
 use crate::shut::find_shut;
 use crate::source::Source;
 use case_journal::Journal;
 use journal_layout::{Entry, Field, Half, OpenFault, Shape};
 use std::alloc::{AllocError, Global};
+
+// The bytes of a record of the next number.
+const NEXT: usize = 16;
 
 /// A reading of the records of both halves: other bytes in place of the superblock and the journal, and the journal that they say.
 #[derive(Drop)]
@@ -60,6 +67,8 @@ pub struct Found {
     doubts: Option<Doubts>,
     // What is copied in place of the archive's records.
     pub(crate) more: Option<More>,
+    /// What is taken for a damaged superblock, for the header of a half, or for the file's length.
+    pub mend: Option<Mend>,
 }
 
 impl Found {
@@ -75,7 +84,7 @@ impl Found {
 
     /// Whether a case is copied, with the same facts and the same blocks.
     pub(crate) fn has(&self, entry: &Entry) -> bool
-        ensures { IsTrue result → HasCase (cases_by self.now.more self.now.first.standing) (case_of entry.now) }
+        ensures { IsTrue result ↔ HasCase (cases_by self.now.more self.now.first.standing) (case_of entry.now) }
     {
         match &self.more {
             Some(more) => has_case(&more.journal, entry),
@@ -104,7 +113,9 @@ impl Found {
     }
 
     /// Where the record is that deletes a case of this number, if one does that reads.
-    pub(crate) fn deleted_at(&self, seq: u32) -> Option<u64> {
+    pub(crate) fn deleted_at(&self, seq: u32) -> Option<u64>
+        ensures { IsDeletedAt self.now.scan.drops.items seq result }
+    {
         match self.scan.deleting(seq) {
             Some(place) => Some(place as u64),
             None => None,
@@ -113,8 +124,12 @@ impl Found {
 
     /// Whether nothing is at fault, or a case precedes the first fault, and neither that fault nor a record that reads makes it doubtful.
     pub fn is_whole(&self, entry: &Entry) -> bool
-        ensures { IsTrue result → IsWholeIn self.now (case_of entry.now) }
+        ensures whole { IsTrue result → IsWholeIn self.now (case_of entry.now) }
+        ensures sound { first_fault self.now ≡ None → self.now.mend ≡ None → result ≡ true }
     {
+        if !self.is_held(entry) {
+            return false;
+        }
         if self.fault().is_none() {
             return true;
         }
@@ -122,6 +137,27 @@ impl Found {
             return false;
         }
         self.scan.deleting(entry.seq).is_none() && !self.is_contested(entry)
+    }
+
+    // Whether the shape is the archive's without a doubt, and all blocks of a case are in the file.
+    fn is_held(&self, entry: &Entry) -> bool
+        ensures held { IsTrue result → IsHeldBy self.now.mend (case_of entry.now) }
+        ensures own { self.now.mend ≡ None → result ≡ true }
+    {
+        match &self.mend {
+            Some(mend) => mend.is_sure && mend.holds(entry),
+            None => true,
+        }
+    }
+
+    /// Whether a block of a case is behind the end of the file.
+    pub(crate) fn is_cut(&self, entry: &Entry) -> bool
+        ensures { IsTrue result → self.now.mend ≢ None }
+    {
+        match &self.mend {
+            Some(mend) => !mend.holds(entry),
+            None => false,
+        }
     }
 
     // Whether a number is below the first one that makes a case doubtful.
@@ -142,12 +178,31 @@ impl Found {
         }
     }
 
+    // Why the opening of the archive is refused, as it is.
+    fn first_reason(&self) -> Option<OpenFault>
+        ensures { result ≡ reason_by self.now.mend self.now.sight.fault }
+    {
+        match self.mend {
+            Some(mend) => Some(mend.fault),
+            None => self.sight.fault,
+        }
+    }
+
     /// Whether each case that a record stores which reads is copied, and the version of the taken half is known.
-    pub fn is_all(&self) -> bool {
-        if matches!(self.sight.fault, Some(OpenFault::UnknownVersion(_))) {
+    pub fn is_all(&self) -> bool
+        ensures { IsTrue result ↔ IsAll self.now }
+    {
+        if matches!(self.first_reason(), Some(OpenFault::UnknownVersion(_))) {
             return false;
         }
-        for read in &self.scan.reads {
+        self.has_all(&self.scan.reads)
+    }
+
+    // Whether the case of each of these reads is copied.
+    fn has_all(&self, reads: &[Read]) -> bool
+        ensures { IsTrue result ↔ HasAll (copied_cases self.now) reads.now }
+    {
+        for read in reads {
             if !self.has(&read.entry) {
                 return false;
             }
@@ -155,18 +210,28 @@ impl Found {
         true
     }
 
-    /// Why a case is not copied that a record stores; none if it is copied, or if an earlier record stores it too.
-    pub(crate) fn loss(&self, read: &Read) -> Option<Loss> {
+    /// Why the case of a read is not copied; none if it is, or if one of the reads before it has it too.
+    pub(crate) fn loss(&self, before: &[Read], read: &Read) -> Option<Loss>
+        ensures none { result ≡ None → HasCase (copied_cases self.now) (case_of read.now.entry) ⊎ IsAmong before.now (case_of read.now.entry) }
+        ensures some { (loss : Loss) → result ≡ Some loss → HasCase (copied_cases self.now) (case_of read.now.entry) → ⊥ }
+    {
         if self.has(&read.entry) {
             return None;
         }
-        match read.fate {
-            Fate::Same => None,
-            Fate::Number => Some(Loss::Number),
-            Fate::Name => Some(Loss::Name),
-            Fate::Block => Some(Loss::Block),
-            Fate::Copied | Fate::Room => Some(Loss::Room),
+        if is_again(before, read) {
+            return None;
         }
+        Some(loss_of(read.fate))
+    }
+}
+
+// What a case is told to be lost by.
+fn loss_of(fate: Fate) -> Loss {
+    match fate {
+        Fate::Number => Loss::Number,
+        Fate::Name => Loss::Name,
+        Fate::Block => Loss::Block,
+        Fate::Copied | Fate::Same | Fate::Room => Loss::Room,
     }
 }
 
@@ -179,7 +244,8 @@ struct Trouble {
 }
 
 fn trouble_in(sight: Sight, shut: Option<u64>) -> Option<Trouble>
-    ensures { sight.fault ≡ None → shut ≡ None → result ≡ None }
+    ensures sound { sight.fault ≡ None → shut ≡ None → result ≡ None }
+    ensures trouble { result ≡ None → (sight.fault ≡ None) × (shut ≡ None) }
 {
     if let Some(gate) = shut {
         return Some(Trouble {
@@ -207,7 +273,11 @@ fn trouble_in(sight: Sight, shut: Option<u64>) -> Option<Trouble>
 }
 
 // The superblock and the journal of an archive of this shape.
-fn read_front<S: Source>(alloc: Global, source: &S, shape: Shape) -> Result<Vec<u8>, OpenFault>
+pub(crate) fn read_front<S: Source>(
+    alloc: Global,
+    source: &S,
+    shape: Shape,
+) -> Result<Vec<u8>, OpenFault>
     ensures long { IfOk result (λ front. length front.items ≡ data_start shape) }
     ensures within { IfOk result (λ front. length front.items ≤ S.size source.now) }
     ensures bytes { IsTrue (S.is_honest source.now) → IfOk result (λ front. front.items ≡ part (S.seen source.now) 0 (data_start shape)) }
@@ -226,7 +296,10 @@ fn read_front<S: Source>(alloc: Global, source: &S, shape: Shape) -> Result<Vec<
     Ok(front)
 }
 
-fn half_of(shape: Shape, half: Half) -> Span {
+fn half_of(shape: Shape, half: Half) -> Span
+    ensures start { result.start ≡ half_start shape half }
+    ensures end { result.end ≡ half_start shape half + half_length shape }
+{
     let start = shape.half_start(half);
     Span {
         start: start as usize,
@@ -235,9 +308,12 @@ fn half_of(shape: Shape, half: Half) -> Span {
 }
 
 // The records of both halves that read by themselves.
-fn read_halves(alloc: Global, front: &[u8], shape: Shape) -> Result<Scan, OpenFault>
+pub(crate) fn read_halves(alloc: Global, front: &[u8], shape: Shape) -> Result<Scan, OpenFault>
     ensures only { IsOpenRefusal result }
     ensures drops { IfOk result (λ scan. AreDrops front.now scan.drops.items) }
+    ensures indexed { IfOk result (λ scan. AreIndexed scan.drops.items scan.dropped) }
+    ensures from { IfOk result (λ scan. AreFrom shape.data_blocks front.now scan.reads.items) }
+    ensures all { data_start shape ≤ length front.now → IfOk result (λ scan. AreHalvesRead shape front.now scan.reads.items scan.drops.items) }
 {
     let mut scan = Scan::new(alloc);
     scan.read_half(alloc, front, half_of(shape, Half::A), shape.data_blocks)?;
@@ -259,7 +335,7 @@ fn taken_half(shape: Shape, trouble: Trouble) -> Span {
 }
 
 // The generation in the header of a half.
-fn generation_at(front: &[u8], start: usize) -> u64 {
+pub(crate) fn generation_at(front: &[u8], start: usize) -> u64 {
     let low = number_at(front, start.saturating_add(8));
     let high = number_at(front, start.saturating_add(12));
     u64::from(low) + (u64::from(high) << 32)
@@ -304,16 +380,17 @@ fn doubts_of(
 // The number of the next case: no number is given again that a case has which is copied. That of the records which stand counts too, as
 // far as the first fault leaves it without a doubt.
 fn next_of(first: &Journal, bound: u64, reads: &[Read]) -> u64 {
-    let mut next = first.next_seq();
-    if bound > 0 {
-        next = next.min(bound);
-    }
-    for read in reads {
-        if read.fate == Fate::Copied {
-            next = next.max(u64::from(read.entry.seq) + 1);
-        }
-    }
-    next.max(1)
+    let stated = if bound > 0 {
+        first.next_seq().min(bound)
+    } else {
+        first.next_seq()
+    };
+    stated.max(last_of(reads).saturating_add(1))
+}
+
+// Whether the records of the cases that are copied leave room in a half for one of the next number, or it needs none.
+fn has_room(reads: &[Read], next: u64, half: usize) -> bool {
+    next <= last_of(reads).saturating_add(1) || size_chosen(reads) <= half
 }
 
 // The archive that has the cases which are chosen, if it opens.
@@ -379,6 +456,27 @@ fn shut_of<S: Source>(
     find_shut(alloc, source, first)
 }
 
+// Chooses again, if the records of the cases that are chosen leave no room for one of the next number.
+fn choose_smaller(
+    alloc: Global,
+    scan: &mut Scan,
+    first: &Journal,
+    taken: Span,
+    bound: u64,
+) -> Result<(), AllocError>
+    ensures drops { scan.new.drops ≡ scan.old.drops }
+    ensures dropped { scan.new.dropped ≡ scan.old.dropped }
+    ensures stay { StayRead scan.old.reads.items scan.new.reads.items }
+    ensures from { StayFrom scan.old.reads.items scan.new.reads.items }
+{
+    let half = first.shape().half_length() as usize;
+    let next = next_of(first, bound, &scan.reads);
+    if has_room(&scan.reads, next, half) {
+        return Ok(());
+    }
+    choose(alloc, scan, first, taken, half)
+}
+
 // Chooses among the cases that records store, and makes the front that says them.
 fn choose_front(
     alloc: Global,
@@ -390,14 +488,13 @@ fn choose_front(
 ) -> Result<Vec<u8>, AllocError>
     ensures long { IfOk result (λ made. length made.items ≡ length front.now) }
     ensures drops { scan.new.drops ≡ scan.old.drops }
+    ensures dropped { scan.new.dropped ≡ scan.old.dropped }
+    ensures stay { IfOk result (λ made. StayRead scan.old.reads.items scan.new.reads.items) }
+    ensures from { IfOk result (λ made. StayFrom scan.old.reads.items scan.new.reads.items) }
 {
-    choose(
-        alloc,
-        scan,
-        first,
-        taken,
-        first.shape().half_length() as usize,
-    )?;
+    let half = first.shape().half_length() as usize;
+    choose(alloc, scan, first, taken, half.saturating_add(NEXT))?;
+    choose_smaller(alloc, scan, first, taken, bound)?;
     let next = next_of(first, bound, &scan.reads);
     make_front(alloc, front, &scan.reads, first.version(), next)
 }
@@ -411,6 +508,9 @@ fn look_on<S: Source>(
 ) -> Result<(Scan, Doubts, Option<More>), OpenFault>
     ensures within { IfOk result (λ r. (m : More) → r.2 ≡ Some m → length m.front.items ≤ S.size source.now) }
     ensures drops { IsTrue (S.is_honest source.now) → IfOk result (λ r. AreDrops (part (S.seen source.now) 0 (data_start first.now.standing.shape)) r.0.drops.items) }
+    ensures indexed { IfOk result (λ r. AreIndexed r.0.drops.items r.0.dropped) }
+    ensures from { IsTrue (S.is_honest source.now) → IfOk result (λ r. AreFrom first.now.standing.shape.data_blocks (part (S.seen source.now) 0 (data_start first.now.standing.shape)) r.0.reads.items) }
+    ensures all { IsTrue (S.is_honest source.now) → IfOk result (λ r. AreHalvesRead first.now.standing.shape (part (S.seen source.now) 0 (data_start first.now.standing.shape)) r.0.reads.items r.0.drops.items) }
     ensures more { IsTrue (S.is_honest source.now) → IfOk result (λ r. (m : More) → r.2 ≡ Some m → IsMore (S.seen source.now) first.now.standing r.0.drops.items m) }
     ensures only { IsOpenRefusal result }
 {
@@ -447,6 +547,7 @@ pub fn find_cases<S: Source>(alloc: Global, source: &S) -> Result<Found, OpenFau
             scan: Scan::new(alloc),
             doubts: None,
             more: None,
+            mend: None,
         });
     };
     let (scan, doubts, more) = look_on(alloc, source, &first, trouble)?;
@@ -457,5 +558,17 @@ pub fn find_cases<S: Source>(alloc: Global, source: &S) -> Result<Found, OpenFau
         scan,
         doubts: Some(doubts),
         more,
+        mend: None,
     })
+}
+
+/// The same of an archive that is read with another superblock, other headers or another length than its own.
+pub fn find_mended<S: Source>(alloc: Global, source: &S, mend: Mend) -> Result<Found, OpenFault>
+    ensures within { IfOk result (FoundWithin (S.size source.now)) }
+    ensures finds { IsTrue (S.is_honest source.now) → FindsCases (S.seen source.now) result }
+    ensures mend { IfOk result (λ found. found.mend ≡ Some mend) }
+{
+    let mut found = find_cases(alloc, source)?;
+    found.mend = Some(mend);
+    Ok(found)
 }

@@ -1,5 +1,7 @@
 // Which of the cases that records store are copied, where not all go with one another.
-ghost use Rattle.std.specs.Prelude.{◌≡◌};
+ghost use Rattle.std.specs.Prelude.{◌≡◌, IsTrue};
+ghost use Rattle.journal_layout.specs.Case.{case_of};
+ghost use Rattle.salvage.specs.Reads.{IsAmong, StayFrom, StayRead};
 
 use crate::cases::{has_case, is_same_image};
 use crate::records::{Fate, Read, Scan, Span};
@@ -96,6 +98,17 @@ fn size_of(read: &Read) -> usize {
     }
 }
 
+/// The bytes of a half with the records of the cases that are copied, and with one of the next number.
+pub(crate) fn size_chosen(reads: &[Read]) -> usize {
+    let mut size = AROUND;
+    for read in reads {
+        if read.fate == Fate::Copied {
+            size = size.saturating_add(size_of(read));
+        }
+    }
+    size
+}
+
 impl Chosen {
     // What becomes of a case, after those that were chosen before it.
     fn fate_of(&self, reads: &[Read], read: &Read) -> Fate {
@@ -138,19 +151,17 @@ fn rank_of(read: &Read, scan: &Scan, first: &Journal) -> Rank {
     Rank::Lives
 }
 
-// Whether a record before it in the list stores the same case.
-fn is_again(reads: &[Read], index: usize) -> bool {
-    let Some(read) = reads.get(index) else {
-        return false;
-    };
-    for back in 0..index {
-        match reads.get(index - 1 - back) {
-            Some(other) if other.entry.seq == read.entry.seq => {
-                if is_same_image(&other.entry, &read.entry) {
-                    return true;
-                }
-            }
-            _ => return false,
+/// Whether one of the reads before it in the list has the same case.
+pub(crate) fn is_again(before: &[Read], read: &Read) -> bool
+    ensures { IsTrue result → IsAmong before.now (case_of read.now.entry) }
+{
+    for back in 0..before.len() {
+        let other = &before[before.len() - 1 - back];
+        if other.entry.seq != read.entry.seq {
+            return false;
+        }
+        if is_same_image(&read.entry, &other.entry) {
+            return true;
         }
     }
     false
@@ -165,12 +176,15 @@ fn choose_one(
     index: usize,
 ) -> Result<(), AllocError>
     ensures drops { scan.new.drops ≡ scan.old.drops }
+    ensures dropped { scan.new.dropped ≡ scan.old.dropped }
+    ensures stay { StayRead scan.old.reads.items scan.new.reads.items }
+    ensures from { StayFrom scan.old.reads.items scan.new.reads.items }
 {
     if index >= scan.reads.len() {
         return Ok(());
     }
     let read = &scan.reads[index];
-    if rank_of(read, scan, first) != rank || is_again(&scan.reads, index) {
+    if rank_of(read, scan, first) != rank || is_again(&scan.reads[..index], read) {
         return Ok(());
     }
     let fate = chosen.fate_of(&scan.reads, read);
@@ -189,6 +203,9 @@ fn choose_of(
     rank: Rank,
 ) -> Result<(), AllocError>
     ensures drops { scan.new.drops ≡ scan.old.drops }
+    ensures dropped { scan.new.dropped ≡ scan.old.dropped }
+    ensures stay { StayRead scan.old.reads.items scan.new.reads.items }
+    ensures from { StayFrom scan.old.reads.items scan.new.reads.items }
 {
     for index in 0..scan.reads.len() {
         choose_one(chosen, scan, first, rank, index)?;
@@ -214,6 +231,9 @@ pub(crate) fn choose(
     half: usize,
 ) -> Result<(), AllocError>
     ensures drops { scan.new.drops ≡ scan.old.drops }
+    ensures dropped { scan.new.dropped ≡ scan.old.dropped }
+    ensures stay { StayRead scan.old.reads.items scan.new.reads.items }
+    ensures from { StayFrom scan.old.reads.items scan.new.reads.items }
 {
     let mut chosen = Chosen {
         numbers: BTreeMap::new(alloc),

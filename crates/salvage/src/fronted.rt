@@ -29,8 +29,8 @@ impl<'a, S: Source> Fronted<'a, S> {
     }
 }
 
-// Copies the bytes from place `at` on.
-fn copy_part(front: &[u8], at: usize, into: &mut [u8])
+/// Copies the bytes from place `at` on.
+pub(crate) fn copy_part(front: &[u8], at: usize, into: &mut [u8])
     requires { at + length into.old ≤ length front.now }
     ensures { into.new ≡ part front.now at (length into.old) }
 {

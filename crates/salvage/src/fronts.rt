@@ -64,8 +64,20 @@ fn put_cases(front: &mut [u8], bytes: &[u8], reads: &[Read]) -> usize
     at
 }
 
+/// The greatest number of a case that is copied; 0 if none is.
+pub(crate) fn last_of(reads: &[Read]) -> u64 {
+    let mut last = 0u64;
+    for read in reads {
+        if read.fate == Fate::Copied {
+            last = last.max(u64::from(read.entry.seq));
+        }
+    }
+    last
+}
+
 /// Makes the superblock and the journal of an archive that has the cases of `reads` which are copied. `bytes` are those of the archive
-/// up to its data blocks, and `reads` are in the order of their numbers, the greatest first.
+/// up to its data blocks, and `reads` are in the order of their numbers, the greatest first. The next number has a record only if it is
+/// not the one after the last case: that says it already.
 pub(crate) fn make_front(
     alloc: Global,
     bytes: &[u8],
@@ -83,6 +95,8 @@ pub(crate) fn make_front(
     put(&mut front, FIRST + VERSION, &version.to_le_bytes());
     put(&mut front, FIRST + GENERATION, &1u64.to_le_bytes());
     let end = put_cases(&mut front, bytes, reads);
-    put(&mut front, end, &next_record(next));
+    if next > last_of(reads).saturating_add(1) {
+        put(&mut front, end, &next_record(next));
+    }
     Ok(front)
 }

@@ -1,13 +1,16 @@
 // The records of a half that read by themselves, whatever the records before them say.
-ghost use Rattle.std.specs.Prelude.{◌≡◌, ◌+◌, ◌*◌, ◌<◌, ◌≤◌, ◌^◌, [], IfOk, IfSome, IsTrue, length, slice_index};
-ghost use Rattle.std.specs.Prelude.{◌⊎◌};
+ghost use Rattle.std.specs.Prelude.{◌≡◌, ◌↔◌, ◌⊎◌, ℕ, ◌+◌, ◌*◌, ◌<◌, ◌≤◌, ◌^◌, [], ◌∷◌, ◌++◌, IfOk, IfSome, IsTrue, List, None, Ok, OnOk, length, slice_index};
 ghost use Rattle.case_journal.specs.Viewing.{IsOpenRefusal};
-ghost use Rattle.journal_layout.specs.Case.{case_of};
+ghost use Rattle.disk_model.specs.Places.{overwritten};
+ghost use Rattle.journal_layout.specs.Case.{Case, case_of};
+ghost use Rattle.journal_layout.specs.Record.{rounded};
+ghost use Rattle.salvage.specs.Alone.{AreZeros, HasHead, IsOther, IsOtherBody, Reads, StoresCase, alone, between, was_open};
 ghost use Rattle.salvage.specs.Cases.{HasCase};
-ghost use Rattle.salvage.specs.Records.{AreDrops, HasEachBut, IsDeleted, number_of};
+ghost use Rattle.salvage.specs.Reads.{AreAllRead, AreFrom, IsAmong, IsFrom, IsStored, IsTaken, StayFrom, StayNamed, StayRead};
+ghost use Rattle.salvage.specs.Records.{AreDrops, HasEachBut, IsDeleted, IsDeletedAt, AreIndexed, number_of};
 
 use crate::cases::has_case;
-use crate::finding::GATE_OPEN;
+use crate::finding::{GATE_OPEN, not_found};
 use crate::shut::is_shut;
 use byteorder::{ByteOrder, LittleEndian};
 use case_journal::Journal;
@@ -117,13 +120,16 @@ pub(crate) fn number_at(bytes: &[u8], place: usize) -> u32
 }
 
 /// Whether a gate is open, or was before one of its bits changed.
-pub(crate) fn was_open(gate: u8) -> bool {
+pub(crate) fn was_open(gate: u8) -> bool
+    ensures { result ≡ was_open gate }
+{
     gate == GATE_OPEN || is_shut(gate)
 }
 
 /// Puts bytes in their place, if they fit.
 pub(crate) fn put(into: &mut [u8], at: usize, bytes: &[u8])
-    ensures { length into.new ≡ length into.old }
+    ensures long { length into.new ≡ length into.old }
+    ensures there { at + length bytes.now ≤ length into.old → into.new ≡ overwritten into.old at bytes.now }
 {
     if at > into.len() || bytes.len() > into.len() - at {
         return;
@@ -132,38 +138,46 @@ pub(crate) fn put(into: &mut [u8], at: usize, bytes: &[u8])
 }
 
 // So many bytes, rounded up as a record's.
-fn rounded(bytes: usize) -> usize {
-    bytes.div_ceil(STEP).saturating_mul(STEP)
+fn rounded(bytes: usize) -> usize
+    requires { bytes + 15 < 2 ^ 64 }
+    ensures { result ≡ rounded bytes }
+{
+    (bytes + 15) / STEP * STEP
 }
 
-// The length of a Label record with a label of so many bytes; 0 if others than zeros fill it up.
-fn label_length(rest: &[u8], label: usize) -> usize {
-    let length = rounded(label.saturating_add(16));
-    match rest.get(label.saturating_add(16)..length) {
-        Some(padding) if are_zeros(padding) => length,
-        _ => 0,
-    }
-}
-
-fn are_zeros(bytes: &[u8]) -> bool {
-    for byte in bytes {
-        if *byte != 0 {
+/// Whether the bytes from one place to another are zeros.
+pub(crate) fn are_zeros(bytes: &[u8], start: usize, end: usize) -> bool
+    ensures { IsTrue result ↔ AreZeros bytes.now start end }
+{
+    for place in start..end {
+        if byte_at(bytes, place) != 0 {
             return false;
         }
     }
     true
 }
 
+// The length of a Label record with a text of so many bytes; 0 if others than zeros fill it up.
+fn label_length(rest: &[u8], text: usize) -> usize
+    requires { text ≤ 64 }
+    ensures has { 0 < result → (result ≡ rounded (16 + text)) × AreZeros rest.now (16 + text) (rounded (16 + text)) }
+    ensures each { AreZeros rest.now (16 + text) (rounded (16 + text)) → result ≡ rounded (16 + text) }
+{
+    let length = rounded(16 + text);
+    if are_zeros(rest, 16 + text, length) {
+        length
+    } else {
+        0
+    }
+}
+
 // The length that the body of a record wants which is no Store record; 0 if it can't be one.
-fn wanted(rest: &[u8]) -> usize {
+fn wanted(rest: &[u8]) -> usize
+    ensures has { 0 < result → IsOtherBody rest.now result }
+    ensures each { (size : ℕ) → IsOtherBody rest.now size → result ≡ size }
+{
     match byte_at(rest, 1) {
-        DROP if number_at(rest, 8) > 0 => {
-            rounded(
-                (number_at(rest, 8) as usize)
-                    .saturating_mul(4)
-                    .saturating_add(12),
-            )
-        }
+        DROP if number_at(rest, 8) > 0 => rounded(12 + 4 * number_at(rest, 8) as usize),
         PIN if byte_at(rest, 12) <= 1 => STEP,
         NEXT => STEP,
         LABEL if number_at(rest, 12) <= 64 => label_length(rest, number_at(rest, 12) as usize),
@@ -172,7 +186,11 @@ fn wanted(rest: &[u8]) -> usize {
 }
 
 // The length of the record at the front of these bytes by its head; 0 if that is no record's.
-fn head_length(rest: &[u8]) -> usize {
+fn head_length(rest: &[u8]) -> usize
+    ensures has { 0 < result → HasHead rest.now result }
+    ensures each { (size : ℕ) → HasHead rest.now size → result ≡ size }
+    ensures small { result < 2 ^ 32 }
+{
     let length = number_at(rest, 4) as usize;
     if !was_open(byte_at(rest, 0)) || byte_at(rest, 2) != 0 || byte_at(rest, 3) != 0 {
         return 0;
@@ -184,14 +202,18 @@ fn head_length(rest: &[u8]) -> usize {
 }
 
 /// Whether a record that is no Store record reads at the front of these bytes.
-pub(crate) fn is_other(rest: &[u8]) -> bool {
+pub(crate) fn is_other(rest: &[u8]) -> bool
+    ensures has { IsTrue result → IsOther rest.now (number_of rest.now 4) }
+    ensures each { (size : ℕ) → IsOther rest.now size → IsTrue result }
+{
     let length = head_length(rest);
     length > 0 && wanted(rest) == length
 }
 
 // The record at the front of these bytes, its gate open and the one behind it closed.
 fn alone(alloc: Global, rest: &[u8], size: usize) -> Result<Vec<u8>, AllocError>
-    ensures { IfOk result (λ made. 1 ≤ length made.items) }
+    ensures some { IfOk result (λ made. 1 ≤ length made.items) }
+    ensures is { size ≤ length rest.now → IfOk result (λ made. made.items ≡ alone rest.now size) }
 {
     let mut record = vec![in alloc; 0u8; size.saturating_add(1)]?;
     if let Some(from) = rest.get(..size) {
@@ -208,7 +230,9 @@ fn stored(
     length: usize,
     blocks: u32,
 ) -> Result<Option<Entry>, OpenFault>
+    requires { length < 2 ^ 32 }
     ensures only { IsOpenRefusal result }
+    ensures stored { IsStored blocks rest.now length result }
 {
     if blocks > MOST_BLOCKS {
         return Ok(None);
@@ -221,8 +245,10 @@ fn stored(
             let mut entries = said.entries;
             Ok(entries.pop())
         }
-        Err(OpenFault::OutOfMemory) => Err(OpenFault::OutOfMemory),
-        Err(_) => Ok(None),
+        Err(fault) => {
+            not_found(fault)?;
+            Ok(None)
+        }
     }
 }
 
@@ -230,6 +256,8 @@ impl Scan {
     /// Nothing is read yet.
     pub(crate) fn new(alloc: Global) -> Scan
         ensures drops { result.drops.items ≡ [] }
+        ensures reads { result.reads.items ≡ [] }
+        ensures indexed { AreIndexed result.drops.items result.dropped }
     {
         Scan {
             reads: Vec::new(alloc),
@@ -241,7 +269,9 @@ impl Scan {
 
     /// A record that names a number to delete its case, if one does that reads.
     pub(crate) fn deleting(&self, seq: u32) -> Option<usize>
-        ensures { IfSome result (λ place. IsDeleted self.now.drops.items seq) }
+        ensures deleted { IfSome result (λ place. IsDeleted self.now.drops.items seq) }
+        ensures place { IsDeletedAt self.now.drops.items seq result }
+        ensures none { AreIndexed self.now.drops.items self.now.dropped → result ≡ None → IsDeleted self.now.drops.items seq → ⊥ }
     {
         let index = *self.dropped.get(&seq)?;
         match self.drops.get(index) {
@@ -253,6 +283,12 @@ impl Scan {
     // Takes a case that a record at this place stores.
     fn take_store(&mut self, place: Span, entry: Entry) -> Result<(), AllocError>
         ensures drops { self.new.drops ≡ self.old.drops }
+        ensures dropped { self.new.dropped ≡ self.old.dropped }
+        ensures stay { OnOk result (StayRead self.old.reads.items self.new.reads.items) }
+        ensures has { OnOk result (IsAmong self.new.reads.items (case_of entry)) }
+        ensures from { OnOk result ((blocks : ℕ) (bytes : List ℕ)
+            → IsFrom blocks bytes (record { place = place; entry = entry; label = None; fate = Fate.Same })
+            → AreFrom blocks bytes self.old.reads.items → AreFrom blocks bytes self.new.reads.items) }
     {
         self.latest.insert(entry.seq, self.reads.len())?;
         self.reads.push(Read {
@@ -267,6 +303,9 @@ impl Scan {
     // Keeps which of `drops` is the first of a number. The next one has it.
     fn keep_number(&mut self, seq: u32) -> Result<(), AllocError>
         ensures drops { self.new.drops ≡ self.old.drops }
+        ensures reads { self.new.reads ≡ self.old.reads }
+        ensures indexed { OnOk result ((place : ℕ) → AreIndexed self.old.drops.items self.old.dropped
+            → AreIndexed (self.old.drops.items ++ record { seq = seq; place = place } ∷ []) self.new.dropped) }
     {
         if self.dropped.get(&seq).is_none() {
             self.dropped.insert(seq, self.drops.len())?;
@@ -279,6 +318,10 @@ impl Scan {
         requires kind { slice_index front.now (place + 1) ≡ 2 }
         requires small { place + 12 + 4 * index < 2 ^ 64 }
         ensures drops { AreDrops front.now self.old.drops.items → AreDrops front.now self.new.drops.items }
+        ensures reads { self.new.reads ≡ self.old.reads }
+        ensures indexed { OnOk result (AreIndexed self.old.drops.items self.old.dropped → AreIndexed self.new.drops.items self.new.dropped) }
+        ensures kept { OnOk result (StayNamed self.old.drops.items self.new.drops.items) }
+        ensures named { OnOk result (IsDeleted self.new.drops.items (number_of front.now (place + 12 + 4 * index))) }
     {
         let seq = number_at(front, place + 12 + 4 * index);
         self.keep_number(seq)?;
@@ -289,6 +332,11 @@ impl Scan {
     // Takes the numbers that a Drop record at this place names.
     fn take_drop(&mut self, front: &[u8], place: Span) -> Result<(), AllocError>
         ensures drops { AreDrops front.now self.old.drops.items → AreDrops front.now self.new.drops.items }
+        ensures reads { self.new.reads ≡ self.old.reads }
+        ensures indexed { OnOk result (AreIndexed self.old.drops.items self.old.dropped → AreIndexed self.new.drops.items self.new.dropped) }
+        ensures kept { OnOk result (StayNamed self.old.drops.items self.new.drops.items) }
+        ensures named { OnOk result (slice_index front.now (place.start + 1) ≡ 2 → (index : ℕ) → index < number_of front.now (place.start + 8)
+            → IsDeleted self.new.drops.items (number_of front.now (place.start + 12 + 4 * index))) }
     {
         let at = place.start;
         if at >= front.len() || byte_at(front, at + 1) != DROP {
@@ -303,6 +351,9 @@ impl Scan {
     // Takes the flag of a Pin record.
     fn take_pin(&mut self, seq: u32, flag: bool)
         ensures drops { self.new.drops ≡ self.old.drops }
+        ensures dropped { self.new.dropped ≡ self.old.dropped }
+        ensures stay { StayRead self.old.reads.items self.new.reads.items }
+        ensures from { StayFrom self.old.reads.items self.new.reads.items }
     {
         let Some(index) = self.latest.get(&seq) else {
             return;
@@ -315,6 +366,9 @@ impl Scan {
     // Takes where the record of a label is.
     fn take_label(&mut self, seq: u32, place: Span)
         ensures drops { self.new.drops ≡ self.old.drops }
+        ensures dropped { self.new.dropped ≡ self.old.dropped }
+        ensures stay { StayRead self.old.reads.items self.new.reads.items }
+        ensures from { StayFrom self.old.reads.items self.new.reads.items }
     {
         let Some(index) = self.latest.get(&seq) else {
             return;
@@ -327,6 +381,12 @@ impl Scan {
     // Takes what a record says that is no Store record.
     fn take_other(&mut self, front: &[u8], place: Span) -> Result<(), AllocError>
         ensures drops { AreDrops front.now self.old.drops.items → AreDrops front.now self.new.drops.items }
+        ensures stay { StayRead self.old.reads.items self.new.reads.items }
+        ensures from { StayFrom self.old.reads.items self.new.reads.items }
+        ensures indexed { OnOk result (AreIndexed self.old.drops.items self.old.dropped → AreIndexed self.new.drops.items self.new.dropped) }
+        ensures kept { OnOk result (StayNamed self.old.drops.items self.new.drops.items) }
+        ensures named { OnOk result (slice_index front.now (place.start + 1) ≡ 2 → (index : ℕ) → index < number_of front.now (place.start + 8)
+            → IsDeleted self.new.drops.items (number_of front.now (place.start + 12 + 4 * index))) }
     {
         let Some(rest) = front.get(place.start..) else {
             return Ok(());
@@ -351,6 +411,13 @@ impl Scan {
     ) -> Result<usize, OpenFault>
         ensures only { IsOpenRefusal result }
         ensures drops { AreDrops front.now self.old.drops.items → AreDrops front.now self.new.drops.items }
+        ensures stay { OnOk result (StayRead self.old.reads.items self.new.reads.items) }
+        ensures indexed { OnOk result (AreIndexed self.old.drops.items self.old.dropped → AreIndexed self.new.drops.items self.new.dropped) }
+        ensures kept { OnOk result (StayNamed self.old.drops.items self.new.drops.items) }
+        ensures from { OnOk result (AreFrom blocks front.now self.old.reads.items → AreFrom blocks front.now self.new.reads.items) }
+        ensures length { IfOk result (λ size. 0 < size → Reads blocks (between front.now place.start place.end) size) }
+        ensures taken { place.start ≤ place.end → place.end ≤ length front.now
+            → OnOk result (IsTaken blocks (between front.now place.start place.end) self.new.reads.items self.new.drops.items) }
     {
         let Some(rest) = front.get(place.start..place.end) else {
             return Ok(0);
@@ -363,7 +430,10 @@ impl Scan {
         if is_other(rest) {
             return counted(self.take_other(front, record), length);
         }
-        if length == 0 || byte_at(rest, 1) != STORE {
+        if length == 0 {
+            return Ok(0);
+        }
+        if byte_at(rest, 1) != STORE {
             return Ok(0);
         }
         match stored(alloc, rest, length, blocks)? {
@@ -384,6 +454,11 @@ impl Scan {
     ) -> Result<(), OpenFault>
         ensures only { IsOpenRefusal result }
         ensures drops { AreDrops front.now self.old.drops.items → AreDrops front.now self.new.drops.items }
+        ensures stay { OnOk result (StayRead self.old.reads.items self.new.reads.items) }
+        ensures indexed { OnOk result (AreIndexed self.old.drops.items self.old.dropped → AreIndexed self.new.drops.items self.new.dropped) }
+        ensures kept { OnOk result (StayNamed self.old.drops.items self.new.drops.items) }
+        ensures from { OnOk result (AreFrom blocks front.now self.old.reads.items → AreFrom blocks front.now self.new.reads.items) }
+        ensures all { half.end ≤ length front.now → OnOk result (AreAllRead blocks front.now half.start half.end self.new.reads.items self.new.drops.items) }
     {
         self.latest = BTreeMap::new(alloc);
         if !was_open(byte_at(front, half.start)) {
@@ -442,6 +517,8 @@ impl Scan {
 // So many bytes are read, if there was memory for what they say.
 fn counted(taken: Result<(), AllocError>, length: usize) -> Result<usize, OpenFault>
     ensures only { IsOpenRefusal result }
+    ensures taken { OnOk result (taken ≡ Ok tt) }
+    ensures length { IfOk result (λ n. n ≡ length) }
 {
     match taken {
         Ok(()) => Ok(length),

@@ -1,10 +1,13 @@
 // What a salvage tells of an archive, line by line.
-ghost use Rattle.std.specs.Prelude.{◌≡◌};
+ghost use Rattle.std.specs.Prelude.{◌≡◌, []};
+ghost use Rattle.journal_layout.specs.Case.{case_of};
 ghost use Rattle.script_streams.specs.Replies.{TellsText, telling};
-ghost use Rattle.salvage.specs.Texts.{case_line, deleting_words, fault_line, fault_words, loss_words, mark_reason, mark_words};
+ghost use Rattle.salvage.specs.Texts.{case_line, deleting_words, fault_line, fault_words, front_lines, loss_words, mark_reason, mark_words, shape_line};
+ghost use Rattle.salvage.specs.Told.{AreCopied, AreLost, IsLost, IsMarked, TellsCases, TellsLines, copied_cases};
 
 use crate::cases_found::{Found, Loss};
-use journal_layout::OpenFault;
+use crate::records::Read;
+use journal_layout::{Entry, OpenFault, Shape};
 use script_streams::{Output, Reply};
 
 /// What is told of a case.
@@ -14,40 +17,94 @@ pub(crate) enum Mark {
     Whole,
     /// It is copied, and may be another or none. The record at this place deletes it, if one does.
     Doubtful(Option<u64>),
+    /// It is copied, and a block of it is behind the end of the file.
+    Cut,
     /// It is not copied. The record at this place deletes it, if one does.
     Lost(Loss, Option<u64>),
 }
 
 /// Tells the first fault of an archive, or that it is sound, and then of each case that is copied whether it is whole. The cases that a
 /// record stores and that are not copied come last, with what hinders each. Answers whether all was told.
-pub fn tell_cases<O: Output>(found: &Found, output: &mut O) -> bool {
+pub fn tell_cases<O: Output>(found: &Found, output: &mut O) -> bool
+    ensures { TellsCases found.now (O.taken output.old) (O.taken output.new) (O.failures output.old) (O.failures output.new) result }
+{
     let mut reply = Reply::new(output);
-    tell_fault(&mut reply, found.fault());
+    tell_front(&mut reply, found);
     tell_copied(&mut reply, found);
     tell_lost(&mut reply, found);
-    reply.finish().is_ok()
+    let sent = reply.finish();
+    sent.is_ok()
 }
 
-fn tell_copied<O: Output>(reply: &mut Reply<'_, O>, found: &Found) {
+// Tells the first fault, and what is taken for the archive's shape, if that is another than it says.
+fn tell_front<O: Output>(reply: &mut Reply<'_, O>, found: &Found)
+    ensures { TellsText (telling O.Output reply.old reply.new) (front_lines found.now) }
+{
+    let Some(mend) = found.mend else {
+        tell_fault(reply, found.fault());
+        return;
+    };
+    tell_fault(reply, Some(mend.fault));
+    tell_shape(reply, mend.shape);
+    if found.fault().is_some() {
+        tell_fault(reply, found.fault());
+    }
+}
+
+fn tell_shape<O: Output>(reply: &mut Reply<'_, O>, shape: Shape)
+    ensures { TellsText (telling O.Output reply.old reply.new) (shape_line shape) }
+{
+    reply.tell(b"shape --half ");
+    reply.tell_decimal(u128::from(shape.half_blocks));
+    reply.tell(b" --data ");
+    reply.tell_decimal(u128::from(shape.data_blocks));
+    reply.tell(b"\n");
+}
+
+// Tells of the cases that are copied, in the order of their numbers.
+fn tell_copied<O: Output>(reply: &mut Reply<'_, O>, found: &Found)
+    ensures { TellsLines (telling O.Output reply.old reply.new) (AreCopied found.now (copied_cases found.now)) }
+{
     for entry in found.entries() {
-        let mark = if found.is_whole(entry) {
-            Mark::Whole
-        } else {
-            Mark::Doubtful(found.deleted_at(entry.seq))
-        };
+        let mark = mark_of(found, entry);
         tell_case(reply, entry.seq, mark, entry.name.as_slice());
     }
 }
 
-fn tell_lost<O: Output>(reply: &mut Reply<'_, O>, found: &Found) {
-    let reads = found.scan.reads.as_slice();
-    for index in 0..reads.len() {
-        let entry = &reads[reads.len() - 1 - index].entry;
-        if let Some(loss) = found.loss(&reads[reads.len() - 1 - index]) {
-            let mark = Mark::Lost(loss, found.deleted_at(entry.seq));
-            tell_case(reply, entry.seq, mark, entry.name.as_slice());
-        }
+// What is told of a case that is copied.
+fn mark_of(found: &Found, entry: &Entry) -> Mark
+    ensures { IsMarked found.now (case_of entry.now) result }
+{
+    if found.is_whole(entry) {
+        return Mark::Whole;
     }
+    if found.is_cut(entry) {
+        return Mark::Cut;
+    }
+    Mark::Doubtful(found.deleted_at(entry.seq))
+}
+
+// Tells of the cases that are lost, in the order of their numbers.
+fn tell_lost<O: Output>(reply: &mut Reply<'_, O>, found: &Found)
+    ensures { TellsLines (telling O.Output reply.old reply.new) (AreLost found.now [] found.now.scan.reads.items) }
+{
+    let reads = found.scan.reads.as_slice();
+    let mut left = reads.len();
+    while left > 0 {
+        left -= 1;
+        tell_if_lost(reply, found, &reads[..left], &reads[left]);
+    }
+}
+
+// Tells of a read, if its case is lost.
+fn tell_if_lost<O: Output>(reply: &mut Reply<'_, O>, found: &Found, before: &[Read], read: &Read)
+    ensures { TellsLines (telling O.Output reply.old reply.new) (IsLost found.now before.now (case_of read.now.entry)) }
+{
+    let Some(loss) = found.loss(before, read) else {
+        return;
+    };
+    let mark = Mark::Lost(loss, found.deleted_at(read.entry.seq));
+    tell_case(reply, read.entry.seq, mark, read.entry.name.as_slice());
 }
 
 fn tell_fault<O: Output>(reply: &mut Reply<'_, O>, fault: Option<OpenFault>)
@@ -99,7 +156,7 @@ fn words(mark: Mark) -> &'static [u8]
 {
     match mark {
         Mark::Whole => b" whole ",
-        Mark::Doubtful(_) => b" doubtful ",
+        Mark::Doubtful(_) | Mark::Cut => b" doubtful ",
         Mark::Lost(_, _) => b" lost ",
     }
 }
@@ -111,6 +168,7 @@ fn tell_reason_of<O: Output>(reply: &mut Reply<'_, O>, mark: Mark)
     match mark {
         Mark::Whole => {}
         Mark::Doubtful(place) => tell_deleting(reply, b" deleted at ", place),
+        Mark::Cut => reply.tell(b" cut off"),
         Mark::Lost(loss, place) => {
             reply.tell(loss_words(loss));
             tell_deleting(reply, b", deleted at ", place);

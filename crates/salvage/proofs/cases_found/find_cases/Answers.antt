@@ -1,7 +1,9 @@
-use Rattle.std.proofs.Common.{inl, refl, subst, sym, None}
+use Rattle.std.proofs.Common.{inl, refl, ap, ◌∙◌, subst, sym, arith, None}
 use Rattle.std.proofs.lemmas.Result.{err_from_is_err_and}
 use Rattle.disk_model.specs.Places.{part}
 use Rattle.journal_layout.specs.Layout.{data_start}
+use Rattle.salvage.specs.Readings.{fault_by}
+use Rattle.salvage.specs.Reads.{AreFrom}
 use Rattle.salvage.specs.Records.{AreDrops}
 use Rattle.salvage.proofs.SightLemmas.{gate_sound, opens_short, same_ok, shut_found}
 use Rattle.salvage.proofs.cases_found.find_cases.Goals as goal
@@ -18,6 +20,9 @@ returns-in_default-clause-finds g c = λ honest. record {
   first = c.in_ok-first.ensures.gives honest;
   more = λ m is. absurd (cc);
   drops = subst (AreDrops (part (g.S.Source.seen c.args.source.now) 0 (data_start c.in_ok-first.first.standing.shape))) (sym c.new.ensures.drops) tt;
+  from = subst (AreFrom c.in_ok-first.first.standing.shape.data_blocks (part (g.S.Source.seen c.args.source.now) 0 (data_start c.in_ok-first.first.standing.shape))) (sym c.new.ensures.reads) (λ r has. absurd (omega (arith, has.1)));
+  indexed = c.new.ensures.indexed;
+  reads = λ some. absurd (some (ap (fault_by c.in_ok-sight.sight.fault) (c.trouble_in.ensures.trouble c.in_default.is).1 ∙ (c.trouble_in.ensures.trouble c.in_default.is).0));
   shut =
       shut_found (g.S.Source.seen c.args.source.now) c.in_ok-sight.sight c.in_ok-first.first.standing (c.in_ok-sight.ensures.finds honest) (c.in_ok-first.ensures.gives honest)
       c.in_ok-shut.shut (c.in_ok-shut.ensures.finds honest);
@@ -31,9 +36,12 @@ returns-clause-finds g c = λ honest. record {
   first = c.in_ok-first.ensures.gives honest;
   more = c.in_ok-scan.ensures.more honest;
   drops = c.in_ok-scan.ensures.drops honest;
+  from = c.in_ok-scan.ensures.from honest;
+  indexed = c.in_ok-scan.ensures.indexed;
+  reads = λ some. c.in_ok-scan.ensures.all honest;
   shut =
       shut_found (g.S.Source.seen c.args.source.now) c.in_ok-sight.sight c.in_ok-first.first.standing (c.in_ok-sight.ensures.finds honest) (c.in_ok-first.ensures.gives honest)
       c.in_ok-shut.shut (c.in_ok-shut.ensures.finds honest);
   refused = λ some. same_ok c.in_ok-shut.shut None (c.in_ok-shut.ensures.refused some);
-  sound = λ none. absurd (gate_sound c.in_ok-sight.sight.fault c.in_ok-shut.shut c.trouble_in.result c.in-Some.trouble c.trouble_in.ensures c.in-Some.is none);
+  sound = λ none. absurd (gate_sound c.in_ok-sight.sight.fault c.in_ok-shut.shut c.trouble_in.result c.in-Some.trouble c.trouble_in.ensures.sound c.in-Some.is none);
 }

@@ -1,0 +1,175 @@
+-- What the words of a command ask for, but for those of `store` and `handle`.
+use Rattle.std.specs.Prelude.{◌≡◌, ℕ, ◌<◌, ◌==◌, Bool, false, not, List, [], ◌∷◌, ◌++◌, length, map, Option, None, Some, String, codes, string_bytes, unwrap_or, if◌then◌else◌}
+use Rattle.std.specs.Option.{option_copied, option_map_or}
+use Rattle.archive_files.specs.declared.archive_path.ArchivePath.{ArchivePath}
+use Rattle.archive_files.specs.declared.archives.NewArchive.{NewArchive}
+use Rattle.archive_files.specs.declared.copies.CopyWords.{CopyWords}
+use Rattle.salvage.specs.declared.mending.ShapeWish.{ShapeWish}
+use Rattle.archive_files.specs.declared.failures.Refusal.{Refusal}
+use Rattle.archive_files.specs.declared.failures.Refusal.TheVariants.{LineTooLong, NoLine}
+use Rattle.command_words.specs.Lines.{joined}
+use Rattle.command_words.specs.RawWords.{bytes_meant}
+use Rattle.command_words.specs.Words.{IsRead, flag_in, number_in, small_number_in, text_in, words_in}
+use Rattle.command_words.specs.declared.given.Given.{Given}
+use Rattle.journal_layout.specs.declared.shape.Shape.{Shape}
+use Rattle.script_lines.specs.Commands.{question_said}
+use Rattle.script_lines.specs.Said.{is_question, said}
+use Rattle.script_lines.specs.declared.question.Question.{Question}
+use Rattle.script_words.specs.Hex.{hex_of}
+use Rattle.command_line.specs.Requesting.{AsksToStore, Handles, IsGiven, IsGivenToHandle, IsUnspelled}
+use Rattle.command_line.specs.declared.ask_words.AskedLine.{AskedLine}
+use Rattle.command_line.specs.declared.ask_words.Form.{Form}
+use Rattle.command_line.specs.declared.ask_words.Form.TheVariants.{Plain, Reply, Rows}
+use Rattle.command_line.specs.declared.asked.Asked.{Asked}
+use Rattle.command_line.specs.declared.asked.Asked.TheVariants as asked
+use Rattle.command_line.specs.declared.asked.SessionWords.{SessionWords}
+use Rattle.command_line.specs.declared.handle_words.GivenHandle.{GivenHandle}
+use Rattle.command_line.specs.declared.named_words.NamedWords as named
+use Rattle.command_line.specs.declared.store_words.GivenStore.{GivenStore}
+
+-- ---- Words that several commands have.
+
+-- the text of a word that has to be there
+abbrev pub text_said : Given → List ℕ → List ℕ
+text_said given name = unwrap_or (text_in given name) []
+
+-- `--half N` and `--data N`: the blocks of each half of the journal, and the data blocks
+pub record IsShape (given : Given) (shape : Shape) : Type 0 where
+  pub half : shape.half_blocks ≡ unwrap_or (small_number_in given (codes "half")) 0
+  pub blocks : shape.data_blocks ≡ unwrap_or (small_number_in given (codes "data")) 0
+
+-- `--layout 2`: the archive that is made keeps labels
+abbrev pub labels_said : Given → Bool
+labels_said given = option_map_or (λ version. version == 2) (number_in given (codes "layout")) false
+
+-- what an archive that is made is to be
+pub record IsNew (given : Given) (wanted : NewArchive) : Type 0 where
+  pub shape : IsShape given wanted.shape
+  pub labels : wanted.keeps_labels ≡ labels_said given
+  pub sparse : wanted.is_sparse ≡ flag_in given (codes "sparse")
+
+-- What a copy is to be: another size if `--half` or `--data` says one.
+pub record IsCopy (given : Given) (wanted : CopyWords) : Type 0 where
+  pub half : wanted.half_blocks ≡ small_number_in given (codes "half")
+  pub blocks : wanted.data_blocks ≡ small_number_in given (codes "data")
+  pub labels : wanted.keeps_labels ≡ labels_said given
+  pub sparse : wanted.is_sparse ≡ flag_in given (codes "sparse")
+  pub rights : wanted.drops_rights ≡ flag_in given (codes "drop-rights")
+
+-- the shape of a damaged archive, as far as `--half` and `--data` say it
+pub record IsWish (given : Given) (wish : ShapeWish) : Type 0 where
+  pub half : wish.half_blocks ≡ small_number_in given (codes "half")
+  pub blocks : wish.data_blocks ≡ small_number_in given (codes "data")
+
+-- ARCHIVE, and whether to wait for another process that has it
+pub record IsPlace (given : Given) (place : ArchivePath) : Type 0 where
+  pub path : place.path.now ≡ text_said given (codes "archive")
+  pub waits : place.waits ≡ not (flag_in given (codes "no-wait"))
+
+-- how a session names its cores, and the most bytes of an image
+pub record AreSettings (given : Given) (settings : SessionWords) : Type 0 where
+  pub template : settings.template.now ≡ text_said given (codes "template")
+  pub process : settings.uses_pid ≡ flag_in given (codes "uses-pid")
+  pub limit : settings.limit ≡ unwrap_or (number_in given (codes "limit")) 0
+
+-- what stands under a name is what clap found there
+abbrev pub found_under : named.Ghosts Given
+found_under = record {
+  stands = λ words name value. value ≡ text_in words name;
+  stated = λ words name is_there. is_there ≡ flag_in words name;
+  counts = λ words name number. number ≡ unwrap_or (number_in words name) 0;
+}
+
+-- ---- The line of `ask`.
+
+-- the digits behind the words of a line, if it has some
+abbrev pub digits_behind : {Z : Type 0} → Option (String Z) → List (List ℕ)
+digits_behind None = []
+digits_behind (Some digits) = string_bytes digits ∷ []
+
+-- the words of a line
+abbrev pub words_of : AskedLine → List (List ℕ)
+words_of line = map (λ word. word.now) line.words.items ++ digits_behind line.digits
+
+-- What a line asks is what the script says of its words with a space between them. If it asks nothing with them, there is no question:
+-- then its second word names a case.
+abbrev pub IsAsked : List ℕ → Option Question → Type 0
+IsAsked line None = is_question (said line) ≡ false
+IsAsked line (Some question) = question_said question ≡ said line
+
+-- Why a line is refused: it is too long, or asks nothing, or is no line.
+abbrev pub IsNoQuestion : List ℕ → Refusal → Type 0
+IsNoQuestion line LineTooLong = 1024 < length line
+IsNoQuestion line (NoLine words) = is_question (said line) ≡ false
+IsNoQuestion line why = IsUnspelled why
+
+-- `--json` goes before `--plain`
+abbrev pub form_said : Given → Form
+form_said given = if flag_in given (codes "json") then Rows else if flag_in given (codes "plain") then Plain else Reply
+
+-- the digits of the bytes of a text
+abbrev pub digits_meant : Option (List ℕ) → List (List ℕ)
+digits_meant None = []
+digits_meant (Some text) = hex_of (bytes_meant text) ∷ []
+
+-- The line has the words of `ask`, and behind them the digits of `--text`.
+pub record IsLine (given : Given) (line : AskedLine) : Type 0 where
+  pub words : words_of line ≡ words_in given ++ digits_meant (text_in given (codes "text"))
+  pub form : line.form ≡ form_said given
+
+-- ---- What each command asks for.
+
+-- an archive in a new file
+abbrev pub IsFormat : Given → Asked → Type 0
+IsFormat given (asked.Format archive wanted) = (archive.now ≡ text_said given (codes "archive")) × IsNew given wanted
+IsFormat given _ = ⊥
+
+-- One line, or which cases `retire` would drop.
+abbrev pub IsAsk : Given → ArchivePath → Asked → Type 0
+IsAsk given archive (asked.Ask place line question) = (place ≡ archive) × IsLine given line × IsAsked (joined (words_of line)) question
+IsAsk given archive (asked.WouldRetire place policy) = place ≡ archive
+IsAsk given archive _ = ⊥
+
+-- the commands over the archive in a file
+abbrev pub names_over : List (List ℕ)
+names_over =
+    codes "run" ∷ codes "store" ∷ codes "extract" ∷ codes "list" ∷ codes "ask" ∷ codes "info" ∷ codes "look" ∷ codes "check" ∷ codes "copy" ∷ codes "resize" ∷ codes "salvage" ∷ []
+
+-- a command that has none of these names
+abbrev pub IsNoneOf : List ℕ → List (List ℕ) → Type 0
+IsNoneOf command [] = Unit {0}
+IsNoneOf command (name ∷ names) = (command ≡ name → ⊥) × IsNoneOf command names
+
+-- what a command over an archive asks for
+abbrev pub IsOver : Given → ArchivePath → Asked → Type 0
+IsOver given archive (asked.Run place settings) = (given.command.now ≡ codes "run") × (place ≡ archive) × AreSettings given settings
+IsOver given archive (asked.Store place file request log) =
+    (given.command.now ≡ codes "store") × (store : GivenStore) × IsGiven found_under given store × (store.pairs.now ≡ given.words.items) × AsksToStore store archive (asked.Store place file request log)
+IsOver given archive (asked.Extract place case file) =
+    (given.command.now ≡ codes "extract") × (place ≡ archive) × (case.now ≡ text_said given (codes "case")) × (option_copied file ≡ text_in given (codes "file"))
+IsOver given archive (asked.List place wanted) = (given.command.now ≡ codes "list") × (place ≡ archive)
+IsOver given archive (asked.Ask place line question) = (given.command.now ≡ codes "ask") × IsAsk given archive (asked.Ask place line question)
+IsOver given archive (asked.WouldRetire place policy) = (given.command.now ≡ codes "ask") × (place ≡ archive)
+IsOver given archive (asked.Info place case wanted) =
+    (given.command.now ≡ codes "info") × (place ≡ archive) × (option_copied case ≡ text_in given (codes "case"))
+    × (wanted.all_threads ≡ flag_in given (codes "threads")) × (wanted.is_json ≡ flag_in given (codes "json"))
+IsOver given archive (asked.Look place) = (given.command.now ≡ codes "look") × (place ≡ archive)
+IsOver given archive (asked.Check place sees_images) = (given.command.now ≡ codes "check") × (place ≡ archive) × (sees_images ≡ flag_in given (codes "images"))
+IsOver given archive (asked.Copy place new wanted) = (given.command.now ≡ codes "copy") × (place ≡ archive) × (new.now ≡ text_said given (codes "new")) × IsCopy given wanted
+IsOver given archive (asked.Resize place wanted) = (given.command.now ≡ codes "resize") × (place ≡ archive) × IsCopy given wanted
+IsOver given archive (asked.Salvage place new) =
+    (given.command.now ≡ codes "salvage") × (place ≡ archive) × (new.path.now ≡ text_said given (codes "new")) × IsWish given new.wish
+IsOver given archive asked.Nothing = IsNoneOf given.command.now names_over
+IsOver given archive _ = ⊥
+
+-- what the words of a command ask for
+abbrev pub IsAskedBy : Given → Asked → Type 0
+IsAskedBy given (asked.Format archive wanted) = (given.command.now ≡ codes "format") × IsFormat given (asked.Format archive wanted)
+IsAskedBy given (asked.Memory shape settings) = (given.command.now ≡ codes "memory") × IsShape given shape × AreSettings given settings
+IsAskedBy given (asked.Handle words) =
+    (given.command.now ≡ codes "handle") × (handle : GivenHandle) × IsGivenToHandle found_under given handle × (handle.words.now ≡ given.words.items) × Handles handle words
+IsAskedBy given other = (archive : ArchivePath) × IsPlace given archive × IsOver given archive other
+
+-- What words ask for: those of the command that they give; and whether `--quiet` is there.
+abbrev pub AreAsked : List (List ℕ) → Asked × Bool → Type 0
+AreAsked words read = (given : Given) × IsRead words given × IsAskedBy given read.0 × (read.1 ≡ flag_in given (codes "quiet"))

@@ -1,0 +1,11 @@
+use Rattle.std.proofs.Common.{◌++◌, flat_map, sym, ap, ◌∙◌, map-id}
+use Rattle.std.proofs.lemmas.Iterator.{YieldsList-from_chars}
+use Rattle.std.proofs.lemmas.Iterator.Consumers.{YieldsList-end}
+use Rattle.script_words.specs.Printing.{shown_byte}
+use Rattle.command_words.specs.RawWords.{bytes_kept}
+use Rattle.command_words.proofs.raw_words.push_escaped.Goals as goal
+
+pub returns : goal.returns
+returns c =
+    let end = YieldsList-end (YieldsList-from_chars c.args.word.now c.utf8.word cc) c.loop-character.yielded _ c.loop-character.yielded_by _ _ c.in-None.is c.next.ensures.steps in
+    c.loop-character.invariant ∙ ap (λ own. c.args.line.now.items ++ flat_map shown_byte (flat_map bytes_kept own)) (sym (map-id c.loop-character.yielded) ∙ end.0)
