@@ -164,7 +164,7 @@ fn half_blocks_of<S: Source>(
     ensures { IsOpenRefusal result }
 {
     let fits = has_length(said, source.length());
-    let is_said = fits || is_half(source, said.half_blocks)?;
+    let is_said = fits || (said.half_blocks > 0 && is_half(source, said.half_blocks)?);
     let found = match wish {
         Some(blocks) => Some(blocks),
         None if is_said => Some(said.half_blocks),
