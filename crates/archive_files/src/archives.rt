@@ -1,17 +1,16 @@
 // Archives, made, and taken from their files.
-ghost use Rattle.std.specs.Prelude.{◌+◌, ◌*◌, ◌≤◌, Ok, IfOk, IsTrue, OnErr, OnOk};
+ghost use Rattle.std.specs.Prelude.{◌≡◌, ◌+◌, ◌*◌, ◌≤◌, true, false, Ok, IfOk, IsTrue, OnErr, OnOk};
 ghost use Rattle.case_journal.specs.Settling.{SettlesGates};
 ghost use Rattle.case_journal.specs.Viewing.{OnlyReads};
 ghost use Rattle.journal_layout.specs.Standing.{Standing};
 ghost use Rattle.journal_layout.specs.Stands.{Stands};
 ghost use Rattle.diagnostics.specs.Counts.{HasRisen};
+ghost use Rattle.whole_files.specs.Calls.{just_made};
+ghost use Rattle.whole_files.specs.Whole.{IsUnnamed, IsMade, IsWritten, IsWhole};
 
 use crate::archive_path::ArchivePath;
-use crate::failures::{FileWord, Refusal};
+use crate::failures::{Danger, FileWord, Refusal};
 use crate::making::format_over;
-use crate::part_file::{
-    clear, create, give_name, is_named, is_same, part_of, remove_part, sync_folder,
-};
 use case_journal::settle;
 use diagnostics::Onlooker;
 use disk_model::{Disk, FileDisk, FileFault};
@@ -21,6 +20,9 @@ use std::fs;
 use std::fs::{File, Metadata, TryLockError};
 use std::os::unix::fs::FileExt;
 use std::rt::Files;
+use whole_files::{
+    NameFault, NewFile, PartFile, clear, give_name, is_named, is_same, make, remove, take_lock,
+};
 
 /// What is done to an archive: what only looks needs no right to write its file, and shares its lock.
 #[derive(Clone, Copy, Debug, PartialEq, Eq)]
@@ -59,36 +61,81 @@ pub fn make_archive<R: AllocGlobal + Files<File = File>, W: Onlooker>(
     onlooker: &mut W,
 ) -> Result<(), Refusal> {
     let length = wanted.shape.length()?;
-    let part = part_of(rt.alloc(), path)?;
-    clear(rt, path, &part).map_err(|fault| Refusal::File(FileWord::NewArchive, fault))?;
-    let (file, disk) = make_file(rt, &part, length, wanted.is_sparse, onlooker)?;
-    let (formatted, disk) = format_over(rt.alloc(), disk, wanted);
-    tell_trouble(&disk, onlooker);
-    if formatted.is_err() {
-        remove_part(rt, &part, &file);
-    }
-    formatted?;
-    // The lock of its file is kept until it has its name.
-    let named = give_name(rt, path, &part, &file);
-    drop(disk);
-    named.map_err(|fault| fault.refusal(FileWord::NewArchive))
+    let mut file = PartFile::new(rt.alloc(), rt, path)?;
+    make_whole(rt.alloc(), &mut file, length, wanted, onlooker)
 }
 
-// Makes the file of an archive, and gives it and the disk in it, which share its lock. One that can't be made whole is removed, unless
+// Makes an archive of so many bytes in a new file.
+fn make_whole<'a, R: Files<File = File>, W: Onlooker>(
+    alloc: Global,
+    file: &mut PartFile<'a, R>,
+    length: u64,
+    wanted: NewArchive,
+    onlooker: &mut W,
+) -> Result<(), Refusal>
+    ensures whole { OnOk result (IsWhole false (⟦<PartFile<'a, R> as NewFile>⟧.facts file.new)) }
+{
+    clear(file).map_err(|fault| Refusal::File(FileWord::NewArchive, fault))?;
+    let disk = make_file(alloc, file, length, wanted.is_sparse, onlooker)?;
+    let (formatted, mut disk) = format_over(alloc, disk, wanted);
+    tell_trouble(&disk, onlooker);
+    settle_made(file, &mut disk, formatted)?;
+    // The lock of its file is kept until it has its name.
+    let named = give_name(file);
+    drop(disk);
+    named.map_err(|fault| name_refusal(FileWord::NewArchive, fault))
+}
+
+// Makes durable what a disk has written in a new file, if that was done. Else the file is removed.
+pub(crate) fn settle_made<'a, R: Files<File = File>>(
+    file: &mut PartFile<'a, R>,
+    disk: &mut FileDisk,
+    done: Result<(), Refusal>,
+) -> Result<(), Refusal>
+    requires made { IsMade (⟦<PartFile<'a, R> as NewFile>⟧.facts file.old) }
+    ensures written { OnOk result (IsWritten (⟦<PartFile<'a, R> as NewFile>⟧.facts file.new)) }
+{
+    if let Err(refusal) = done {
+        remove(file);
+        return Err(refusal);
+    }
+    match file.sync_disk(disk) {
+        Ok(()) => Ok(()),
+        Err(_) => {
+            remove(file);
+            Err(Refusal::Disk)
+        }
+    }
+}
+
+// What is refused of the file that a word names, if it has not got its name for good.
+pub(crate) fn name_refusal(word: FileWord, fault: NameFault) -> Refusal {
+    match fault {
+        NameFault::Unnamed(fault) => Refusal::File(word, fault),
+        NameFault::Exchanged => Refusal::Unsafe(word, Danger::Exchanged),
+        NameFault::Named(number) => {
+            Refusal::File(FileWord::Named(word.shown(), number), FileFault::Sync)
+        }
+    }
+}
+
+// Makes the file of an archive, and gives the disk in it, which shares its lock. One that can't be made whole is removed, unless
 // another process has it.
-pub(crate) fn make_file<R: AllocGlobal + Files<File = File>, W: Onlooker>(
-    rt: &R,
-    part: &str,
+pub(crate) fn make_file<'a, R: Files<File = File>, W: Onlooker>(
+    alloc: Global,
+    file: &mut PartFile<'a, R>,
     length: u64,
     is_sparse: bool,
     onlooker: &mut W,
-) -> Result<(File, FileDisk), Refusal> {
-    let file = create(rt, part).map_err(|fault| Refusal::File(FileWord::Made, fault))?;
-    match disk_of_zeros(rt, part, &file, length, is_sparse, onlooker) {
-        Ok(disk) => Ok((file, disk)),
+) -> Result<FileDisk, Refusal>
+    ensures made { OnOk result (IsMade (⟦<PartFile<'a, R> as NewFile>⟧.facts file.new)) }
+{
+    make(file).map_err(|fault| Refusal::File(FileWord::Made, fault))?;
+    match disk_of_zeros(alloc, file, length, is_sparse, onlooker) {
+        Ok(disk) => Ok(disk),
         Err(fault) => {
             if fault != FileFault::Busy {
-                remove_part(rt, part, &file);
+                remove(file);
             }
             Err(Refusal::File(FileWord::Made, fault))
         }
@@ -97,29 +144,44 @@ pub(crate) fn make_file<R: AllocGlobal + Files<File = File>, W: Onlooker>(
 
 // Gives a new file its length, writes its zeros unless it is to be sparse, and makes it durable, with its name. So the file system has
 // room for all of its bytes from then on.
-fn disk_of_zeros<R: AllocGlobal + Files<File = File>, W: Onlooker>(
-    rt: &R,
-    part: &str,
-    file: &File,
+fn disk_of_zeros<'a, R: Files<File = File>, W: Onlooker>(
+    alloc: Global,
+    file: &mut PartFile<'a, R>,
     length: u64,
     is_sparse: bool,
     onlooker: &mut W,
-) -> Result<FileDisk, FileFault> {
-    lock(file, false, Access::Changing)?;
-    file.set_len(length).map_err(|_| FileFault::Length)?;
+) -> Result<FileDisk, FileFault>
+    requires made { ⟦<PartFile<'a, R> as NewFile>⟧.facts file.old ≡ just_made }
+    ensures part { IsUnnamed (⟦<PartFile<'a, R> as NewFile>⟧.facts file.new) }
+    ensures made { OnOk result (IsMade (⟦<PartFile<'a, R> as NewFile>⟧.facts file.new)) }
+{
+    take_lock(file)?;
+    file.set_length(length).map_err(|_| FileFault::Length)?;
     if !is_sparse {
-        onlooker.begin("makes room", Some(length));
-        let written = write_zeros(file, length, onlooker);
-        onlooker.end();
-        written?;
+        make_room(file, length, onlooker)?;
     }
-    file.sync_all().map_err(|_| FileFault::Sync)?;
-    sync_folder(rt, part).map_err(|_| FileFault::Sync)?;
-    match FileDisk::from_locked(rt.alloc(), file.try_clone()?) {
+    file.sync().map_err(|_| FileFault::Sync)?;
+    file.sync_folder().map_err(|_| FileFault::Sync)?;
+    match file.disk(alloc) {
         Ok(disk) if !disk.has_lost_writes() => Ok(disk),
         Ok(_) | Err(FileFault::Settle) => Err(FileFault::Sync),
         Err(fault) => Err(fault),
     }
+}
+
+// Writes the zeros of a file, so that the file system has room for them.
+fn make_room<'a, R: Files<File = File>, W: Onlooker>(
+    file: &PartFile<'a, R>,
+    length: u64,
+    onlooker: &mut W,
+) -> Result<(), FileFault>
+    requires unsynced { (⟦<PartFile<'a, R> as NewFile>⟧.facts file.now).is_synced ≡ false }
+{
+    let file = file.writer()?;
+    onlooker.begin("makes room", Some(length));
+    let written = write_zeros(file, length, onlooker);
+    onlooker.end();
+    written
 }
 
 // Writes zeros over the whole file.

@@ -1,24 +1,28 @@
 // Archives, copied into new files.
+ghost use Rattle.std.specs.Prelude.{true, false, OnOk};
+ghost use Rattle.whole_files.specs.Whole.{IsWritten, IsWhole};
+
 use crate::archive_path::ArchivePath;
-use crate::archives::{Access, disk_to_change, make_file, take_disk, take_file, tell_trouble};
-use crate::collected::Collected;
+use crate::archives::{
+    Access, disk_to_change, make_file, name_refusal, settle_made, take_disk, take_file,
+    tell_trouble,
+};
 use crate::copy_over::{copy_disk, larger_wish};
 use crate::failures::{Danger, FileWord, Refusal};
 use crate::folders::shared_among;
 use crate::over_disk::look_over;
-use crate::part_file::{clear, clear_part, folder_of, give_name, part_of, remove_part, take_place};
 use archive_care::CopyWish;
 use archive_checks::shape_on;
 use diagnostics::Onlooker;
 use disk_model::{FileDisk, FileFault};
 use journal_layout::Shape;
-use script_streams::Reply;
 use shown_progress::CountedDisk;
 use std::alloc::Global;
 use std::fs;
 use std::fs::File;
 use std::os::unix::fs::MetadataExt;
 use std::rt::Files;
+use whole_files::{NewFile, PartFile, clear, clear_part, folder_of, give_name, take_place};
 
 /// What is asked of a copy of an archive.
 #[derive(Clone, Copy)]
@@ -38,32 +42,43 @@ pub struct CopyWords {
 // The bits of a mode that are rights of the group and of others.
 const OTHERS_RIGHTS: u32 = 0o077;
 
-// What is held until a copy has its name: both disks with their locks, and the copy's file.
+// What is held until a copy has its name: both disks with their locks.
 #[derive(Drop)]
 struct Copied {
     from: FileDisk,
     onto: FileDisk,
-    file: File,
 }
 
 /// Copies the archive in a file into a new file, which has its name only once it is whole and durable: until then it is called
-/// NEW.part. The archive's lock is shared meanwhile with others that only look. If its halves are larger than asked for, that is noted.
+/// NEW.part. The archive's lock is shared meanwhile with others that only look.
 pub fn copy_archive_file<R: AllocGlobal + Files<File = File>, W: Onlooker>(
     rt: &R,
     place: ArchivePath<'_>,
     new: &str,
     wanted: CopyWords,
-    note: &mut Collected,
     onlooker: &mut W,
 ) -> Result<(), Refusal> {
     let from = take_disk(rt, place, Access::Looking)?;
-    let part = part_of(rt.alloc(), new)?;
-    clear(rt, new, &part).map_err(|fault| Refusal::File(FileWord::New, fault))?;
+    let mut file = PartFile::new(rt.alloc(), rt, new)?;
+    copy_named(rt.alloc(), from, &mut file, wanted, onlooker)
+}
+
+// Copies the archive on a disk into a new file, which gets its name then.
+fn copy_named<'a, R: Files<File = File>, W: Onlooker>(
+    alloc: Global,
+    from: FileDisk,
+    file: &mut PartFile<'a, R>,
+    wanted: CopyWords,
+    onlooker: &mut W,
+) -> Result<(), Refusal>
+    ensures whole { OnOk result (IsWhole false (⟦<PartFile<'a, R> as NewFile>⟧.facts file.new)) }
+{
+    clear(file).map_err(|fault| Refusal::File(FileWord::New, fault))?;
     // The locks of both files are kept until the new one has its name.
-    let copy = copy_part(rt, from, &part, wanted, note, onlooker)?;
-    let named = give_name(rt, new, &part, &copy.file);
+    let copy = copy_part(alloc, from, file, wanted, onlooker)?;
+    let named = give_name(file);
     drop(copy);
-    named.map_err(|fault| fault.refusal(FileWord::New))
+    named.map_err(|fault| name_refusal(FileWord::New, fault))
 }
 
 /// Copies the archive in a file into a file in the same folder, which takes its place once it is whole and durable. The archive's lock is held
@@ -73,7 +88,6 @@ pub fn resize_archive_file<R: AllocGlobal + Files<File = File>, W: Onlooker>(
     rt: &R,
     place: ArchivePath<'_>,
     wanted: CopyWords,
-    note: &mut Collected,
     onlooker: &mut W,
 ) -> Result<(), Refusal> {
     let path = fs::canonicalize(rt, place.path).map_err(|error| refused(FileFault::from(error)))?;
@@ -84,13 +98,26 @@ pub fn resize_archive_file<R: AllocGlobal + Files<File = File>, W: Onlooker>(
     let waits = place.waits;
     let old = take_file(rt, ArchivePath { path, waits }, Access::Changing).map_err(refused)?;
     refuse_rights(&old, wanted.drops_rights)?;
-    let part = part_of(rt.alloc(), path)?;
-    clear_part(rt, &part).map_err(refused)?;
-    let from = disk_beside(rt.alloc(), &old).map_err(refused)?;
-    let copy = copy_part(rt, from, &part, wanted, note, onlooker)?;
-    let placed = take_place(rt, path, &part, &old, &copy.file);
+    let mut file = PartFile::new(rt.alloc(), rt, path)?;
+    copy_in_place(rt.alloc(), &old, &mut file, wanted, onlooker)
+}
+
+// Copies the archive in a file that is open, and locked, into a new file, which takes its place then.
+fn copy_in_place<'a, R: Files<File = File>, W: Onlooker>(
+    alloc: Global,
+    old: &File,
+    file: &mut PartFile<'a, R>,
+    wanted: CopyWords,
+    onlooker: &mut W,
+) -> Result<(), Refusal>
+    ensures whole { OnOk result (IsWhole true (⟦<PartFile<'a, R> as NewFile>⟧.facts file.new)) }
+{
+    clear_part(file).map_err(refused)?;
+    let from = disk_beside(alloc, old).map_err(refused)?;
+    let copy = copy_part(alloc, from, file, wanted, onlooker)?;
+    let placed = take_place(file, old);
     drop(copy);
-    placed.map_err(|fault| fault.refusal(FileWord::Archive))
+    placed.map_err(|fault| name_refusal(FileWord::Archive, fault))
 }
 
 // The archive's file is refused.
@@ -114,75 +141,59 @@ fn disk_beside(alloc: Global, file: &File) -> Result<FileDisk, FileFault> {
 }
 
 // Copies the archive on a disk into a new file of this name. A copy that fails leaves no file. If the records of its cases leave no room in
-// a half, it is tried again with larger ones, unless a size is asked for, and that is noted.
-fn copy_part<R: AllocGlobal + Files<File = File>, W: Onlooker>(
-    rt: &R,
+// a half, it is tried again with larger ones, unless a size is asked for.
+fn copy_part<'a, R: Files<File = File>, W: Onlooker>(
+    alloc: Global,
     from: FileDisk,
-    part: &str,
+    file: &mut PartFile<'a, R>,
     wanted: CopyWords,
-    note: &mut Collected,
     onlooker: &mut W,
-) -> Result<Copied, Refusal> {
-    let (looked, from) = look_over(rt.alloc(), from, 0);
+) -> Result<Copied, Refusal>
+    ensures written { OnOk result (IsWritten (⟦<PartFile<'a, R> as NewFile>⟧.facts file.new)) }
+{
+    let (looked, from) = look_over(alloc, from, 0);
     looked?;
     let mut from = from;
     let Some(shape) = shape_on(&mut from) else {
         return Err(Refusal::File(FileWord::Archive, FileFault::Settle));
     };
     let wish = wish_of(wanted, shape);
-    let (refusal, from) = match copy_into(rt, from, part, wish, wanted.is_sparse, onlooker) {
+    let (refusal, from) = match copy_into(alloc, from, file, wish, wanted.is_sparse, onlooker) {
         Ok(copied) => return Ok(copied),
         Err(refused) => refused,
     };
     let Some(larger) = larger_wish(wanted.half_blocks, wish, refusal) else {
         return Err(refusal);
     };
-    match copy_into(rt, from, part, larger, wanted.is_sparse, onlooker) {
-        Ok(copied) => {
-            note_larger(larger.shape, note);
-            Ok(copied)
-        }
+    match copy_into(alloc, from, file, larger, wanted.is_sparse, onlooker) {
+        Ok(copied) => Ok(copied),
         Err((refusal, _)) => Err(refusal),
     }
 }
 
-// Notes that a new archive has larger halves than the old one. A second note is a line of its own.
-fn note_larger(shape: Shape, note: &mut Collected) {
-    let is_second = !note.text().is_empty();
-    let mut reply = Reply::new(note);
-    if is_second {
-        reply.tell(b"\ncorekeep: ");
-    }
-    reply.tell(b"the new archive has halves of ");
-    reply.tell_decimal(u128::from(shape.half_blocks));
-    reply.tell(b" blocks, one more than ARCHIVE: the records of the cases fill a half");
-    let _ = reply.finish();
-}
-
 // Copies the archive on a disk into a new file, as a wish says, or hands its disk back. A copy that fails leaves no file.
-fn copy_into<R: AllocGlobal + Files<File = File>, W: Onlooker>(
-    rt: &R,
+fn copy_into<'a, R: Files<File = File>, W: Onlooker>(
+    alloc: Global,
     from: FileDisk,
-    part: &str,
+    file: &mut PartFile<'a, R>,
     wish: CopyWish,
     is_sparse: bool,
     onlooker: &mut W,
-) -> Result<Copied, (Refusal, FileDisk)> {
+) -> Result<Copied, (Refusal, FileDisk)>
+    ensures written { OnOk result (IsWritten (⟦<PartFile<'a, R> as NewFile>⟧.facts file.new)) }
+{
     let length = match wish.shape.length() {
         Ok(length) => length,
         Err(fault) => return Err((Refusal::from(fault), from)),
     };
-    let (file, onto) = match make_file(rt, part, length, is_sparse, onlooker) {
-        Ok(made) => made,
+    let onto = match make_file(alloc, file, length, is_sparse, onlooker) {
+        Ok(onto) => onto,
         Err(refusal) => return Err((refusal, from)),
     };
-    let (copied, from, onto) = copy_counted(rt.alloc(), from, onto, wish, onlooker);
-    match copied {
-        Ok(()) => Ok(Copied { from, onto, file }),
-        Err(refusal) => {
-            remove_part(rt, part, &file);
-            Err((refusal, from))
-        }
+    let (copied, from, mut onto) = copy_counted(alloc, from, onto, wish, onlooker);
+    match settle_made(file, &mut onto, copied) {
+        Ok(()) => Ok(Copied { from, onto }),
+        Err(refusal) => Err((refusal, from)),
     }
 }
 

@@ -1,12 +1,12 @@
 // Folders that others may write: they could put another file in the place of one, at any time.
 use crate::collected::Collected;
-use crate::part_file::folder_of;
 use script_streams::Reply;
 use std::fs;
 use std::fs::File;
 use std::os::unix::fs::MetadataExt;
 use std::path::Path;
 use std::rt::Files;
+use whole_files::folder_of;
 
 // The bits of a mode by which the group and others may write.
 const OTHERS_WRITE: u32 = 0o022;
@@ -56,18 +56,12 @@ pub fn shared_folder<R: AllocGlobal + Files<File = File>>(rt: &R, path: &str) ->
     String::from_str(rt.alloc(), shared.as_str()).ok()
 }
 
-/// Notes a folder that others may write, on the path of a file. The note begins with a word.
-pub fn note_shared<R: AllocGlobal + Files<File = File>>(
-    rt: &R,
-    path: &str,
-    word: &[u8],
-    note: &mut Collected,
-) {
+/// Notes a folder that others may write, on the path of a file.
+pub fn note_shared<R: AllocGlobal + Files<File = File>>(rt: &R, path: &str, note: &mut Collected) {
     let Some(folder) = shared_folder(rt, path) else {
         return;
     };
     let mut reply = Reply::new(note);
-    reply.tell(word);
     reply.tell_text(folder.as_bytes());
     reply.tell(b": others may write it, and could put another file in the place of this one");
     let _ = reply.finish();

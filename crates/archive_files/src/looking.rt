@@ -5,7 +5,6 @@ ghost use Rattle.archive_files.specs.Looking.{copy_told, look_fault, unlocked_to
 use crate::archive_path::ArchivePath;
 use crate::archives::{Access, MOST_TRIES, look_at_file, open_file};
 use crate::failures::{Failure, FileWord, Refusal};
-use crate::part_file::is_named;
 use disk_model::FileFault;
 use inspector_cli::{CopyFault, SessionFault};
 use intake::ArchiveFault;
@@ -13,6 +12,7 @@ use shared_disk::{LookFault, Looked, SharedFile};
 use std::fs::File;
 use std::rt::Files;
 use unlocked_reading::UnlockedFault;
+use whole_files::is_named;
 
 /// Looks at the archive in a file. The file's lock is shared with others that look, and held while the archive's journal is read, no
 /// longer. This alone waits, as long as another changes the archive.

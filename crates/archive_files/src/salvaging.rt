@@ -1,14 +1,14 @@
 // The cases of an archive whose opening is refused, copied into a new file.
-ghost use Rattle.std.specs.Prelude.{◌≡◌, ◌^◌, ◌<◌, [], false};
+ghost use Rattle.std.specs.Prelude.{◌≡◌, ◌⊎◌, ◌^◌, ◌<◌, [], false, OnOk};
 ghost use Rattle.std.proofs.lemmas.Bool.{false≢true};
 ghost use Rattle.salvage.specs.Readings.{FoundWithin};
-ghost use Rattle.archive_files.specs.Salvaging.{SalvagesOnto};
+ghost use Rattle.archive_files.specs.Salvaging.{IsRefusedAside, Salvages, SalvagesOnto, TellsFound};
+ghost use Rattle.whole_files.specs.Whole.{IsWhole};
 
 use crate::archive_path::ArchivePath;
-use crate::archives::{Access, make_file, take_file, tell_trouble};
+use crate::archives::{Access, make_file, name_refusal, settle_made, take_file, tell_trouble};
 use crate::copy_over::{copy_refusal, larger_wish};
 use crate::failures::{Failure, FileWord, Refusal};
-use crate::part_file::{clear, give_name, part_of, remove_part};
 use archive_care::CopyWish;
 use diagnostics::Onlooker;
 use disk_model::{Disk, DiskFault, FileDisk, FileFault};
@@ -22,6 +22,7 @@ use std::alloc::Global;
 use std::fs::File;
 use std::os::unix::fs::FileExt;
 use std::rt::Files;
+use whole_files::{NewFile, PartFile, clear, give_name};
 
 // A file that is open for reading, of the length that it had when it was opened. Nothing is proved of its bytes.
 #[derive(Drop)]
@@ -88,29 +89,49 @@ pub fn salvage<R: AllocGlobal + Files<File = File>, O: Output, W: Onlooker>(
     output: &mut O,
     onlooker: &mut W,
 ) -> Result<(), Failure> {
-    let source = open_source(rt, place)?;
-    match find_cases(rt.alloc(), &source) {
-        Ok(found) => salvage_found(rt, &source, &found, new, output, onlooker),
-        Err(fault) => salvage_mended(rt, &source, fault, new, output, onlooker),
+    match open_source(rt, place) {
+        Ok(source) => salvage_source(rt, &source, new, output, onlooker),
+        Err(refusal) => Err(Failure::Refused(refusal)),
+    }
+}
+
+// The same of the archive that a source gives.
+fn salvage_source<R: AllocGlobal + Files<File = File>, S: Source, O: Output, W: Onlooker>(
+    rt: &R,
+    source: &S,
+    new: Salvaged<'_>,
+    output: &mut O,
+    onlooker: &mut W,
+) -> Result<(), Failure>
+    ensures salvages { Salvages S.Source O.Output source.now output.old output.new result }
+{
+    match find_cases(rt.alloc(), source) {
+        Ok(found) => salvage_found(rt, source, &found, new, output, onlooker),
+        Err(fault) => salvage_mended(rt, source, fault, new, output, onlooker),
     }
 }
 
 // The same of an archive whose opening is refused so, and nothing lets it open.
-fn salvage_mended<R: AllocGlobal + Files<File = File>, O: Output, W: Onlooker>(
+fn salvage_mended<R: AllocGlobal + Files<File = File>, S: Source, O: Output, W: Onlooker>(
     rt: &R,
-    source: &ReadFile,
+    source: &S,
     fault: OpenFault,
     new: Salvaged<'_>,
     output: &mut O,
     onlooker: &mut W,
-) -> Result<(), Failure> {
-    let mended = find_shape(rt.alloc(), source, fault, new.wish).map_err(Refusal::Open)?;
-    let Some(mended) = mended else {
-        return Err(Failure::from(Refusal::Open(fault)));
+) -> Result<(), Failure>
+    ensures salvages { Salvages S.Source O.Output source.now output.old output.new result }
+{
+    let mended = match find_shape(rt.alloc(), source, fault, new.wish) {
+        Ok(Some(mended)) => mended,
+        Ok(None) => return Err(Failure::Refused(Refusal::Open(fault))),
+        Err(fault) => return Err(Failure::Refused(Refusal::Open(fault))),
     };
     let view = Restored::new(source, &mended.front, mended.length);
-    let found = find_mended(rt.alloc(), &view, mended.mend).map_err(Refusal::Open)?;
-    salvage_found(rt, &view, &found, new, output, onlooker)
+    match find_mended(rt.alloc(), &view, mended.mend) {
+        Ok(found) => salvage_found(rt, &view, &found, new, output, onlooker),
+        Err(fault) => Err(Failure::Refused(Refusal::Open(fault))),
+    }
 }
 
 // Copies the cases that were found, and tells of them.
@@ -123,8 +144,26 @@ fn salvage_found<R: AllocGlobal + Files<File = File>, S: Source, O: Output, W: O
     onlooker: &mut W,
 ) -> Result<(), Failure>
     requires { FoundWithin (S.size source.now) found.now }
+    ensures told { IsRefusedAside output.old output.new result ⊎ TellsFound O.Output found.now output.old output.new result }
 {
-    put_cases(rt, source, found, new, onlooker)?;
+    let Ok(mut file) = PartFile::new(rt.alloc(), rt, new.path) else {
+        return Err(Failure::Refused(Refusal::OutOfMemory));
+    };
+    match put_cases(rt.alloc(), source, found, &mut file, new.wish, onlooker) {
+        Ok(()) => tell_found(&file, found, output),
+        Err(refusal) => Err(Failure::Refused(refusal)),
+    }
+}
+
+// Tells of the cases that were copied, once the new file is whole.
+fn tell_found<'a, R: Files<File = File>, O: Output>(
+    file: &PartFile<'a, R>,
+    found: &Found,
+    output: &mut O,
+) -> Result<(), Failure>
+    requires whole { IsWhole false (⟦<PartFile<'a, R> as NewFile>⟧.facts file.now) }
+    ensures told { TellsFound O.Output found.now output.old output.new result }
+{
     if !tell_cases(found, output) {
         return Err(Failure::Faulted(SessionFault::WriteFailed));
     }
@@ -155,55 +194,54 @@ fn open_source<R: AllocGlobal + Files<File = File>>(
 
 // Copies the cases that were found into a new file. If their records don't fit into a half of as many blocks as the archive has, and no
 // number is wished for, a half of the new one has one block more.
-fn put_cases<R: AllocGlobal + Files<File = File>, S: Source, W: Onlooker>(
-    rt: &R,
+fn put_cases<'a, R: Files<File = File>, S: Source, W: Onlooker>(
+    alloc: Global,
     source: &S,
     found: &Found,
-    new: Salvaged<'_>,
+    file: &mut PartFile<'a, R>,
+    asked: ShapeWish,
     onlooker: &mut W,
 ) -> Result<(), Refusal>
     requires { FoundWithin (S.size source.now) found.now }
+    ensures whole { OnOk result (IsWhole false (⟦<PartFile<'a, R> as NewFile>⟧.facts file.new)) }
 {
     let wish = CopyWish {
         shape: Shape {
-            half_blocks: new.wish.half_blocks.unwrap_or(found.shape().half_blocks),
-            data_blocks: new.wish.data_blocks.unwrap_or(found.shape().data_blocks),
+            half_blocks: asked.half_blocks.unwrap_or(found.shape().half_blocks),
+            data_blocks: asked.data_blocks.unwrap_or(found.shape().data_blocks),
         },
         keeps_labels: false,
     };
-    let Err(refusal) = put_wished(rt, source, found, new.path, wish, onlooker) else {
+    let Err(refusal) = put_wished(alloc, source, found, file, wish, onlooker) else {
         return Ok(());
     };
-    match larger_wish(new.wish.half_blocks, wish, refusal) {
-        Some(larger) => put_wished(rt, source, found, new.path, larger, onlooker),
+    match larger_wish(asked.half_blocks, wish, refusal) {
+        Some(larger) => put_wished(alloc, source, found, file, larger, onlooker),
         None => Err(refusal),
     }
 }
 
 // The same into a file as a wish says. A copy that fails leaves no file.
-fn put_wished<R: AllocGlobal + Files<File = File>, S: Source, W: Onlooker>(
-    rt: &R,
+fn put_wished<'a, R: Files<File = File>, S: Source, W: Onlooker>(
+    alloc: Global,
     source: &S,
     found: &Found,
-    new: &str,
+    file: &mut PartFile<'a, R>,
     wish: CopyWish,
     onlooker: &mut W,
 ) -> Result<(), Refusal>
     requires { FoundWithin (S.size source.now) found.now }
+    ensures whole { OnOk result (IsWhole false (⟦<PartFile<'a, R> as NewFile>⟧.facts file.new)) }
 {
-    let part = part_of(rt.alloc(), new)?;
-    clear(rt, new, &part).map_err(|fault| Refusal::File(FileWord::New, fault))?;
-    let (file, onto) = make_file(rt, &part, wish.shape.length()?, false, onlooker)?;
-    let (copied, onto) = salvage_onto(rt.alloc(), source, found, wish, onto);
+    clear(file).map_err(|fault| Refusal::File(FileWord::New, fault))?;
+    let onto = make_file(alloc, file, wish.shape.length()?, false, onlooker)?;
+    let (copied, mut onto) = salvage_onto(alloc, source, found, wish, onto);
     tell_trouble(&onto, onlooker);
-    if copied.is_err() {
-        remove_part(rt, &part, &file);
-    }
-    copied?;
+    settle_made(file, &mut onto, copied)?;
     // The lock of its file is kept until it has its name.
-    let named = give_name(rt, new, &part, &file);
+    let named = give_name(file);
     drop(onto);
-    named.map_err(|fault| fault.refusal(FileWord::New))
+    named.map_err(|fault| name_refusal(FileWord::New, fault))
 }
 
 /// Copies the cases that were found of an archive onto a new disk, as a wish says, and hands that back.

@@ -1,17 +1,17 @@
 // What needs no script: an image out of its archive, and one line with its reply.
-ghost use Rattle.std.specs.Prelude.{◌≡◌};
+ghost use Rattle.std.specs.Prelude.{◌≡◌, false, OnOk};
 ghost use Rattle.script_lines.specs.Commands.{question_said};
 ghost use Rattle.script_lines.specs.Said.{only_looks};
 ghost use Rattle.archive_files.specs.Told.{access_by};
+ghost use Rattle.whole_files.specs.Whole.{IsWhole};
 
 use crate::archive_path::ArchivePath;
-use crate::archives::{Access, take_disk, tell_trouble};
+use crate::archives::{Access, name_refusal, take_disk, tell_trouble};
 use crate::asking::ask_looked;
 use crate::failures::{Failure, FileWord, Refusal};
 use crate::held::Held;
 use crate::looking::take_look;
 use crate::over_disk::{CaseNumber, Unfinished, ask_over, copy_over};
-use crate::part_file::{begin, give_name, part_of, remove_part};
 use diagnostics::Onlooker;
 use disk_model::FileFault;
 use inspector_cli::{Question, SessionFault};
@@ -20,6 +20,7 @@ use shown_progress::CountedOutput;
 use std::fs::File;
 use std::io::ErrorKind;
 use std::rt::Files;
+use whole_files::{NewFile, PartFile, begin, give_name, remove};
 
 /// Writes the image of a case to the output, or to a new file, which is durable then.
 pub fn extract<R: AllocGlobal + Files<File = File>, O: Output, W: Onlooker>(
@@ -35,7 +36,12 @@ pub fn extract<R: AllocGlobal + Files<File = File>, O: Output, W: Onlooker>(
     };
     match file {
         None => extract_to(rt, place, case, output, onlooker),
-        Some(path) => extract_to_file(rt, place, case, path, onlooker),
+        Some(path) => {
+            let Ok(mut file) = PartFile::new(rt.alloc(), rt, path) else {
+                return Err(Failure::Aside(Refusal::OutOfMemory));
+            };
+            extract_to_file(rt, place, case, &mut file, onlooker)
+        }
     }
 }
 
@@ -70,29 +76,30 @@ fn copy_counted<R: AllocGlobal + Files<File = File>, O: Output, W: Onlooker>(
 // FILE has its name only once it is whole and synced, and the case was found again. Until then it is called FILE.part. What was
 // written stays there, whatever failed after it. If nothing was written, or the case is not known to have been there all the time,
 // it is removed.
-fn extract_to_file<R: AllocGlobal + Files<File = File>, W: Onlooker>(
+fn extract_to_file<'a, R: AllocGlobal + Files<File = File>, W: Onlooker>(
     rt: &R,
     place: ArchivePath<'_>,
     case: CaseNumber,
-    path: &str,
+    file: &mut PartFile<'a, R>,
     onlooker: &mut W,
-) -> Result<(), Failure> {
-    let part = part_of(rt.alloc(), path).map_err(|_| Failure::Aside(Refusal::OutOfMemory))?;
-    let file = begin(rt, path, &part).map_err(|fault| refused_file(fault))?;
-    let mut output = WriteOutput::new(file);
+) -> Result<(), Failure>
+    ensures whole { OnOk result (IsWhole false (⟦<PartFile<'a, R> as NewFile>⟧.facts file.new)) }
+{
+    begin(file).map_err(|fault| refused_file(fault))?;
+    let writer = file.writer().map_err(|error| refused_file(error.into()))?;
+    let mut output = WriteOutput::new(writer);
     let done = copy_counted(rt, place, case, &mut output, onlooker);
     let why = output.fault();
-    let file = output.into_inner();
     match done {
         Ok(()) => {
-            file.sync_all()
+            file.sync()
                 .map_err(|error| Failure::Unwritten(error.kind()))?;
-            let named = give_name(rt, path, &part, &file);
-            named.map_err(|fault| Failure::Aside(fault.refusal(FileWord::NewFile)))
+            let named = give_name(file);
+            named.map_err(|fault| Failure::Aside(name_refusal(FileWord::NewFile, fault)))
         }
         Err(unfinished) => {
-            if is_empty(&file) || !unfinished.is_front {
-                remove_part(rt, &part, &file);
+            if file.is_empty() || !unfinished.is_front {
+                remove(file);
             }
             Err(told_why(unfinished.failure, why))
         }
@@ -109,14 +116,6 @@ fn told_why(failure: Failure, why: Option<ErrorKind>) -> Failure {
     match (failure, why) {
         (Failure::Faulted(SessionFault::WriteFailed), Some(kind)) => Failure::Unwritten(kind),
         (failure, _) => failure,
-    }
-}
-
-// Whether a file is known to have no bytes.
-fn is_empty(file: &File) -> bool {
-    match file.metadata() {
-        Ok(attributes) => attributes.len() == 0,
-        Err(_) => false,
     }
 }
 

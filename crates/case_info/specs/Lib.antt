@@ -1,3 +1,4 @@
 pub mod Archives
 pub mod Inquiries
+pub mod Fronts
 pub mod Screens

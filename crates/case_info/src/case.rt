@@ -1,23 +1,23 @@
 // `info` of a case: one screen of it.
-ghost use Rattle.std.specs.Prelude.{◌≡◌, false, IfOk, map};
+ghost use Rattle.std.specs.Prelude.{◌≡◌, ℕ, false, IfOk, List, map};
 ghost use Rattle.case_screens.specs.Screen.{info_answer};
-ghost use Rattle.case_screens.specs.declared.answer.CaseAnswers.TheVariants.{Core, Exec};
-ghost use Rattle.case_screens.specs.declared.answer.Answer.{Answer};
+ghost use Rattle.case_screens.specs.declared.answer.CaseAnswers.TheVariants.{Core};
 ghost use Rattle.case_screens.specs.declared.answer.CoreAnswers.{CoreAnswers};
 ghost use Rattle.intake.specs.Parts.{state_of};
 ghost use Rattle.intake.specs.Step.{HasCase};
 ghost use Rattle.journal_layout.specs.Case.{Case, case_of};
 ghost use Rattle.case_info.specs.Inquiries.{held};
-ghost use Rattle.case_info.specs.Screens.{AreTold, IsScreenBy, ShowsCase, ShowsCore, ShowsExec, ShowsOn, answer_view, told_view};
+ghost use Rattle.case_info.specs.Fronts.{SaysCore};
+ghost use Rattle.case_info.specs.Screens.{AreTold, IsScreenBy, ShowsCase, ShowsCore, ShowsExec, ShowsOn};
 
-use crate::front::{CoreFront, front_of};
-use crate::gathered::{CoreReplies, ask_core, ask_header, lines_of_each, shown_threads};
-use crate::inquiry::Told;
+use crate::front::{CoreFront, core_in, front_of, header_in};
+use crate::gathered::{CoreReplies, answers_of, ask_core, lines_of_each, shown_count};
 use crate::telling::{shown, write_text};
 use archive_files::{ArchivePath, Collected, Failure, Refusal, take_look, unasked};
 use case_listing::find_case;
 use case_screens::{CaseAnswers, CoreAnswers, case_json, tell_case_screen};
 use disk_model::Disk;
+use elf_view::Want;
 use intake::{Archive, Settings};
 use journal_layout::{Entry, Kind};
 use script_streams::{Output, Reply};
@@ -88,7 +88,7 @@ fn number_of<D: Disk + Drop>(alloc: Global, disk: D, case: &[u8]) -> Result<u32,
     }
 }
 
-// Opens the archive on a disk, asks the case, and puts what is told of it into a text.
+// Opens the archive on a disk, sees the case, and puts what is told of it into a text.
 fn screen_over<D: Disk + Drop>(
     alloc: Global,
     disk: D,
@@ -138,39 +138,34 @@ fn core_screen<D: Disk>(
 ) -> Result<Collected, Refusal>
     ensures { IfOk result (λ text. words.is_json ≡ false → ShowsCore D.Disk archive.old seq words.all_threads text archive.new) }
 {
-    let replies = ask_core(alloc, seq, words.all_threads, archive)?;
-    let front = front_of(alloc, seq, archive)?;
-    Ok(put_core(alloc, archive, seq, &replies, front, words.is_json)?)
+    let front = front_of(alloc, seq, Want::Core, archive)?;
+    let said = core_in(&front);
+    let count = shown_count(&said.core, words.all_threads);
+    let replies = ask_core(alloc, seq, count, archive)?;
+    Ok(put_core(alloc, archive, seq, said, &replies, words.is_json)?)
 }
 
-// Puts what a core is asked into a text.
+// Puts what a core says, and what it was asked, into a text.
 fn put_core<D: Disk>(
     alloc: Global,
     archive: &Archive<D>,
     seq: u32,
+    said: CoreFront<'_>,
     replies: &CoreReplies,
-    front: CoreFront,
     is_json: bool,
 ) -> Result<Collected, Refusal>
-    ensures { IfOk result (λ text. is_json ≡ false → (a : CoreAnswers) × AreTold replies.now a × (a.whole ≡ front.whole) × (a.unread ≡ front.unread)
-        × IsScreenBy archive.now seq (Core a) text) }
+    ensures { IfOk result (λ text. (image : List ℕ) → SaysCore image said.entry.core said.entry.whole said.entry.unread → is_json ≡ false
+        → (a : CoreAnswers) × SaysCore image a.core a.whole a.unread × AreTold replies.now a × IsScreenBy archive.now seq (Core a) text) }
 {
-    let process = replies.process.lines(alloc)?;
-    let signal = replies.signal.lines(alloc)?;
-    let threads = replies.threads.lines(alloc)?;
-    let files = replies.files.lines(alloc)?;
     let builds = replies.builds.lines(alloc)?;
     let unwound = lines_of_each(alloc, &replies.unwound)?;
-    let shown = shown_threads(alloc, &threads.lines, &unwound)?;
+    let shown = answers_of(alloc, &unwound)?;
     let answers = CaseAnswers::Core(CoreAnswers {
-        process: process.answer(),
-        signal: signal.answer(),
-        threads: threads.answer(),
-        files: files.answer(),
+        core: said.core,
         unwound: &shown,
         builds: builds.answer(),
-        whole: front.whole,
-        unread: front.unread,
+        whole: said.whole,
+        unread: said.unread,
     });
     Ok(put_text(alloc, archive, seq, &answers, is_json)?)
 }
@@ -183,23 +178,9 @@ fn exec_screen<D: Disk>(
 ) -> Result<Collected, Refusal>
     ensures { IfOk result (λ text. words.is_json ≡ false → ShowsExec D.Disk archive.old seq text archive.new) }
 {
-    let told = ask_header(alloc, seq, archive)?;
-    Ok(put_exec(alloc, archive, seq, &told, words.is_json)?)
-}
-
-// Puts what an executable is asked into a text.
-fn put_exec<D: Disk>(
-    alloc: Global,
-    archive: &Archive<D>,
-    seq: u32,
-    told: &Told,
-    is_json: bool,
-) -> Result<Collected, Refusal>
-    ensures { IfOk result (λ text. is_json ≡ false → (a : Answer) × (answer_view a ≡ told_view told.now) × IsScreenBy archive.now seq (Exec a) text) }
-{
-    let lines = told.lines(alloc)?;
-    let answers = CaseAnswers::Exec(lines.answer());
-    Ok(put_text(alloc, archive, seq, &answers, is_json)?)
+    let front = front_of(alloc, seq, Want::Exec, archive)?;
+    let answers = CaseAnswers::Exec(header_in(&front));
+    Ok(put_text(alloc, archive, seq, &answers, words.is_json)?)
 }
 
 // Puts what is told of a case into a text.

@@ -1,53 +1,74 @@
-// What the first bytes of a core say of it.
-ghost use Rattle.std.specs.Prelude.{◌≡◌, IfOk};
-ghost use Rattle.core_length.specs.Whole.{whole_length};
-ghost use Rattle.unread_notes.specs.Unread.{unread_notes};
-ghost use Rattle.case_info.specs.Screens.{SeesFront};
+// What the first bytes of a case's image say.
+ghost use Rattle.std.specs.Prelude.{◌≡◌, ℕ, List, IfOk};
+ghost use Rattle.elf_view.specs.declared.faults.Want.{Want};
+ghost use Rattle.case_screens.specs.Core.{header_in};
+ghost use Rattle.case_info.specs.Fronts.{IsFront, SaysCore, SeesFront};
 
 use archive_files::Refusal;
+use case_queries::read_front;
 use core_length::whole_length;
 use disk_model::Disk;
+use elf_view::{Elf, ElfFault, Header, Want, a_sound_front_is_enough, soundness_has_no_order};
+use image_replies::{CoreFault, CoreImage, a_sound_front_answers};
 use intake::Archive;
 use std::alloc::Global;
 use unread_notes::{UnreadNotes, unread_notes};
 
-// How many first bytes of an image are looked at.
-const FRONT: u64 = 65_536;
+// How many first bytes are looked at for what is told of a core beside its headers and notes.
+const FIRST: usize = 65_536;
 
 // What the first bytes of a core say of it.
 #[derive(Clone, Copy)]
-pub(crate) struct CoreFront {
+pub(crate) struct CoreFront<'a> {
+    // The core, or the first fault of its headers, its notes and its typed notes.
+    pub(crate) core: Result<CoreImage<'a>, CoreFault>,
     // The length that its program headers want, if they lie in these bytes.
     pub(crate) whole: Option<u64>,
     // Why notes of it are not read as they are meant, if some are not.
     pub(crate) unread: Option<UnreadNotes>,
 }
 
-// What the first bytes of a core say of it.
+// The first bytes of a case's image, as many as its headers and notes want.
 pub(crate) fn front_of<D: Disk>(
     alloc: Global,
     seq: u32,
+    want: Want,
     archive: &mut Archive<D>,
-) -> Result<CoreFront, Refusal>
-    ensures { IfOk result (λ found. SeesFront D.Disk archive.old seq found.whole found.unread archive.new) }
+) -> Result<Vec<u8>, Refusal>
+    ensures { IfOk result (λ front. SeesFront D.Disk archive.old seq want front.items archive.new) }
 {
     let length = match archive.case(seq) {
         Ok(entry) => entry.length,
         Err(fault) => return Err(Refusal::Call(fault)),
     };
-    let mut front = vec![in alloc; 0u8; length.min(FRONT) as usize]?;
-    match archive.image_part(seq, 0, &mut front) {
-        Ok(()) => Ok(said_by(&front)),
+    match read_front(alloc, seq, want, length as usize, archive) {
+        Ok(front) => Ok(front),
         Err(fault) => Err(Refusal::Call(fault)),
     }
 }
 
-fn said_by(front: &[u8]) -> CoreFront
-    ensures whole { result.whole ≡ whole_length front.now }
-    ensures unread { result.unread ≡ unread_notes front.now }
+// What a core says by its first bytes.
+pub(crate) fn core_in(front: &[u8]) -> CoreFront<'_>
+    ensures { (image : List ℕ) → IsFront Want.Core front.now image → SaysCore image result.core result.whole result.unread }
 {
+    a_sound_front_answers();
+    a_sound_front_is_enough();
+    let (first, _) = front.split_at(front.len().min(FIRST));
     CoreFront {
-        whole: whole_length(front),
-        unread: unread_notes(front),
+        core: CoreImage::read(front),
+        whole: whole_length(first),
+        unread: unread_notes(first),
+    }
+}
+
+// What the file header of an executable says by its first bytes.
+pub(crate) fn header_in(front: &[u8]) -> Result<Header, ElfFault>
+    ensures { (image : List ℕ) → IsFront Want.Exec front.now image → result ≡ header_in image }
+{
+    a_sound_front_is_enough();
+    soundness_has_no_order();
+    match Elf::read(front, Want::Exec) {
+        Ok(elf) => Ok(elf.header()),
+        Err(fault) => Err(fault),
     }
 }

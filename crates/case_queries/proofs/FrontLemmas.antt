@@ -1,5 +1,5 @@
 -- The first bytes of an image, read one part after the other.
-use Rattle.std.proofs.Common.{◌≡◌, ◌≢◌, ◌⊎◌, inl, inr, ⊎_elim, ℕ, ◌+◌, ◌-◌, ◌≤◌, Bool, true, false, List, [], ◌∷◌, ◌++◌, take, length, replicate, Option, None, Some, Result, Ok, Err, Vec, Global, refl, ap, sym, ◌∙◌, subst, arith}
+use Rattle.std.proofs.Common.{◌≡◌, ◌≢◌, ◌⊎◌, inl, inr, ⊎_elim, ℕ, ◌+◌, ◌-◌, ◌≤◌, Bool, true, false, List, [], ◌∷◌, ◌++◌, min, take, length, replicate, Option, None, Some, Result, Ok, Err, Vec, Global, refl, ap, sym, ◌∙◌, subst, arith}
 use Rattle.std.proofs.lemmas.Bool.{false≢true}
 use Rattle.std.proofs.lemmas.Option.{same_Some}
 use Rattle.std.proofs.lemmas.List.{length-append, length-replicate, take_all}
@@ -170,10 +170,11 @@ module _ {D : Type 0} (g : disk.Ghosts D) where
       } in
       (image, sees, sym (take-append_seam front (replicate (c.len - length front) 0)), long)
 
-  -- What is read so far: it is no longer than the image.
+  -- What is read so far: it is no longer than the image, and has the bytes that are read at first.
   pub record FrontIsRead (old : Parts D) (seq size : ℕ) (front : List ℕ) (now : Parts D) : Type 0 where
     pub reads : ReadsFront g old seq front now
     pub short : length front ≤ size
+    pub first : min size 65536 ≤ length front
 
   -- no more is asked for than there is
   pub size_fits : (s t : ArchiveState) (seq size end : ℕ) → HasSize s seq size → t ≡ s → end ≤ size → (c : Case) → case_numbered seq t.cases ≡ Some c → end ≤ c.len
@@ -182,18 +183,21 @@ module _ {D : Type 0} (g : disk.Ghosts D) where
       let is = ap (λ (x : Case). x.len) (same_Some has.0 c (sym has.1.1 ∙ found)) in
       omega (arith, within, is, has.2)
 
-  pub read_first : (old new : Parts D) (seq size end : ℕ) (front front' : List ℕ) → length front ≡ 0 → ReadsUpTo g old seq front end (Ok tt) front' new → length front' ≤ size → FrontIsRead old seq size front' new
-  read_first old new seq size end [] front' none up short = record {
+  pub read_first : (old new : Parts D) (seq size end : ℕ) (front front' : List ℕ) → length front ≡ 0 → ReadsUpTo g old seq front end (Ok tt) front' new → length front' ≤ size → min size 65536 ≤ length front'
+      → FrontIsRead old seq size front' new
+  read_first old new seq size end [] front' none up short first = record {
     reads = subst (λ x. ReadsFront g old seq x new) (sym up.2) (first_read old new seq (end - 0) up.0 up.1);
     short = short;
+    first = first;
   }
-  read_first old new seq size end (x ∷ xs) front' none up short = absurd (omega (arith, none))
+  read_first old new seq size end (x ∷ xs) front' none up short first = absurd (omega (arith, none))
 
   pub read_next : (old mid new : Parts D) (seq size end : ℕ) (front front' : List ℕ) → FrontIsRead old seq size front mid → ReadsUpTo g mid seq front end (Ok tt) front' new → length front' ≤ size
       → FrontIsRead old seq size front' new
   read_next old mid new seq size end front front' so_far up short = record {
     reads = subst (λ x. ReadsFront g old seq x new) (sym up.2) (next_read old mid new seq (end - length front) front up.0 so_far.reads up.1);
     short = short;
+    first = (let least = so_far.first in omega (arith, least, ap length up.2, length-append front up.0));
   }
 
   pub refused_first : (old new : Parts D) (seq size end : ℕ) (front front' : List ℕ) (f : ArchiveFault) → ((x : List ℕ) → g.left_since old.disk (g.clock old.disk) x → g.may_leave old.disk x) → HasSize (state_of old) seq size
@@ -212,8 +216,9 @@ module _ {D : Type 0} (g : disk.Ghosts D) where
       → (length image.items ≡ size) ⊎ IsSoundFront want image.items → ReadsEnough g old seq want size (Ok image) new
   read_enough old new seq size want image has so_far enough =
       let short = so_far.short in
+      let first = so_far.first in
       let p = front_by old new seq image.items has.0 has.1.1 (omega (arith, short, has.2)) so_far.reads (g.is_honest old.disk) refl in
-      (p.0, p.1, p.2, p.3 ∙ has.2, enough)
+      (p.0, p.1, p.2, p.3 ∙ has.2, enough, first)
 
   -- an image that was read now, or its first bytes
   pub enough_read : (old new : Parts D) (seq size : ℕ) (want : Want) (k : KeptImage) → ReadsEnough g old seq want size (Ok k.image) new → SeesEnough g old seq want (Ok k) new

@@ -1,5 +1,5 @@
 -- The first bytes of an image, for the lines that ask no more of it.
-use Rattle.std.specs.Prelude.{◌≡◌, ◌⊎◌, ℕ, ◌-◌, ◌++◌, List, length, take, Some, Result, Ok, Err, IsTrue, Vec}
+use Rattle.std.specs.Prelude.{◌≡◌, ◌≤◌, ◌⊎◌, ℕ, ◌-◌, ◌++◌, List, length, min, take, Some, Result, Ok, Err, IsTrue, Vec}
 use Rattle.std.specs.Global.{Global}
 use Rattle.case_journal.specs.Viewing.{OnlyReads}
 use Rattle.disk_model.specs.declared.disk.Disk as disk
@@ -41,11 +41,11 @@ abbrev pub SeesEnough : {D : Type 0} → disk.Ghosts D → Parts D → ℕ → W
 SeesEnough g old seq want (Ok k) new = (image : List ℕ) × SeesImage g old seq image new × IsEnough want k.image.items image
 SeesEnough g old seq want (Err f) new = LooksAt g old seq (Err f) new
 
--- the same where they are read of an image of this size
+-- The same where they are read of an image of this size: they are 65,536 at least, or all.
 abbrev pub ReadsEnough : {D : Type 0} → disk.Ghosts D → Parts D → ℕ → Want → ℕ → Result (Vec ℕ Global) ArchiveFault → Parts D → Type 0
 ReadsEnough g old seq want size (Ok v) new =
     (image : List ℕ) × SeesImage g old seq image new × (v.items ≡ take (length v.items) image) × (length image ≡ size)
-    × ((length v.items ≡ size) ⊎ IsSoundFront want v.items)
+    × ((length v.items ≡ size) ⊎ IsSoundFront want v.items) × (min size 65536 ≤ length v.items)
 ReadsEnough g old seq want size (Err f) new = LooksAt g old seq (Err f) new
 
 -- a case of this number has an image of this size

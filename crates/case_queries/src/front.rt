@@ -75,9 +75,13 @@ pub(crate) fn read_up_to<D: Disk>(
     read_behind(seq, at, image, archive)
 }
 
-// Reads the first bytes of an image of `size` bytes until they are enough, each byte once at most. Room is taken as they are wanted, so
-// that an image which is larger than the memory can be asked.
-fn read_front<D: Disk>(
+/// Reads the first bytes of an image of `size` bytes until they are enough for the lines over headers and notes, each byte once at most.
+/// Room is taken as they are wanted, so that an image which is larger than the memory can be asked.
+///
+/// # Errors
+///
+/// Those of `image_part` of `Archive`. `OutOfMemory`: there is no room for them.
+pub fn read_front<D: Disk>(
     alloc: Global,
     seq: u32,
     want: Want,

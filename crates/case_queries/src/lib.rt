@@ -21,6 +21,7 @@ mod wanted;
 mod window;
 
 pub use collect_executables::StoredExecutable;
+pub use front::read_front;
 pub use inspect::answer_query;
 pub use kept_image::{Images, KeptImage};
 pub use laws::answers_are_of_the_case;

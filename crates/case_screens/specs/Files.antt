@@ -1,12 +1,12 @@
 -- The files that a core had mapped, and which of them are stored.
-use Rattle.std.specs.Prelude.{ℕ, ◌-◌, ◌&&◌, not, Bool, true, false, if◌then◌else◌, List, [], ◌∷◌, ◌++◌, length, find, filter, Option, None, Some, codes, decimal}
+use Rattle.std.specs.Prelude.{ℕ, ◌&&◌, not, Bool, true, false, if◌then◌else◌, List, [], ◌∷◌, ◌++◌, find, Option, None, Some, codes, decimal}
 use Rattle.std.specs.Str.{bytes_eq}
 use Rattle.journal_layout.specs.Case.{Case}
 use Rattle.journal_layout.specs.declared.entry.Kind.TheVariants.{Exec}
 use Rattle.case_tables.specs.Named.{has_name}
 use Rattle.case_tables.specs.Table.{left_text}
 use Rattle.case_tables.specs.Wanted.{is_same_kind}
-use Rattle.case_screens.specs.Lines.{line_at, word_at, row_count}
+use Rattle.case_screens.specs.Lines.{line_at, reason_in, row_count, word_at}
 use Rattle.case_screens.specs.Texts.{label_at, rows_to, refused_line, text_in}
 
 -- the number of the case, if it is an executable
@@ -43,4 +43,4 @@ file_row cases lines k =
 
 abbrev pub files_text : List Case → Bool → List (List ℕ) → List ℕ
 files_text cases true lines = rows_to (file_row cases lines) (row_count lines)
-files_text cases false lines = refused_line (codes "files     ") lines
+files_text cases false lines = refused_line (codes "files     ") (reason_in lines)

@@ -1,5 +1,8 @@
+pub mod Reasons
+pub mod ReasonWords
 pub mod Lines
 pub mod Texts
+pub mod Core
 pub mod Process
 pub mod Codes
 pub mod CodeWords

@@ -1,8 +1,9 @@
 -- The lines of a reply, and the words of a line.
-use Rattle.std.specs.Prelude.{ℕ, ◌-◌, List, [], get_or, map, drop, length}
+use Rattle.std.specs.Prelude.{ℕ, ◌-◌, List, [], None, get_or, map, drop, length}
 use Rattle.std.specs.Borrow.{Bor}
 use Rattle.bstr.specs.Text.{lines_of, without_terminator}
 use Rattle.script_words.specs.Words.{words_of}
+use Rattle.case_screens.specs.Reasons.{Reason}
 
 -- the lines of a text, without their ends
 abbrev pub reply_lines : List ℕ → List (List ℕ)
@@ -25,5 +26,5 @@ abbrev pub row_count : List (List ℕ) → ℕ
 row_count lines = length lines - 1
 
 -- why a line was refused: what follows `no ` in its reply
-abbrev pub reason_in : List (List ℕ) → List ℕ
-reason_in lines = drop 3 (line_at lines 0)
+abbrev pub reason_in : List (List ℕ) → Reason
+reason_in lines = record { name = drop 3 (line_at lines 0); index = None }

@@ -1,17 +1,20 @@
--- What a person is shown of a case: its facts, and what the lines of a script answer of it.
-use Rattle.std.specs.Prelude.{ℕ, ◌-◌, Bool, true, false, nat_lt, if◌then◌else◌, Option, None, Some, List, [], ◌∷◌, ◌++◌, length, codes, decimal}
+-- What a person is shown of a case: its facts, what its image says, and what the lines of a script answer of it.
+use Rattle.std.specs.Prelude.{ℕ, ◌-◌, Bool, nat_lt, if◌then◌else◌, Option, None, Some, Result, Ok, Err, List, [], ◌∷◌, ◌++◌, length, codes, decimal}
 use Rattle.journal_layout.specs.Case.{Case}
-use Rattle.script_words.specs.Printing.{shown}
+use Rattle.elf_view.specs.declared.faults.ElfFault.{ElfFault}
+use Rattle.elf_view.specs.declared.view.Header.{Header}
+use Rattle.script_words.specs.Printing.{hexadecimal, shown}
 use Rattle.case_tables.specs.Sizes.{size_text}
 use Rattle.case_tables.specs.Table.{spaces}
 use Rattle.case_tables.specs.Times.{time_text}
 use Rattle.case_screens.specs.Files.{files_text}
 use Rattle.case_screens.specs.Frames.{threads_text}
-use Rattle.case_screens.specs.Lines.{line_at, word_at, texts}
+use Rattle.case_screens.specs.Core.{desc_in, notes_read}
+use Rattle.case_screens.specs.Lines.{texts}
 use Rattle.case_screens.specs.Process.{process_text}
 use Rattle.case_screens.specs.Signal.{signal_line}
+use Rattle.case_screens.specs.Reasons.{elf_reason}
 use Rattle.case_screens.specs.Texts.{refused_line}
-use Rattle.case_screens.specs.declared.answer.Answer.{Answer}
 use Rattle.case_screens.specs.declared.answer.CoreAnswers.{CoreAnswers}
 use Rattle.case_screens.specs.declared.answer.CaseAnswers.{CaseAnswers}
 use Rattle.case_screens.specs.declared.answer.CaseAnswers.TheVariants.{Core, Exec}
@@ -50,25 +53,23 @@ notes_line (Some Linux) = codes "notes     of threads are named LINUX: only thos
 -- a core
 abbrev pub core_text : Case → List Case → CoreAnswers → List ℕ
 core_text c cases a =
-    when_text c.origin.time ++ (cut_line c.len a.whole ++ (notes_line a.unread ++ (process_text a.process.is_done (texts a.process.lines.now)
-    ++ (signal_line c.origin.signal a.signal.is_done (texts a.signal.lines.now)
-    ++ (threads_text (texts a.files.lines.now) a.threads.is_done (texts a.threads.lines.now) a.unwound.now
+    when_text c.origin.time ++ (cut_line c.len a.whole ++ (notes_line a.unread ++ (process_text (desc_in 3 (notes_read a.core))
+    ++ (signal_line c.origin.signal (desc_in 0x53494749 (notes_read a.core)) ++ (threads_text (notes_read a.core) a.unwound.now
     ++ files_text cases a.builds.is_done (texts a.builds.lines.now))))))
 
--- the header of an executable
-abbrev pub header_text : List ℕ → List ℕ
-header_text line =
-    codes "header    type " ++ (word_at line 1 ++ (codes ", entry " ++ (word_at line 3 ++ (codes ", flags "
-    ++ (word_at line 5 ++ (codes ", " ++ (word_at line 7 ++ (codes " program headers" ++ 10 ∷ []))))))))
+-- the file header of an executable (System V gABI, "ELF Header")
+abbrev pub header_text : Header → List ℕ
+header_text h =
+    codes "header    type " ++ (decimal h.kind ++ (codes ", entry " ++ (hexadecimal h.entry ++ (codes ", flags "
+    ++ (hexadecimal h.flags ++ (codes ", " ++ (decimal h.segments ++ (codes " program headers" ++ 10 ∷ []))))))))
 
--- an executable, by the reply to `header`
-abbrev pub exec_text : Bool → List (List ℕ) → List ℕ
-exec_text true lines = header_text (line_at lines 0)
-exec_text false lines = refused_line (codes "header    ") lines
+abbrev pub exec_text : Result Header ElfFault → List ℕ
+exec_text (Ok h) = header_text h
+exec_text (Err fault) = refused_line (codes "header    ") (elf_reason fault)
 
 abbrev pub answers_text : Case → List Case → CaseAnswers → List ℕ
 answers_text c cases (Core a) = core_text c cases a
-answers_text c cases (Exec a) = exec_text a.is_done (texts a.lines.now)
+answers_text c cases (Exec header) = exec_text header
 
 -- all that is shown of a case
 abbrev pub info_answer : Case → List Case → CaseAnswers → List ℕ

@@ -1,40 +1,51 @@
--- The signal that ended a process.
-use Rattle.std.specs.Prelude.{ℕ, Bool, true, false, if◌then◌else◌, List, [], ◌∷◌, ◌++◌, Option, None, Some, codes}
-use Rattle.std.specs.Str.{bytes_eq}
+-- The signal that ended a process, by its first NT_SIGINFO (sigaction(2), signal(7)).
+use Rattle.std.specs.Prelude.{ℕ, ℤ, List, [], ◌∷◌, ◌++◌, Option, None, Some, Result, Ok, Err, codes, decimal}
+use Rattle.std.specs.Fmt.{signed_decimal}
+use Rattle.core_notes.specs.Descriptor.{si_addr, si_code, si_pid, si_signo, si_uid}
+use Rattle.script_words.specs.Printing.{hexadecimal}
+use Rattle.thread_regs.specs.SignalNames.{name_of_signal}
 use Rattle.case_tables.specs.Cells.{signal_text}
 use Rattle.case_screens.specs.Codes.{CodeView, code_of_signal, sent_code}
-use Rattle.case_screens.specs.Lines.{line_at, word_at, reason_in}
+use Rattle.case_screens.specs.Reasons.{Reason}
 use Rattle.case_screens.specs.Texts.{refusal_text}
 
 -- a signal by its name, or by its number if it has none
-abbrev pub signal_word : List ℕ → List ℕ
-signal_word cause = if bytes_eq (word_at cause 2) (codes "-") then word_at cause 1 else codes "SIG" ++ word_at cause 2
+abbrev pub signal_word : Option (List ℕ) → ℤ → List ℕ
+signal_word (Some name) signo = codes "SIG" ++ name
+signal_word None signo = signed_decimal signo
 
 -- who sent it
-abbrev pub sender_text : List ℕ → List ℕ
-sender_text line = codes ", sent by process " ++ (word_at line 1 ++ (codes " of user " ++ word_at line 3))
+abbrev pub sender_text : Option ℤ → Option ℕ → List ℕ
+sender_text None user = []
+sender_text (Some process) None = []
+sender_text (Some process) (Some user) = codes ", sent by process " ++ (signed_decimal process ++ (codes " of user " ++ decimal user))
 
--- what was met or who sent it, by the line after the first
-abbrev pub origin_text : List ℕ → List ℕ
-origin_text line =
-    if bytes_eq (word_at line 0) (codes "addr") then codes ", address " ++ word_at line 1
-    else (if bytes_eq (word_at line 0) (codes "pid") then sender_text line
-    else [])
+-- the address that was met
+abbrev pub met_text : Option ℕ → List ℕ
+met_text None = []
+met_text (Some address) = codes ", address " ++ hexadecimal address
 
 -- a code that any signal may have, or its number
-abbrev pub sent_text : Option (List ℕ) → List ℕ → List ℕ → List ℕ
-sent_text (Some name) code line = name ++ origin_text line
-sent_text None code line = codes "code " ++ (code ++ origin_text line)
+abbrev pub sent_word : Option (List ℕ) → ℤ → List ℕ
+sent_word (Some name) code = name
+sent_word None code = codes "code " ++ signed_decimal code
 
--- a code of this signal
-abbrev pub code_text : Option CodeView → List ℕ → List ℕ → List ℕ
-code_text (Some c) code line = c.name ++ (codes ": " ++ (c.before ++ (word_at line 1 ++ c.after)))
-code_text None code line = sent_text (sent_code code) code line
+abbrev pub address_text : Option ℕ → List ℕ
+address_text None = []
+address_text (Some address) = hexadecimal address
 
-abbrev pub cause_text : List ℕ → List ℕ → List ℕ
-cause_text cause line = signal_word cause ++ (codes ", " ++ code_text (code_of_signal (word_at cause 2) (word_at cause 6)) (word_at cause 6) line)
+-- a code of this signal, with the address; or a code that any signal may have, with who sent it, or the address
+abbrev pub code_text : Option CodeView → List ℕ → List ℕ
+code_text (Some c) d = c.name ++ (codes ": " ++ (c.before ++ (address_text (si_addr d) ++ c.after)))
+code_text None d = sent_word (sent_code (si_code d)) (si_code d) ++ (sender_text (si_pid d) (si_uid d) ++ met_text (si_addr d))
 
--- by the reply to `signal`; if that is refused, by what the case keeps
-abbrev pub signal_line : ℕ → Bool → List (List ℕ) → List ℕ
-signal_line signal true lines = codes "signal    " ++ (cause_text (line_at lines 0) (line_at lines 1) ++ 10 ∷ [])
-signal_line signal false lines = codes "signal    " ++ (signal_text signal ++ (codes ", " ++ (refusal_text (reason_in lines) ++ 10 ∷ [])))
+abbrev pub cause_text : List ℕ → List ℕ
+cause_text d = signal_word (name_of_signal (si_signo d)) (si_signo d) ++ (codes ", " ++ code_text (code_of_signal (si_signo d) (si_code d)) d)
+
+-- by its descriptor; if there is none, by what the case keeps, and why
+abbrev pub met_or_kept : ℕ → Result (List ℕ) Reason → List ℕ
+met_or_kept signal (Ok d) = cause_text d
+met_or_kept signal (Err r) = signal_text signal ++ (codes ", " ++ refusal_text r)
+
+abbrev pub signal_line : ℕ → Result (List ℕ) Reason → List ℕ
+signal_line signal r = codes "signal    " ++ (met_or_kept signal r ++ 10 ∷ [])

@@ -1,11 +1,10 @@
 -- The small texts of a screen.
-use Rattle.std.specs.Prelude.{ℕ, zero, suc, ◌-◌, ◌==◌, ◌&&◌, ◌||◌, Bool, nat_le, nat_lt, if◌then◌else◌, List, [], ◌∷◌, ◌++◌, length, take, replicate, slice_index, Option, None, Some, codes}
+use Rattle.std.specs.Prelude.{ℕ, zero, suc, ◌-◌, ◌==◌, ◌&&◌, ◌||◌, Bool, nat_le, nat_lt, if◌then◌else◌, List, [], ◌∷◌, ◌++◌, length, take, slice_index, Option, None, codes}
 use Rattle.std.specs.List.{flat_map}
 use Rattle.std.specs.Str.{bytes_eq}
 use Rattle.script_words.specs.Printing.{shown_byte}
 use Rattle.script_words.specs.Text.{text_of}
-use Rattle.case_tables.specs.Table.{left_text}
-use Rattle.case_screens.specs.Lines.{reason_in}
+use Rattle.case_screens.specs.Reasons.{Reason, named}
 
 -- what stands before a line that continues the one above it
 abbrev pub margin : List ℕ
@@ -32,28 +31,24 @@ without_space text = if nat_lt 0 (length text) && slice_index text (length text 
 abbrev pub text_in : List ℕ → Option (List ℕ)
 text_in word = if nat_le (length word) 1024 then text_of word else None
 
--- a text, or a word that is none
-abbrev pub plain_told : Option (List ℕ) → List ℕ → List ℕ
-plain_told (Some text) word = flat_map plain_byte (without_space text)
-plain_told None word = word
-
--- a word of a reply as a text for people
+-- a text for people; `-`, if it is empty
 abbrev pub plain_text : List ℕ → List ℕ
-plain_text word = plain_told (text_in word) word
+plain_text [] = codes "-"
+plain_text (c ∷ cs) = flat_map plain_byte (without_space (c ∷ cs))
 
 -- the fields by which a file is of another machine
 abbrev pub is_of_another_machine : List ℕ → Bool
-is_of_another_machine reason = bytes_eq reason (codes "e_machine") || (bytes_eq reason (codes "EI_CLASS") || bytes_eq reason (codes "EI_DATA"))
+is_of_another_machine name = bytes_eq name (codes "e_machine") || (bytes_eq name (codes "EI_CLASS") || bytes_eq name (codes "EI_DATA"))
 
 -- why something is not shown
-abbrev pub refusal_text : List ℕ → List ℕ
-refusal_text reason =
-    if bytes_eq reason (codes "Missing") then codes "not in the core"
-    else (if bytes_eq reason (codes "NoThread") then codes "the core has no thread"
-    else (if bytes_eq reason (codes "Magic") then codes "no ELF file"
-    else (if is_of_another_machine reason then codes "of another machine: " ++ reason
-    else codes "damaged: " ++ reason)))
+abbrev pub refusal_text : Reason → List ℕ
+refusal_text r =
+    if bytes_eq r.name (codes "Missing") then codes "not in the core"
+    else (if bytes_eq r.name (codes "NoThread") then codes "the core has no thread"
+    else (if bytes_eq r.name (codes "Magic") then codes "no ELF file"
+    else (if is_of_another_machine r.name then codes "of another machine: " ++ named r.name r.index
+    else codes "damaged: " ++ named r.name r.index)))
 
 -- a line that says why something is not shown
-abbrev pub refused_line : List ℕ → List (List ℕ) → List ℕ
-refused_line label lines = label ++ (refusal_text (reason_in lines) ++ 10 ∷ [])
+abbrev pub refused_line : List ℕ → Reason → List ℕ
+refused_line label r = label ++ (refusal_text r ++ 10 ∷ [])

@@ -1,4 +1,6 @@
-// The replies to the lines that are asked for a screen.
+// What a screen is made of: what the image says, and the replies to the lines that are asked.
+use elf_view::{ElfFault, Header};
+use image_replies::{CoreFault, CoreImage};
 use unread_notes::UnreadNotes;
 
 /// The reply to a line.
@@ -10,35 +12,25 @@ pub struct Answer<'a> {
     pub lines: &'a [&'a [u8]],
 }
 
-/// A thread and its frames.
-#[derive(Clone, Copy)]
-pub struct ThreadAnswer<'a> {
-    /// Its line in the reply to `threads`.
-    pub line: &'a [u8],
-    /// The reply to `unwind`.
-    pub frames: Answer<'a>,
-}
-
-/// What is asked of a core.
+/// What is known of a core.
 #[derive(Clone, Copy)]
 pub struct CoreAnswers<'s, 'a> {
-    pub process: Answer<'a>,
-    pub signal: Answer<'a>,
-    pub threads: Answer<'a>,
-    pub files: Answer<'a>,
-    /// The threads that are shown.
-    pub unwound: &'s [ThreadAnswer<'a>],
-    pub builds: Answer<'a>,
+    /// The core, or the first fault of its headers, its notes and its typed notes.
+    pub core: Result<CoreImage<'a>, CoreFault>,
+    /// The replies to `unwind`, of the threads that are shown.
+    pub unwound: &'s [Answer<'s>],
+    /// The reply to `builds`.
+    pub builds: Answer<'s>,
     /// How many bytes its program headers want, if they can be read.
     pub whole: Option<u64>,
     /// Why notes of it are not read as they are meant, if some are not.
     pub unread: Option<UnreadNotes>,
 }
 
-/// What is asked of a case.
+/// What is known of a case.
 #[derive(Clone, Copy)]
 pub enum CaseAnswers<'s, 'a> {
     Core(CoreAnswers<'s, 'a>),
-    /// The reply to `header`.
-    Exec(Answer<'a>),
+    /// The file header, or the first of its checks that fails.
+    Exec(Result<Header, ElfFault>),
 }

@@ -1,7 +1,18 @@
-// The codes of signals, by the words of the reply to `signal`.
+// The codes of signals.
 ghost use Rattle.std.specs.Prelude.{◌≡◌, option_map};
 ghost use Rattle.case_screens.specs.CodeWords.{code_words};
 ghost use Rattle.case_screens.specs.Codes.{bus_code, code_view, code_of_signal, fpe_code, ill_code, segv_code, sent_code, trap_code};
+
+// The signals that have codes of their own (signal(7)).
+const SIGILL: i32 = 4;
+
+const SIGTRAP: i32 = 5;
+
+const SIGBUS: i32 = 7;
+
+const SIGFPE: i32 = 8;
+
+const SIGSEGV: i32 = 11;
 
 // A code: its name, and what it says, before the address and after it.
 #[derive(Clone, Copy)]
@@ -25,106 +36,106 @@ fn named_code(
     })
 }
 
-fn segv_code(number: &[u8]) -> Option<SignalCode>
-    ensures { option_map code_words result ≡ segv_code number.now }
+fn segv_code(code: i32) -> Option<SignalCode>
+    ensures { option_map code_words result ≡ segv_code code }
 {
-    if number == b"1".as_slice() {
+    if code == 1 {
         named_code(b"SEGV_MAPERR", b"address ", b" is not mapped")
-    } else if number == b"2".as_slice() {
+    } else if code == 2 {
         named_code(b"SEGV_ACCERR", b"no permission for address ", b"")
     } else {
         None
     }
 }
 
-fn bus_code(number: &[u8]) -> Option<SignalCode>
-    ensures { option_map code_words result ≡ bus_code number.now }
+fn bus_code(code: i32) -> Option<SignalCode>
+    ensures { option_map code_words result ≡ bus_code code }
 {
-    if number == b"1".as_slice() {
+    if code == 1 {
         named_code(b"BUS_ADRALN", b"address ", b" is misaligned")
-    } else if number == b"2".as_slice() {
+    } else if code == 2 {
         named_code(b"BUS_ADRERR", b"nothing is at address ", b"")
-    } else if number == b"3".as_slice() {
+    } else if code == 3 {
         named_code(b"BUS_OBJERR", b"a hardware error at address ", b"")
     } else {
         None
     }
 }
 
-fn ill_code(number: &[u8]) -> Option<SignalCode>
-    ensures { option_map code_words result ≡ ill_code number.now }
+fn ill_code(code: i32) -> Option<SignalCode>
+    ensures { option_map code_words result ≡ ill_code code }
 {
-    if number == b"1".as_slice() {
+    if code == 1 {
         named_code(b"ILL_ILLOPC", b"an illegal opcode at ", b"")
-    } else if number == b"2".as_slice() {
+    } else if code == 2 {
         named_code(b"ILL_ILLOPN", b"an illegal operand at ", b"")
-    } else if number == b"4".as_slice() {
+    } else if code == 4 {
         named_code(b"ILL_ILLTRP", b"an illegal trap at ", b"")
-    } else if number == b"5".as_slice() {
+    } else if code == 5 {
         named_code(b"ILL_PRVOPC", b"a privileged opcode at ", b"")
     } else {
         None
     }
 }
 
-fn fpe_code(number: &[u8]) -> Option<SignalCode>
-    ensures { option_map code_words result ≡ fpe_code number.now }
+fn fpe_code(code: i32) -> Option<SignalCode>
+    ensures { option_map code_words result ≡ fpe_code code }
 {
-    if number == b"1".as_slice() {
+    if code == 1 {
         named_code(b"FPE_INTDIV", b"an integer divided by zero at ", b"")
-    } else if number == b"2".as_slice() {
+    } else if code == 2 {
         named_code(b"FPE_INTOVF", b"an integer overflow at ", b"")
-    } else if number == b"3".as_slice() {
+    } else if code == 3 {
         named_code(b"FPE_FLTDIV", b"a number divided by zero at ", b"")
-    } else if number == b"7".as_slice() {
+    } else if code == 7 {
         named_code(b"FPE_FLTINV", b"an invalid operation at ", b"")
     } else {
         None
     }
 }
 
-fn trap_code(number: &[u8]) -> Option<SignalCode>
-    ensures { option_map code_words result ≡ trap_code number.now }
+fn trap_code(code: i32) -> Option<SignalCode>
+    ensures { option_map code_words result ≡ trap_code code }
 {
-    if number == b"1".as_slice() {
+    if code == 1 {
         named_code(b"TRAP_BRKPT", b"a breakpoint at ", b"")
-    } else if number == b"2".as_slice() {
+    } else if code == 2 {
         named_code(b"TRAP_TRACE", b"a trace step at ", b"")
     } else {
         None
     }
 }
 
-// The code of a signal, by the signal's name.
-pub(crate) fn code_of_signal(name: &[u8], number: &[u8]) -> Option<SignalCode>
-    ensures { option_map code_words result ≡ code_of_signal name.now number.now }
+// The code of a signal.
+pub(crate) fn code_of_signal(signo: i32, code: i32) -> Option<SignalCode>
+    ensures { option_map code_words result ≡ code_of_signal signo code }
 {
-    if name == b"SEGV".as_slice() {
-        segv_code(number)
-    } else if name == b"BUS".as_slice() {
-        bus_code(number)
-    } else if name == b"ILL".as_slice() {
-        ill_code(number)
-    } else if name == b"FPE".as_slice() {
-        fpe_code(number)
-    } else if name == b"TRAP".as_slice() {
-        trap_code(number)
+    if signo == SIGSEGV {
+        segv_code(code)
+    } else if signo == SIGBUS {
+        bus_code(code)
+    } else if signo == SIGILL {
+        ill_code(code)
+    } else if signo == SIGFPE {
+        fpe_code(code)
+    } else if signo == SIGTRAP {
+        trap_code(code)
     } else {
         None
     }
 }
 
 // The name of a code that any signal may have.
-pub(crate) fn sent_code(number: &[u8]) -> Option<&'static [u8]>
-    ensures { option_map (λ n. n.now) result ≡ sent_code number.now }
+pub(crate) fn sent_code(code: i32) -> Option<&'static [u8]>
+    ensures { option_map (λ n. n.now) result ≡ sent_code code }
 {
-    if number == b"0".as_slice() {
+    if code == 0 {
         Some(b"SI_USER")
-    } else if number == b"-1".as_slice() {
+    } else if code == -1 {
         Some(b"SI_QUEUE")
-    } else if number == b"-6".as_slice() {
+    } else if code == -6 {
         Some(b"SI_TKILL")
-    } else if number == b"128".as_slice() {
+    } else if code == 128 {
         Some(b"SI_KERNEL")
     } else {
         None

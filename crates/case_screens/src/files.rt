@@ -6,7 +6,7 @@ ghost use Rattle.case_screens.specs.Files.{build_text, exec_number, file_row, fi
 ghost use Rattle.case_screens.specs.Lines.{texts};
 
 use crate::answer::Answer;
-use crate::lines::{line_at, row_count, word_at};
+use crate::lines::{line_at, reason_in, row_count, word_at};
 use crate::texts::{tell_label, tell_left, tell_refused, text_in};
 use case_tables::case_of_name;
 use journal_layout::{Entry, Kind};
@@ -19,7 +19,7 @@ pub(crate) fn tell_files<O: Output>(reply: &mut Reply<'_, O>, cases: &[Entry], a
     if answer.is_done {
         tell_rows(reply, cases, answer.lines);
     } else {
-        tell_refused(reply, b"files     ", answer.lines);
+        tell_refused(reply, b"files     ", &reason_in(answer.lines));
     }
 }
 

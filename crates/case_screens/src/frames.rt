@@ -1,13 +1,17 @@
 // The frames of a thread.
 ghost use Rattle.std.specs.Prelude.{◌≡◌, true, find, min, option_map};
+ghost use Rattle.core_notes.specs.FileList.{FileView, is_mapping};
+ghost use Rattle.core_notes.specs.FileWords.{files_bytes, files_left};
 ghost use Rattle.script_streams.specs.Replies.{TellsText, telling};
+ghost use Rattle.case_screens.specs.Core.{files_in};
 ghost use Rattle.case_screens.specs.Frames as spec;
 ghost use Rattle.case_screens.specs.Lines.{texts};
 ghost use Rattle.case_screens.specs.Texts.{rows_to};
 
 use crate::answer::Answer;
-use crate::lines::{line_at, word_at};
+use crate::lines::{line_at, reason_in, word_at};
 use crate::texts::{MARGIN, tell_label, tell_left, tell_refused};
+use core_notes::{FileMaps, Files};
 use script_streams::{Output, Reply};
 use script_words::parse_number;
 
@@ -15,18 +19,22 @@ use script_words::parse_number;
 const MOST: usize = 20;
 
 // Tells the frames of a thread, at most 20, and why they end, by the reply to `unwind`.
-pub(crate) fn tell_frames<O: Output>(reply: &mut Reply<'_, O>, files: &[&[u8]], answer: &Answer<'_>)
-    ensures { TellsText (telling O.Output reply.old reply.new) (spec.frames_text (texts files.now) answer.now.is_done (texts answer.now.lines.now)) }
+pub(crate) fn tell_frames<O: Output>(
+    reply: &mut Reply<'_, O>,
+    files: Option<Files<'_>>,
+    answer: &Answer<'_>,
+)
+    ensures { TellsText (telling O.Output reply.old reply.new) (spec.frames_text (files_in (option_map files_bytes files.entry)) answer.now.is_done (texts answer.now.lines.now)) }
 {
     if answer.is_done {
         tell_known_frames(reply, files, answer.lines);
     } else {
-        tell_refused(reply, b"frames    ", answer.lines);
+        tell_refused(reply, b"frames    ", &reason_in(answer.lines));
     }
 }
 
-fn tell_known_frames<O: Output>(reply: &mut Reply<'_, O>, files: &[&[u8]], lines: &[&[u8]])
-    ensures { TellsText (telling O.Output reply.old reply.new) (spec.frames_text (texts files.now) true (texts lines.now)) }
+fn tell_known_frames<O: Output>(reply: &mut Reply<'_, O>, files: Option<Files<'_>>, lines: &[&[u8]])
+    ensures { TellsText (telling O.Output reply.old reply.new) (spec.frames_text (files_in (option_map files_bytes files.entry)) true (texts lines.now)) }
 {
     let count = frame_count(lines);
     tell_rows(reply, files, lines, count.min(MOST));
@@ -44,16 +52,26 @@ pub(crate) fn frame_count(lines: &[&[u8]]) -> usize
 }
 
 // Tells this many frames.
-fn tell_rows<O: Output>(reply: &mut Reply<'_, O>, files: &[&[u8]], lines: &[&[u8]], count: usize)
-    ensures { TellsText (telling O.Output reply.old reply.new) (rows_to (spec.frame_row (texts files.now) (texts lines.now)) count) }
+fn tell_rows<O: Output>(
+    reply: &mut Reply<'_, O>,
+    files: Option<Files<'_>>,
+    lines: &[&[u8]],
+    count: usize,
+)
+    ensures { TellsText (telling O.Output reply.old reply.new) (rows_to (spec.frame_row (files_in (option_map files_bytes files.entry)) (texts lines.now)) count) }
 {
     for row in 0..count {
         tell_row(reply, files, lines, row);
     }
 }
 
-fn tell_row<O: Output>(reply: &mut Reply<'_, O>, files: &[&[u8]], lines: &[&[u8]], row: usize)
-    ensures { TellsText (telling O.Output reply.old reply.new) (spec.frame_row (texts files.now) (texts lines.now) row) }
+fn tell_row<O: Output>(
+    reply: &mut Reply<'_, O>,
+    files: Option<Files<'_>>,
+    lines: &[&[u8]],
+    row: usize,
+)
+    ensures { TellsText (telling O.Output reply.old reply.new) (spec.frame_row (files_in (option_map files_bytes files.entry)) (texts lines.now) row) }
 {
     let line = line_at(lines, row);
     tell_label(reply, b"frames    ", row);
@@ -64,14 +82,15 @@ fn tell_row<O: Output>(reply: &mut Reply<'_, O>, files: &[&[u8]], lines: &[&[u8]
 }
 
 // Tells a function, and its file, if that is known.
-fn tell_where<O: Output>(reply: &mut Reply<'_, O>, place: &[u8], file: &[u8])
-    ensures { TellsText (telling O.Output reply.old reply.new) (spec.where_text place.now file.now) }
+fn tell_where<O: Output>(reply: &mut Reply<'_, O>, place: &[u8], file: Option<&[u8]>)
+    ensures { TellsText (telling O.Output reply.old reply.new) (spec.where_text place.now (option_map (λ n. n.now) file.entry)) }
 {
-    if file.is_empty() {
-        reply.tell(place);
-    } else {
-        tell_left(reply, 24, place);
-        reply.tell(file);
+    match file {
+        Some(name) => {
+            tell_left(reply, 24, place);
+            reply.tell_text(name);
+        }
+        None => reply.tell(place),
     }
 }
 
@@ -93,9 +112,13 @@ fn tell_rest<O: Output>(reply: &mut Reply<'_, O>, count: usize)
     reply.tell(b" more\n");
 }
 
-// The file of a frame; empty if it is not known.
-pub(crate) fn frame_file<'a>(files: &'a [&'a [u8]], lines: &[&[u8]], row: usize) -> &'a [u8]
-    ensures { result.now ≡ spec.frame_file (texts files.now) (texts lines.now) row }
+// The file of a frame, if it is known.
+pub(crate) fn frame_file<'a>(
+    files: Option<Files<'a>>,
+    lines: &[&[u8]],
+    row: usize,
+) -> Option<&'a [u8]>
+    ensures { option_map (λ n. n.now) result ≡ spec.frame_file (files_in (option_map files_bytes files.entry)) (texts lines.now) row }
 {
     let pc = parse_number(word_at(line_at(lines, row), 1));
     file_at(files, looked_up(is_exact(lines, row), pc))
@@ -116,59 +139,24 @@ fn looked_up(exact: bool, pc: Option<u64>) -> Option<u64>
     if exact { Some(pc) } else { pc.checked_sub(1) }
 }
 
-// The name of the first file that is mapped at an address, by the reply to `files`; empty if there is none.
-fn file_at<'a>(files: &'a [&'a [u8]], address: Option<u64>) -> &'a [u8]
-    ensures { result.now ≡ spec.file_at (texts files.now) address }
+// The name of the first file that is mapped at an address.
+fn file_at<'a>(files: Option<Files<'a>>, address: Option<u64>) -> Option<&'a [u8]>
+    ensures { option_map (λ n. n.now) result ≡ spec.file_at (files_in (option_map files_bytes files.entry)) address }
 {
-    match address {
-        Some(address) => name_in(line_covering(files, address)),
-        None => b"",
+    match (files, address) {
+        (Some(files), Some(address)) => name_at(files.maps(), address),
+        _ => None,
     }
 }
 
-fn name_in<'a>(line: Option<&'a [u8]>) -> &'a [u8]
-    ensures { result.now ≡ spec.name_in (option_map (λ l. l.now) line.entry) }
+fn name_at<'a>(maps: FileMaps<'a>, address: u64) -> Option<&'a [u8]>
+    ensures { option_map (λ n. n.now) result ≡ option_map (λ (f : FileView). f.name) (find (is_mapping address) (files_left maps.entry)) }
 {
-    match line {
-        Some(line) => word_at(line, 3),
-        None => b"",
-    }
-}
-
-fn line_covering<'a>(files: &'a [&'a [u8]], address: u64) -> Option<&'a [u8]>
-    ensures { option_map (λ l. l.now) result ≡ find (spec.covers address) (texts files.now) }
-{
-    for line in files {
-        if covers(line, address) {
-            return Some(line);
+    let mut rest = maps;
+    while let Some(map) = rest.next() {
+        if map.start <= address && address < map.past {
+            return Some(map.name);
         }
     }
     None
-}
-
-// Whether a line of the reply to `files` is of a file that is mapped at this address.
-fn covers(line: &[u8], address: u64) -> bool
-    ensures { result ≡ spec.covers address line.now }
-{
-    starts_by(address, parse_number(word_at(line, 0)))
-        && is_below(address, parse_number(word_at(line, 1)))
-}
-
-fn starts_by(address: u64, start: Option<u64>) -> bool
-    ensures { result ≡ spec.starts_by address start }
-{
-    match start {
-        Some(start) => start <= address,
-        None => false,
-    }
-}
-
-// An end that is no number of 64 bits is that of the address space.
-fn is_below(address: u64, past: Option<u64>) -> bool
-    ensures { result ≡ spec.is_below address past }
-{
-    match past {
-        Some(past) => address < past,
-        None => true,
-    }
 }

@@ -1,4 +1,4 @@
-//! What people are shown of a case or an archive: texts and JSON of its facts and of replies, which are handed in.
+//! What people are shown of a case or an archive: texts and JSON of its facts, of what its image says and of replies, which are handed in.
 #![tactic(auto)]
 
 mod answer;
@@ -10,7 +10,9 @@ mod codes;
 mod files;
 mod frames;
 mod lines;
+mod note_values;
 mod process;
+mod reason;
 mod rows;
 mod screen;
 mod shapes;
@@ -18,8 +20,9 @@ mod signal;
 mod tally;
 mod texts;
 mod threads;
+mod told_notes;
 
-pub use answer::{Answer, CaseAnswers, CoreAnswers, ThreadAnswer};
+pub use answer::{Answer, CaseAnswers, CoreAnswers};
 pub use archive::{ArchiveFacts, tell_archive_screen};
 pub use archive_values::archive_json;
 pub use case_values::case_json;
@@ -27,3 +30,4 @@ pub use lines::reply_lines;
 pub use rows::{refusal_json, rows_json};
 pub use screen::tell_case_screen;
 pub use tally::{Tally, tally_of};
+pub use told_notes::thread_count;

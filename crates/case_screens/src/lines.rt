@@ -1,7 +1,9 @@
 // The lines of a reply, and the words of a line.
 ghost use Rattle.std.specs.Prelude.{◌≡◌, IfOk};
 ghost use Rattle.case_screens.specs.Lines.{line_at, reason_in, reply_lines, row_count, texts, word_at};
+ghost use Rattle.case_screens.specs.ReasonWords.{reason_view};
 
+use crate::reason::Reason;
 use bstr::ByteSlice;
 use script_words::Words;
 use std::alloc::{AllocError, Global};
@@ -57,9 +59,12 @@ pub(crate) fn row_count(lines: &[&[u8]]) -> usize
 }
 
 // Why a line was refused: what follows `no ` in its reply.
-pub(crate) fn reason_in<'a>(lines: &'a [&'a [u8]]) -> &'a [u8]
-    ensures { result.now ≡ reason_in (texts lines.now) }
+pub(crate) fn reason_in<'a>(lines: &'a [&'a [u8]]) -> Reason<'a>
+    ensures { reason_view result ≡ reason_in (texts lines.now) }
 {
     let line = line_at(lines, 0);
-    line.split_at(line.len().min(3)).1
+    Reason {
+        name: line.split_at(line.len().min(3)).1,
+        index: None,
+    }
 }

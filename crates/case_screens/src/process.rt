@@ -1,48 +1,50 @@
 // The process of a core.
-ghost use Rattle.std.specs.Prelude.{◌≡◌, true};
+ghost use Rattle.std.specs.Prelude.{◌≡◌};
+ghost use Rattle.core_notes.specs.DescriptorWords.{psinfo_bytes};
 ghost use Rattle.script_streams.specs.Replies.{TellsText, telling};
-ghost use Rattle.case_screens.specs.Lines.{texts};
-ghost use Rattle.case_screens.specs.Process.{command_text, process_text};
+ghost use Rattle.case_screens.specs.Core.{desc_in, notes_read};
+ghost use Rattle.case_screens.specs.Process.{command_text, process_line, process_text};
 
-use crate::answer::Answer;
-use crate::lines::{line_at, word_at};
 use crate::texts::{tell_plain, tell_refused};
+use crate::told_notes::process_of;
+use core_notes::PsInfo;
+use image_replies::{CoreFault, CoreImage};
 use script_streams::{Output, Reply};
 
-// Tells a process, by the reply to `process`.
-pub(crate) fn tell_process<O: Output>(reply: &mut Reply<'_, O>, answer: &Answer<'_>)
-    ensures { TellsText (telling O.Output reply.old reply.new) (process_text answer.now.is_done (texts answer.now.lines.now)) }
+// Tells the process of a core, or why it is not shown.
+pub(crate) fn tell_process<O: Output>(
+    reply: &mut Reply<'_, O>,
+    core: &Result<CoreImage<'_>, CoreFault>,
+)
+    ensures { TellsText (telling O.Output reply.old reply.new) (process_text (desc_in 3 (notes_read core.now))) }
 {
-    if answer.is_done {
-        tell_known_process(reply, answer.lines);
-    } else {
-        tell_refused(reply, b"process   ", answer.lines);
+    match process_of(core) {
+        Ok(process) => tell_known_process(reply, &process),
+        Err(reason) => tell_refused(reply, b"process   ", &reason),
     }
 }
 
-fn tell_known_process<O: Output>(reply: &mut Reply<'_, O>, lines: &[&[u8]])
-    ensures { TellsText (telling O.Output reply.old reply.new) (process_text true (texts lines.now)) }
+fn tell_known_process<O: Output>(reply: &mut Reply<'_, O>, process: &PsInfo<'_>)
+    ensures { TellsText (telling O.Output reply.old reply.new) (process_line (psinfo_bytes process.now)) }
 {
-    let numbers = line_at(lines, 0);
     reply.tell(b"process   ");
-    reply.tell(word_at(numbers, 1));
+    reply.tell_signed(i64::from(process.pr_pid()));
     reply.tell(b" (parent ");
-    reply.tell(word_at(numbers, 3));
+    reply.tell_signed(i64::from(process.pr_ppid()));
     reply.tell(b"), user ");
-    reply.tell(word_at(line_at(lines, 1), 1));
+    reply.tell_decimal(u128::from(process.pr_uid()));
     reply.tell(b", ");
-    tell_command(reply, lines);
+    tell_command(reply, process.pr_psargs(), process.pr_fname());
     reply.tell(b"\n");
 }
 
-// Tells a process's command line; or its name, if that is empty.
-fn tell_command<O: Output>(reply: &mut Reply<'_, O>, lines: &[&[u8]])
-    ensures { TellsText (telling O.Output reply.old reply.new) (command_text (texts lines.now)) }
+// Tells a command line; or the name, if that is empty.
+fn tell_command<O: Output>(reply: &mut Reply<'_, O>, words: &[u8], name: &[u8])
+    ensures { TellsText (telling O.Output reply.old reply.new) (command_text words.now name.now) }
 {
-    let command = word_at(line_at(lines, 4), 1);
-    if command == b"-".as_slice() {
-        tell_plain(reply, word_at(line_at(lines, 3), 1));
+    if words.is_empty() {
+        tell_plain(reply, name);
     } else {
-        tell_plain(reply, command);
+        tell_plain(reply, words);
     }
 }

@@ -3,9 +3,9 @@ ghost use Rattle.std.specs.Prelude.{◌<◌, length, IfSome};
 
 use crate::answer::Answer;
 use crate::auxiliary::auxv_name;
-use crate::lines::{reason_in, row_count};
+use crate::lines::row_count;
 use crate::shapes::{Field, FieldKind, field_of, form_of};
-use script_words::{Words, parse_number};
+use script_words::{Words, parse_number, print_byte};
 use serde_json::{Map, Value, put};
 use std::alloc::{AllocError, Global};
 use std::str;
@@ -53,20 +53,32 @@ pub(crate) fn rows_value(
     Ok(Value::Array(values))
 }
 
-// All rows of a reply as one object; or why it was refused.
-pub(crate) fn merged_value(
+// Puts a text; or null, if it is empty. If it is no UTF-8 it is printed as a script prints it, and `escaped` says so.
+pub(crate) fn put_text(
     alloc: Global,
-    answer: &Answer<'_>,
-    forms: &[&str],
-) -> Result<Value, AllocError> {
-    if !answer.is_done {
-        return refusal_value(alloc, reason_in(answer.lines));
+    map: &mut Map<String, Value>,
+    name: &str,
+    text: &[u8],
+) -> Result<(), AllocError> {
+    if text.is_empty() {
+        return put(map, alloc, name, Value::Null);
     }
-    let mut map = Map::new(alloc);
-    for line in answer.lines.iter().take(row_count(answer.lines)) {
-        put_row(alloc, &mut map, line, forms)?;
+    if str::from_utf8(text).is_ok() {
+        return put(map, alloc, name, string_value(alloc, text)?);
     }
-    Ok(Value::Object(map))
+    put(map, alloc, "escaped", Value::Bool(true))?;
+    put(map, alloc, name, printed_value(alloc, text)?)
+}
+
+// A text as a script prints it.
+fn printed_value(alloc: Global, text: &[u8]) -> Result<Value, AllocError> {
+    let mut value = String::new(alloc);
+    for byte in text {
+        for letter in &print_byte(*byte) {
+            value.push(char::from(*letter))?;
+        }
+    }
+    Ok(Value::String(value))
 }
 
 // Puts the fields of a row into an object. A row of no form is one field.

@@ -1,18 +1,18 @@
 // What a person is shown of a case.
-ghost use Rattle.std.specs.Prelude.{◌≡◌, true, map};
+ghost use Rattle.std.specs.Prelude.{◌≡◌, map};
 ghost use Rattle.journal_layout.specs.Case.{case_of};
 ghost use Rattle.script_streams.specs.Replies.{TellsText, telling};
-ghost use Rattle.case_screens.specs.Lines.{texts};
 ghost use Rattle.case_screens.specs.Screen.{answers_text, core_text, cut_line, exec_text, head_text, header_text, info_answer, label_text, notes_line, pin_text, when_text};
 
-use crate::answer::{Answer, CaseAnswers, CoreAnswers};
+use crate::answer::{CaseAnswers, CoreAnswers};
 use crate::files::tell_files;
-use crate::lines::{line_at, word_at};
 use crate::process::tell_process;
+use crate::reason::elf_reason;
 use crate::signal::tell_signal_line;
 use crate::texts::tell_refused;
 use crate::threads::tell_threads;
 use case_tables::{shown_length, tell_size, tell_spaces, tell_time};
+use elf_view::{ElfFault, Header};
 use journal_layout::Entry;
 use script_streams::{Output, Reply};
 use unread_notes::UnreadNotes;
@@ -20,7 +20,8 @@ use unread_notes::UnreadNotes;
 // How wide the name of a case is, if it is not longer.
 const NAME_WIDTH: usize = 36;
 
-/// Tells one screen of a case: what is known of it, of the cases of its archive, and of the replies to the lines that were asked.
+/// Tells one screen of a case: what is known of it, of the cases of its archive, of its image, and of the replies to the lines that were
+/// asked.
 pub fn tell_case_screen<O: Output>(
     reply: &mut Reply<'_, O>,
     case: &Entry,
@@ -32,7 +33,7 @@ pub fn tell_case_screen<O: Output>(
     tell_head(reply, case);
     match answers {
         CaseAnswers::Core(answers) => tell_core(reply, case, cases, answers),
-        CaseAnswers::Exec(answer) => tell_exec(reply, answer),
+        CaseAnswers::Exec(header) => tell_exec(reply, header),
     }
 }
 
@@ -123,37 +124,31 @@ fn tell_core<O: Output>(
     tell_when(reply, case.time);
     tell_cut(reply, case.length, answers.whole);
     tell_unread(reply, answers.unread);
-    tell_process(reply, &answers.process);
-    tell_signal_line(reply, case.signal, &answers.signal);
-    tell_threads(
-        reply,
-        answers.files.lines,
-        &answers.threads,
-        answers.unwound,
-    );
+    tell_process(reply, &answers.core);
+    tell_signal_line(reply, case.signal, &answers.core);
+    tell_threads(reply, &answers.core, answers.unwound);
     tell_files(reply, cases, &answers.builds);
 }
 
-fn tell_exec<O: Output>(reply: &mut Reply<'_, O>, answer: &Answer<'_>)
-    ensures { TellsText (telling O.Output reply.old reply.new) (exec_text answer.now.is_done (texts answer.now.lines.now)) }
+fn tell_exec<O: Output>(reply: &mut Reply<'_, O>, header: &Result<Header, ElfFault>)
+    ensures { TellsText (telling O.Output reply.old reply.new) (exec_text header.now) }
 {
-    if answer.is_done {
-        tell_header(reply, line_at(answer.lines, 0));
-    } else {
-        tell_refused(reply, b"header    ", answer.lines);
+    match header {
+        Ok(header) => tell_header(reply, header),
+        Err(fault) => tell_refused(reply, b"header    ", &elf_reason(*fault)),
     }
 }
 
-fn tell_header<O: Output>(reply: &mut Reply<'_, O>, line: &[u8])
-    ensures { TellsText (telling O.Output reply.old reply.new) (header_text line.now) }
+fn tell_header<O: Output>(reply: &mut Reply<'_, O>, header: &Header)
+    ensures { TellsText (telling O.Output reply.old reply.new) (header_text header.now) }
 {
     reply.tell(b"header    type ");
-    reply.tell(word_at(line, 1));
+    reply.tell_decimal(u128::from(header.kind));
     reply.tell(b", entry ");
-    reply.tell(word_at(line, 3));
+    reply.tell_hexadecimal(u128::from(header.entry));
     reply.tell(b", flags ");
-    reply.tell(word_at(line, 5));
+    reply.tell_hexadecimal(u128::from(header.flags));
     reply.tell(b", ");
-    reply.tell(word_at(line, 7));
+    reply.tell_decimal(u128::from(header.segments));
     reply.tell(b" program headers\n");
 }

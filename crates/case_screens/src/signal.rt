@@ -1,120 +1,134 @@
 // The signal that ended a process.
-ghost use Rattle.std.specs.Prelude.{◌≡◌, true, option_map};
+ghost use Rattle.std.specs.Prelude.{◌≡◌, option_map};
+ghost use Rattle.core_notes.specs.Descriptor.{si_addr, si_pid, si_uid};
+ghost use Rattle.core_notes.specs.DescriptorWords.{siginfo_bytes};
 ghost use Rattle.script_streams.specs.Replies.{TellsText, telling};
+ghost use Rattle.thread_regs.specs.SignalNames.{name_of_signal};
 ghost use Rattle.case_screens.specs.CodeWords.{code_words};
-ghost use Rattle.case_screens.specs.Lines.{texts};
-ghost use Rattle.case_screens.specs.Signal.{cause_text, code_text, origin_text, sender_text, sent_text, signal_line, signal_word};
+ghost use Rattle.case_screens.specs.Codes.{sent_code};
+ghost use Rattle.case_screens.specs.Core.{desc_in, notes_read};
+ghost use Rattle.case_screens.specs.Signal as spec;
 
-use crate::answer::Answer;
 use crate::codes::{SignalCode, code_of_signal, sent_code};
-use crate::lines::{line_at, reason_in, word_at};
 use crate::texts::tell_refusal;
+use crate::told_notes::signal_of;
 use case_tables::tell_signal;
+use core_notes::SigInfo;
+use image_replies::{CoreFault, CoreImage};
 use script_streams::{Output, Reply};
+use thread_regs::signal_name;
 
-// Tells a signal, by the reply to `signal`; if that is refused, by what the case keeps.
+// Tells the signal that a process met; if the core does not tell it, what the case keeps, and why.
 pub(crate) fn tell_signal_line<O: Output>(
     reply: &mut Reply<'_, O>,
     signal: u32,
-    answer: &Answer<'_>,
+    core: &Result<CoreImage<'_>, CoreFault>,
 )
-    ensures { TellsText (telling O.Output reply.old reply.new) (signal_line signal answer.now.is_done (texts answer.now.lines.now)) }
+    ensures { TellsText (telling O.Output reply.old reply.new) (spec.signal_line signal (desc_in 0x53494749 (notes_read core.now))) }
 {
     reply.tell(b"signal    ");
-    if answer.is_done {
-        tell_cause(reply, line_at(answer.lines, 0), line_at(answer.lines, 1));
-    } else {
-        tell_signal(reply, signal);
-        reply.tell(b", ");
-        tell_refusal(reply, reason_in(answer.lines));
-    }
+    tell_met_or_kept(reply, signal, core);
     reply.tell(b"\n");
 }
 
-// Tells a signal's name and code, and what it met or who sent it.
-fn tell_cause<O: Output>(reply: &mut Reply<'_, O>, cause: &[u8], line: &[u8])
-    ensures { TellsText (telling O.Output reply.old reply.new) (cause_text cause.now line.now) }
+fn tell_met_or_kept<O: Output>(
+    reply: &mut Reply<'_, O>,
+    signal: u32,
+    core: &Result<CoreImage<'_>, CoreFault>,
+)
+    ensures { TellsText (telling O.Output reply.old reply.new) (spec.met_or_kept signal (desc_in 0x53494749 (notes_read core.now))) }
 {
-    let number = word_at(cause, 6);
-    tell_name(reply, cause);
-    reply.tell(b", ");
-    tell_code(
-        reply,
-        code_of_signal(word_at(cause, 2), number),
-        number,
-        line,
-    );
-}
-
-// Tells a signal by its name, or by its number if it has none.
-fn tell_name<O: Output>(reply: &mut Reply<'_, O>, cause: &[u8])
-    ensures { TellsText (telling O.Output reply.old reply.new) (signal_word cause.now) }
-{
-    let name = word_at(cause, 2);
-    if name == b"-".as_slice() {
-        reply.tell(word_at(cause, 1));
-    } else {
-        reply.tell(b"SIG");
-        reply.tell(name);
+    match signal_of(core) {
+        Ok(met) => tell_cause(reply, &met),
+        Err(reason) => {
+            tell_signal(reply, signal);
+            reply.tell(b", ");
+            tell_refusal(reply, &reason);
+        }
     }
 }
 
-fn tell_code<O: Output>(
-    reply: &mut Reply<'_, O>,
-    code: Option<SignalCode>,
-    number: &[u8],
-    line: &[u8],
-)
-    ensures { TellsText (telling O.Output reply.old reply.new) (code_text (option_map code_words code) number.now line.now) }
+// Tells a signal's name and code, and what it met or who sent it.
+fn tell_cause<O: Output>(reply: &mut Reply<'_, O>, met: &SigInfo<'_>)
+    ensures { TellsText (telling O.Output reply.old reply.new) (spec.cause_text (siginfo_bytes met.now)) }
+{
+    tell_name(reply, met.si_signo());
+    reply.tell(b", ");
+    tell_code(reply, code_of_signal(met.si_signo(), met.si_code()), met);
+}
+
+// Tells a signal by its name, or by its number if it has none.
+fn tell_name<O: Output>(reply: &mut Reply<'_, O>, signo: i32)
+    ensures { TellsText (telling O.Output reply.old reply.new) (spec.signal_word (name_of_signal signo) signo) }
+{
+    match signal_name(signo) {
+        Some(name) => {
+            reply.tell(b"SIG");
+            reply.tell(name.as_bytes());
+        }
+        None => reply.tell_signed(i64::from(signo)),
+    }
+}
+
+fn tell_code<O: Output>(reply: &mut Reply<'_, O>, code: Option<SignalCode>, met: &SigInfo<'_>)
+    ensures { TellsText (telling O.Output reply.old reply.new) (spec.code_text (option_map code_words code) (siginfo_bytes met.now)) }
 {
     match code {
         Some(code) => {
             reply.tell(code.name);
             reply.tell(b": ");
             reply.tell(code.before);
-            reply.tell(word_at(line, 1));
+            tell_address(reply, met.si_addr());
             reply.tell(code.after);
         }
-        None => tell_sent(reply, sent_code(number), number, line),
+        None => {
+            tell_sent(reply, met.si_code());
+            tell_sender(reply, met.si_pid(), met.si_uid());
+            tell_met(reply, met.si_addr());
+        }
     }
 }
 
-fn tell_sent<O: Output>(
-    reply: &mut Reply<'_, O>,
-    name: Option<&'static [u8]>,
-    number: &[u8],
-    line: &[u8],
-)
-    ensures { TellsText (telling O.Output reply.old reply.new) (sent_text (option_map (λ n. n.now) name.entry) number.now line.now) }
+fn tell_address<O: Output>(reply: &mut Reply<'_, O>, address: Option<u64>)
+    ensures { TellsText (telling O.Output reply.old reply.new) (spec.address_text address) }
 {
-    match name {
+    if let Some(address) = address {
+        reply.tell_hexadecimal(u128::from(address));
+    }
+}
+
+// Tells a code that any signal may have, or its number.
+fn tell_sent<O: Output>(reply: &mut Reply<'_, O>, code: i32)
+    ensures { TellsText (telling O.Output reply.old reply.new) (spec.sent_word (sent_code code) code) }
+{
+    match sent_code(code) {
         Some(name) => reply.tell(name),
         None => {
             reply.tell(b"code ");
-            reply.tell(number);
+            reply.tell_signed(i64::from(code));
         }
     }
-    tell_origin(reply, line);
 }
 
-// Tells what was met or who sent it.
-fn tell_origin<O: Output>(reply: &mut Reply<'_, O>, line: &[u8])
-    ensures { TellsText (telling O.Output reply.old reply.new) (origin_text line.now) }
+// Tells who sent it, if both the process and the user are there.
+fn tell_sender<O: Output>(reply: &mut Reply<'_, O>, process: Option<i32>, user: Option<u32>)
+    ensures { TellsText (telling O.Output reply.old reply.new) (spec.sender_text process user) }
 {
-    let label = word_at(line, 0);
-    if label == b"addr".as_slice() {
-        reply.tell(b", address ");
-        reply.tell(word_at(line, 1));
-    } else if label == b"pid".as_slice() {
-        tell_sender(reply, line);
-    }
-}
-
-fn tell_sender<O: Output>(reply: &mut Reply<'_, O>, line: &[u8])
-    ensures { TellsText (telling O.Output reply.old reply.new) (sender_text line.now) }
-{
+    let (Some(process), Some(user)) = (process, user) else {
+        return;
+    };
     reply.tell(b", sent by process ");
-    reply.tell(word_at(line, 1));
+    reply.tell_signed(i64::from(process));
     reply.tell(b" of user ");
-    reply.tell(word_at(line, 3));
+    reply.tell_decimal(u128::from(user));
+}
+
+// Tells the address that was met, if it is there.
+fn tell_met<O: Output>(reply: &mut Reply<'_, O>, address: Option<u64>)
+    ensures { TellsText (telling O.Output reply.old reply.new) (spec.met_text address) }
+{
+    if let Some(address) = address {
+        reply.tell(b", address ");
+        reply.tell_hexadecimal(u128::from(address));
+    }
 }

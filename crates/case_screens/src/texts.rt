@@ -3,10 +3,11 @@ ghost use Rattle.std.specs.Prelude.{◌≡◌, ◌++◌, MatchOption, None, Some
 ghost use Rattle.std.specs.List.{flat_map};
 ghost use Rattle.case_tables.specs.Table.{left_text};
 ghost use Rattle.script_streams.specs.Replies.{TellsText, telling};
-ghost use Rattle.case_screens.specs.Lines.{texts};
+ghost use Rattle.case_screens.specs.Reasons.{named};
+ghost use Rattle.case_screens.specs.ReasonWords.{reason_view};
 ghost use Rattle.case_screens.specs.Texts.{is_of_another_machine, label_at, plain_byte, plain_text, refusal_text, refused_line, text_in, without_space};
 
-use crate::lines::reason_in;
+use crate::reason::Reason;
 use arrayvec::ArrayVec;
 use case_tables::tell_spaces;
 use script_streams::{Output, Reply};
@@ -59,13 +60,14 @@ fn without_space(text: &[u8]) -> &[u8]
     &text[..length - 1]
 }
 
-// Tells a word of a reply as a text for people: its spaces are spaces.
-pub(crate) fn tell_plain<O: Output>(reply: &mut Reply<'_, O>, word: &[u8])
-    ensures { TellsText (telling O.Output reply.old reply.new) (plain_text word.now) }
+// Tells a text for people: its spaces are spaces.
+pub(crate) fn tell_plain<O: Output>(reply: &mut Reply<'_, O>, text: &[u8])
+    ensures { TellsText (telling O.Output reply.old reply.new) (plain_text text.now) }
 {
-    match text_in(word) {
-        Some(text) => tell_plain_bytes(reply, without_space(text.as_slice())),
-        None => reply.tell(word),
+    if text.is_empty() {
+        reply.tell(b"-");
+    } else {
+        tell_plain_bytes(reply, without_space(text));
     }
 }
 
@@ -88,37 +90,49 @@ fn tell_plain_byte<O: Output>(reply: &mut Reply<'_, O>, byte: u8)
 }
 
 // Tells why something is not shown.
-pub(crate) fn tell_refusal<O: Output>(reply: &mut Reply<'_, O>, reason: &[u8])
-    ensures { TellsText (telling O.Output reply.old reply.new) (refusal_text reason.now) }
+pub(crate) fn tell_refusal<O: Output>(reply: &mut Reply<'_, O>, reason: &Reason<'_>)
+    ensures { TellsText (telling O.Output reply.old reply.new) (refusal_text (reason_view reason.now)) }
 {
-    if reason == b"Missing".as_slice() {
+    let name = reason.name;
+    if name == b"Missing".as_slice() {
         reply.tell(b"not in the core");
-    } else if reason == b"NoThread".as_slice() {
+    } else if name == b"NoThread".as_slice() {
         reply.tell(b"the core has no thread");
-    } else if reason == b"Magic".as_slice() {
+    } else if name == b"Magic".as_slice() {
         reply.tell(b"no ELF file");
-    } else if is_of_another_machine(reason) {
+    } else if is_of_another_machine(name) {
         reply.tell(b"of another machine: ");
-        reply.tell(reason);
+        tell_named(reply, reason);
     } else {
         reply.tell(b"damaged: ");
-        reply.tell(reason);
+        tell_named(reply, reason);
     }
 }
 
-fn is_of_another_machine(reason: &[u8]) -> bool
-    ensures { result ≡ is_of_another_machine reason.now }
+fn is_of_another_machine(name: &[u8]) -> bool
+    ensures { result ≡ is_of_another_machine name.now }
 {
-    reason == b"e_machine".as_slice()
-        || reason == b"EI_CLASS".as_slice()
-        || reason == b"EI_DATA".as_slice()
+    name == b"e_machine".as_slice()
+        || name == b"EI_CLASS".as_slice()
+        || name == b"EI_DATA".as_slice()
+}
+
+// Tells a reason as a script does.
+fn tell_named<O: Output>(reply: &mut Reply<'_, O>, reason: &Reason<'_>)
+    ensures { TellsText (telling O.Output reply.old reply.new) (named reason.now.name.now reason.now.index) }
+{
+    reply.tell(reason.name);
+    if let Some(index) = reason.index {
+        reply.tell(b" ");
+        reply.tell_decimal(u128::from(index));
+    }
 }
 
 // Tells a line that says why something is not shown.
-pub(crate) fn tell_refused<O: Output>(reply: &mut Reply<'_, O>, label: &[u8], lines: &[&[u8]])
-    ensures { TellsText (telling O.Output reply.old reply.new) (refused_line label.now (texts lines.now)) }
+pub(crate) fn tell_refused<O: Output>(reply: &mut Reply<'_, O>, label: &[u8], reason: &Reason<'_>)
+    ensures { TellsText (telling O.Output reply.old reply.new) (refused_line label.now (reason_view reason.now)) }
 {
     reply.tell(label);
-    tell_refusal(reply, reason_in(lines));
+    tell_refusal(reply, reason);
     reply.tell(b"\n");
 }

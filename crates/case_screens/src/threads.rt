@@ -1,83 +1,102 @@
 // The threads of a core.
-ghost use Rattle.std.specs.Prelude.{◌≡◌, true};
-ghost use Rattle.std.specs.List.{flat_map};
+ghost use Rattle.std.specs.Prelude.{◌≡◌, Ok, option_map};
+ghost use Rattle.core_notes.specs.FileWords.{files_bytes};
+ghost use Rattle.elf_view.specs.ViewWords.{notes_of};
+ghost use Rattle.elf_view.specs.declared.faults.Want.TheVariants.{Core};
+ghost use Rattle.image_replies.specs.CoreWords.{core_bytes};
 ghost use Rattle.script_streams.specs.Replies.{TellsText, telling};
+ghost use Rattle.thread_regs.specs.ThreadWords.{thread_bytes, threads_left};
+ghost use Rattle.case_screens.specs.Core.{files_in, notes_read};
 ghost use Rattle.case_screens.specs.Frames as spec;
 ghost use Rattle.case_screens.specs.Lines.{texts};
 
-use crate::answer::{Answer, ThreadAnswer};
+use crate::answer::Answer;
 use crate::frames::{frame_file, tell_frames};
-use crate::lines::{line_at, row_count, word_at};
+use crate::lines::{line_at, word_at};
+use crate::reason::core_reason;
 use crate::texts::tell_refused;
+use crate::told_notes::{pc_of, thread_count};
+use core_notes::Files;
+use image_replies::{CoreFault, CoreImage};
 use script_streams::{Output, Reply};
+use thread_regs::{Thread, ThreadList, threads};
 
-// Tells the threads that are shown and their frames, by the replies to `threads`, `files` and `unwind`.
+// Tells the threads that are shown and their frames, by the core and by the replies to `unwind`.
 pub(crate) fn tell_threads<O: Output>(
     reply: &mut Reply<'_, O>,
-    files: &[&[u8]],
-    answer: &Answer<'_>,
-    threads: &[ThreadAnswer<'_>],
+    core: &Result<CoreImage<'_>, CoreFault>,
+    unwound: &[Answer<'_>],
 )
-    ensures { TellsText (telling O.Output reply.old reply.new) (spec.threads_text (texts files.now) answer.now.is_done (texts answer.now.lines.now) threads.now) }
+    ensures { TellsText (telling O.Output reply.old reply.new) (spec.threads_text (notes_read core.now) unwound.now) }
 {
-    if answer.is_done {
-        tell_shown(reply, files, row_count(answer.lines), threads);
-    } else {
-        tell_refused(reply, b"thread    ", answer.lines);
-        tell_refused(reply, b"frames    ", answer.lines);
+    match core {
+        Ok(core) => tell_shown(reply, core, unwound),
+        Err(fault) => {
+            let reason = core_reason(*fault);
+            tell_refused(reply, b"thread    ", &reason);
+            tell_refused(reply, b"frames    ", &reason);
+        }
     }
 }
 
-fn tell_shown<O: Output>(
-    reply: &mut Reply<'_, O>,
-    files: &[&[u8]],
-    count: usize,
-    threads: &[ThreadAnswer<'_>],
-)
-    ensures { TellsText (telling O.Output reply.old reply.new) (spec.shown_threads (texts files.now) count threads.now) }
+fn tell_shown<O: Output>(reply: &mut Reply<'_, O>, core: &CoreImage<'_>, unwound: &[Answer<'_>])
+    ensures { TellsText (telling O.Output reply.old reply.new) (spec.shown_threads (notes_of Core (core_bytes core.now)) unwound.now) }
 {
-    if threads.is_empty() {
+    if unwound.is_empty() {
         reply.tell(b"thread    the core has no thread\n");
-    } else {
-        tell_each(reply, files, count, threads);
+        return;
     }
+    tell_each(
+        reply,
+        core.notes().files(),
+        thread_count(core),
+        threads(core.notes()),
+        unwound,
+    );
 }
 
+// Tells as many threads as were unwound.
 fn tell_each<O: Output>(
     reply: &mut Reply<'_, O>,
-    files: &[&[u8]],
-    count: usize,
-    threads: &[ThreadAnswer<'_>],
+    files: Option<Files<'_>>,
+    count: u64,
+    threads: ThreadList<'_>,
+    unwound: &[Answer<'_>],
 )
-    ensures { TellsText (telling O.Output reply.old reply.new) (flat_map (spec.thread_text (texts files.now) count) threads.now) }
+    ensures { TellsText (telling O.Output reply.old reply.new) (spec.each_thread (files_in (option_map files_bytes files.entry)) count (threads_left threads.entry) unwound.now) }
 {
-    for thread in threads {
-        tell_thread(reply, files, count, thread);
+    let mut rest = threads;
+    for frames in unwound {
+        let Some(thread) = rest.next() else {
+            return;
+        };
+        tell_thread(reply, files, count, &thread, frames);
     }
 }
 
 fn tell_thread<O: Output>(
     reply: &mut Reply<'_, O>,
-    files: &[&[u8]],
-    count: usize,
-    thread: &ThreadAnswer<'_>,
+    files: Option<Files<'_>>,
+    count: u64,
+    thread: &Thread<'_>,
+    frames: &Answer<'_>,
 )
-    ensures { TellsText (telling O.Output reply.old reply.new) (spec.thread_text (texts files.now) count thread.now) }
+    ensures { TellsText (telling O.Output reply.old reply.new) (spec.thread_text (files_in (option_map files_bytes files.entry)) count (thread_bytes thread.now) frames.now) }
 {
     reply.tell(b"thread    ");
-    reply.tell(word_at(thread.line, 1));
+    reply.tell_signed(i64::from(thread.tid()));
     reply.tell(b" of ");
-    reply.tell_decimal(count as u128);
+    reply.tell_decimal(u128::from(count));
     reply.tell(b", pc ");
-    reply.tell(word_at(thread.line, 3));
-    tell_place(reply, files, &thread.frames);
+    reply.tell_hexadecimal(u128::from(pc_of(thread)));
+    tell_place(reply, files, frames);
     reply.tell(b"\n");
-    tell_frames(reply, files, &thread.frames);
+    tell_frames(reply, files, frames);
 }
 
 // Tells the function and the file of a thread's pc, as far as they are known.
-fn tell_place<O: Output>(reply: &mut Reply<'_, O>, files: &[&[u8]], frames: &Answer<'_>)
-    ensures { TellsText (telling O.Output reply.old reply.new) (spec.pc_place (texts files.now) frames.now.is_done (texts frames.now.lines.now)) }
+fn tell_place<O: Output>(reply: &mut Reply<'_, O>, files: Option<Files<'_>>, frames: &Answer<'_>)
+    ensures { TellsText (telling O.Output reply.old reply.new) (spec.pc_place (files_in (option_map files_bytes files.entry)) frames.now.is_done (texts frames.now.lines.now)) }
 {
     if frames.is_done {
         tell_function(reply, word_at(line_at(frames.lines, 0), 2));
@@ -94,18 +113,12 @@ fn tell_function<O: Output>(reply: &mut Reply<'_, O>, place: &[u8])
     }
 }
 
-fn tell_file<O: Output>(reply: &mut Reply<'_, O>, file: &[u8])
-    ensures { TellsText (telling O.Output reply.old reply.new) (spec.in_file file.now) }
+fn tell_file<O: Output>(reply: &mut Reply<'_, O>, file: Option<&[u8]>)
+    ensures { TellsText (telling O.Output reply.old reply.new) (spec.in_file (option_map (λ n. n.now) file.entry)) }
 {
-    if !file.is_empty() {
-        tell_enclosed(reply, file);
+    if let Some(name) = file {
+        reply.tell(b" (");
+        reply.tell_text(name);
+        reply.tell(b")");
     }
-}
-
-fn tell_enclosed<O: Output>(reply: &mut Reply<'_, O>, text: &[u8])
-    ensures { TellsText (telling O.Output reply.old reply.new) (spec.enclosed text.now) }
-{
-    reply.tell(b" (");
-    reply.tell(text);
-    reply.tell(b")");
 }

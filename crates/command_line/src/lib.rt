@@ -11,4 +11,4 @@ mod named_words;
 mod store_words;
 mod words;
 
-pub use words::{run_program, run_words};
+pub use words::{run_program, run_watched, run_words};

@@ -17,7 +17,7 @@ use command_words::{
     tell_note, words_of,
 };
 use core_handler::{Log, Teller, handle, store_told, tell_lost_words};
-use diagnostics::Onlooker;
+use diagnostics::{Nobody, Onlooker};
 use inspector_cli::memory_session;
 use intake::Settings;
 use journal_layout::Shape;
@@ -42,7 +42,7 @@ pub fn run_program<
     ensures quiet { result ≡ 0 → IsQuietButForSomeNote E.Output errors.old errors.new }
 {
     match words_of(rt) {
-        Ok(words) => run_words(rt, words.as_slice(), input, output, errors, onlooker),
+        Ok(words) => run_watched(rt, words.as_slice(), input, output, errors, onlooker),
         Err(_) => tell_ending(
             rt.alloc(),
             &Ending::from(Refusal::OutOfMemory),
@@ -93,16 +93,31 @@ pub fn run_program<
 /// with the reason on `errors`. Help goes to `output`, and the status is 0 then. What is refused is looked for in this
 /// order: the words, the template, the shape, ARCHIVE, FILE.
 ///
-/// An onlooker is told how far `format`, `store`, `extract`, `copy`, `resize` and `salvage` are, unless `--quiet` is there.
-pub fn run_words<
+pub fn run_words<R: AllocGlobal + Files<File = File> + Clock, I: Read, O: Output, E: Output>(
+    rt: &R,
+    words: &[String],
+    input: &mut I,
+    output: &mut O,
+    errors: &mut E,
+) -> u8
+    // The status. If it is 0, nothing was written to the errors, but for a note on the case that `store` stored, on the archive that `check`
+    // or `handle` looked at, or on a file that was made.
+    ensures most { result ≤ 2 }
+    ensures quiet { result ≡ 0 → may_note words.now ≡ false → errors.new ≡ errors.old }
+    ensures note { result ≡ 0 → IsQuietButForANote (subject words.now) E.Output errors.old errors.new }
+{
+    run_watched(rt, words, input, output, errors, &mut Nobody)
+}
+
+/// The same as `run_words`. An onlooker is told how far `format`, `store`, `extract`, `copy`, `resize` and `salvage` are, unless `--quiet` is
+/// there.
+pub fn run_watched<
     R: AllocGlobal + Files<File = File> + Clock,
     I: Read,
     O: Output,
     E: Output,
     W: Onlooker,
 >(rt: &R, words: &[String], input: &mut I, output: &mut O, errors: &mut E, onlooker: &mut W) -> u8
-    // The status. If it is 0, nothing was written to the errors, but for a note on the case that `store` stored, on the archive that `check`
-    // or `handle` looked at, or on a file that was made.
     ensures most { result ≤ 2 }
     ensures quiet { result ≡ 0 → may_note words.now ≡ false → errors.new ≡ errors.old }
     ensures note { result ≡ 0 → IsQuietButForANote (subject words.now) E.Output errors.old errors.new }
@@ -155,7 +170,7 @@ fn answer_words<R: AllocGlobal + Files<File = File> + Clock, I: Read, O: Output,
                 listener.hush();
             }
             if let Some(path) = asked.made() {
-                note_shared(rt, path, folder_word(words), note);
+                note_shared(rt, path, note);
             }
             Ok(answer_asked(rt, asked, input, output, note, listener)?)
         }
@@ -232,20 +247,12 @@ fn answer_asked<R: AllocGlobal + Files<File = File> + Clock, I: Read, O: Output,
             archive,
             new,
             wanted,
-        } => Ok(copy_archive_file(rt, archive, new, wanted, note, onlooker)?),
+        } => Ok(copy_archive_file(rt, archive, new, wanted, onlooker)?),
         Asked::Resize { archive, wanted } => {
-            Ok(resize_archive_file(rt, archive, wanted, note, onlooker)?)
+            Ok(resize_archive_file(rt, archive, wanted, onlooker)?)
         }
         Asked::Salvage { archive, new } => salvage(rt, archive, new, output, onlooker),
         Asked::Nothing => Ok(()),
-    }
-}
-
-// What a note on a folder begins with: a note of a copy says itself what it is on.
-fn folder_word(words: &[String]) -> &'static [u8] {
-    match words.first() {
-        Some(word) if word.as_str() == "copy" || word.as_str() == "resize" => b"folder ",
-        _ => b"",
     }
 }
 

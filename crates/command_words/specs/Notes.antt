@@ -1,5 +1,6 @@
 -- What is told to people though the program ends with status 0.
 use Rattle.std.specs.Prelude.{◌≡◌, ◌⊎◌, ℕ, Bool, true, false, List, [], ◌∷◌, ◌++◌, String, codes, string_bytes, if◌then◌else◌}
+use Rattle.std.specs.List.{list_any}
 use Rattle.std.specs.Io.KnownBytes.{Appends}
 use Rattle.std.specs.Str.{bytes_eq}
 use Rattle.script_streams.specs.declared.streams.Output as output
@@ -16,32 +17,32 @@ makes_file command =
 abbrev pub checks_archive : List ℕ → Bool
 checks_archive command = if bytes_eq command (codes "check") then true else bytes_eq command (codes "handle")
 
--- the command makes an archive of another one
-abbrev pub copies_archive : List ℕ → Bool
-copies_archive command = if bytes_eq command (codes "copy") then true else bytes_eq command (codes "resize")
-
 -- what a note is on if there is one, by the command: the case that is stored, the archive that is looked at, or the folder of the file that
--- is made. A note of a copy begins with what it is on.
+-- is made
 abbrev pub subject_of : List ℕ → List ℕ
 subject_of command =
     if bytes_eq command (codes "store") then codes "case " else
     if checks_archive command then codes "archive " else
-    if copies_archive command then [] else
     if makes_file command then codes "folder " else []
 
 abbrev pub subject : {Z : Type 0} → List (String Z) → List ℕ
 subject [] = []
 subject (word ∷ words) = subject_of (string_bytes word)
 
--- nothing is noted of other commands
-abbrev pub may_note_of : List ℕ → Bool
-may_note_of command =
+-- the words ask `handle` to check
+abbrev pub asks_to_check : {Z : Type 0} → List (String Z) → Bool
+asks_to_check words = list_any (λ word. bytes_eq (string_bytes word) (codes "--check")) words
+
+-- nothing is noted of other commands, nor of a core that `handle` stores
+abbrev pub may_note_of : {Z : Type 0} → List ℕ → List (String Z) → Bool
+may_note_of command words =
     if bytes_eq command (codes "store") then true else
-    if checks_archive command then true else makes_file command
+    if bytes_eq command (codes "check") then true else
+    if bytes_eq command (codes "handle") then asks_to_check words else makes_file command
 
 abbrev pub may_note : {Z : Type 0} → List (String Z) → Bool
 may_note [] = false
-may_note (word ∷ words) = may_note_of (string_bytes word)
+may_note (word ∷ words) = may_note_of (string_bytes word) (word ∷ words)
 
 -- the line of a note
 abbrev pub note_line : List ℕ → List ℕ → List ℕ

@@ -1,13 +1,12 @@
 // What people are told though a command did what was asked: of a case that was stored, of an archive that was looked at, and of a file that
 // was made.
 ghost use Rattle.std.specs.Prelude.{◌≡◌, false};
-ghost use Rattle.command_words.specs.Notes.{IsQuietButForANote, checks_archive, copies_archive, makes_file, may_note, subject};
+ghost use Rattle.command_words.specs.Notes.{IsQuietButForANote, asks_to_check, checks_archive, makes_file, may_note, subject};
 
 use script_streams::{Output, Reply};
 
 /// Tells people of a note, if there is one: if the words ask to store a file, what can't be read of the case; if they ask to look at an
-/// archive, that the half of its journal which is taken may be the wrong one; if they ask to make a file, that others may write its folder, or
-/// that a copy is larger.
+/// archive, that the half of its journal which is taken may be the wrong one; if they ask to make a file, that others may write its folder.
 pub fn tell_note<E: Output>(words: &[String], note: &[u8], errors: &mut E)
     ensures quiet { may_note words.now ≡ false → errors.new ≡ errors.old }
     ensures note { IsQuietButForANote (subject words.now) E.Output errors.old errors.new }
@@ -17,15 +16,25 @@ pub fn tell_note<E: Output>(words: &[String], note: &[u8], errors: &mut E)
     }
 }
 
-// Whether anything is noted of these words.
+// Whether anything is noted of these words. `handle` looks at an archive only if it is asked to check.
 fn may_note(words: &[String]) -> bool
     ensures { result ≡ may_note words.now }
 {
     let Some(word) = words.first() else {
         return false;
     };
-    let command = word.as_str();
-    command == "store" || checks_archive(command) || makes_file(command)
+    match word.as_str() {
+        "store" | "check" => true,
+        "handle" => asks_to_check(words),
+        command => makes_file(command),
+    }
+}
+
+// Whether the words ask `handle` to check.
+fn asks_to_check(words: &[String]) -> bool
+    ensures { result ≡ asks_to_check words.now }
+{
+    words.iter().any(|word| word.as_str() == "--check")
 }
 
 // What a note of these words is on.
@@ -39,8 +48,6 @@ fn subject(words: &[String]) -> &'static [u8]
         b"case "
     } else if checks_archive(word.as_str()) {
         b"archive "
-    } else if copies_archive(word.as_str()) {
-        b""
     } else if makes_file(word.as_str()) {
         b"folder "
     } else {
@@ -53,13 +60,6 @@ fn checks_archive(command: &str) -> bool
     ensures { result ≡ checks_archive command.now }
 {
     command == "check" || command == "handle"
-}
-
-// Whether a command makes an archive of another one.
-fn copies_archive(command: &str) -> bool
-    ensures { result ≡ copies_archive command.now }
-{
-    command == "copy" || command == "resize"
 }
 
 // Whether a command makes a file.

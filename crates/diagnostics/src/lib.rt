@@ -23,6 +23,7 @@ pub trait Onlooker {
 }
 
 /// Nobody looks on.
+#[derive(Drop)]
 pub struct Nobody;
 
 impl Onlooker for Nobody {

@@ -11,7 +11,7 @@ use Rattle.salvage.specs.declared.records.Read.{Read}
 
 -- what the record at this place says is taken
 abbrev pub TakenAt : ℕ → List ℕ → ℕ → List Read → List Dropped → ℕ → Type 0
-TakenAt blocks bytes end reads drops place = IsTaken blocks (between bytes place end) reads drops
+TakenAt blocks bytes end reads drops place = IsTaken blocks (between bytes place end) place reads drops
 
 -- what becomes of the record at this place, of which this is to hold
 abbrev pub IsHeard : ℕ → List ℕ → ℕ → ℕ → (ℕ → Type 0) → ℕ → Type 0
@@ -25,10 +25,10 @@ pub record AreReadTo (blocks : ℕ) (bytes : List ℕ) (begin end at : ℕ) (in_
   pub heard : (k place : ℕ) → place ≡ begin + 32 + 16 * k → place < at → IsHeard blocks bytes begin end P place
 
 -- what was taken stays so
-pub taken_still : (blocks : ℕ) (rest : List ℕ) (reads reads2 : List Read) (drops drops2 : List Dropped) → StayRead reads reads2 → StayNamed drops drops2
-    → IsTaken blocks rest reads drops → IsTaken blocks rest reads2 drops2
-taken_still blocks rest reads reads2 drops drops2 stay kept taken = record {
-  case = λ size c stores. stay c (taken.case size c stores);
+pub taken_still : (blocks : ℕ) (rest : List ℕ) (place : ℕ) (reads reads2 : List Read) (drops drops2 : List Dropped) → StayRead reads reads2 → StayNamed drops drops2
+    → IsTaken blocks rest place reads drops → IsTaken blocks rest place reads2 drops2
+taken_still blocks rest place reads reads2 drops drops2 stay kept taken = record {
+  case = λ size c stores. stay place c (taken.case size c stores);
   numbers = λ size head body index below. kept (number_of rest (12 + 4 * index)) (taken.numbers size head body index below);
 }
 
@@ -129,7 +129,7 @@ module _ (blocks : ℕ) (bytes : List ℕ) (begin end : ℕ) where
       → AreAllRead blocks bytes begin end reads2 drops2
   all_still reads reads2 drops drops2 stay kept all = λ opened k place is before.
       still_heard (TakenAt blocks bytes end reads drops) (TakenAt blocks bytes end reads2 drops2)
-      (λ p taken. taken_still blocks (between bytes p end) reads reads2 drops drops2 stay kept taken) place (all opened k place is before)
+      (λ p taken. taken_still blocks (between bytes p end) p reads reads2 drops drops2 stay kept taken) place (all opened k place is before)
 
   module _ (at : ℕ) (in_row : Bool) (reads : List Read) (drops : List Dropped) where
     -- all is read where the half ends

@@ -1,6 +1,7 @@
 mod AloneLemmas
 mod BlockLemmas
 mod CaseLemmas
+mod ContestLemmas
 mod DropLemmas
 mod FindLemmas
 mod FrontLemmas
@@ -13,3 +14,4 @@ mod ReadsLemmas
 mod ShutLemmas
 mod SightLemmas
 mod TellLemmas
+mod UseLemmas

@@ -1,6 +1,7 @@
 -- The cases that are read, one after another.
-use Rattle.std.proofs.Common.{◌≡◌, ◌⊎◌, inl, inr, ℕ, ◌+◌, ◌^◌, ◌<◌, List, [], ◌∷◌, ◌++◌, length, get_or, set, slice_index, refl, sym, ap, ◌∙◌, subst, arith, Result, Ok, Err, IfOk, OnOk}
-use Rattle.std.proofs.lemmas.Bool.{cases_eq}
+use Rattle.std.proofs.Common.{◌≡◌, ◌⊎◌, inl, inr, ℕ, ◌+◌, ◌^◌, ◌<◌, List, [], ◌∷◌, ◌++◌, length, get_or, set, slice_index, refl, sym, ap, ◌∙◌, subst, arith, Bool, Option, None, Some, IsTrue, Result, Ok, Err, IfOk, OnOk}
+use Rattle.std.specs.Prelude.{◌↔◌, is_some}
+use Rattle.std.proofs.lemmas.Bool.{cases_eq, false≢true}
 use Rattle.std.proofs.lemmas.List.{get_or-set_same, get_or-set_other, get_or_default, length-set}
 use Rattle.std.proofs.lemmas.List.Sorted.{Contains-permutation, IsPermutation-sym}
 use Rattle.std.proofs.lemmas.List.Elements.{Contains-push_cases}
@@ -9,13 +10,14 @@ use Rattle.std.specs.List.Sorted.{IsPermutation}
 use Rattle.journal_layout.specs.Case.{Case, case_of}
 use Rattle.journal_layout.specs.Layout.{half_length, half_start}
 use Rattle.journal_layout.specs.Reading.{case_at}
+use Rattle.journal_layout.specs.declared.entry.Entry.{Entry}
 use Rattle.journal_layout.specs.declared.faults.OpenFault.{OpenFault}
 use Rattle.journal_layout.specs.declared.shape.Half.TheVariants.{A, B}
 use Rattle.journal_layout.specs.declared.shape.Shape.{Shape}
 use Rattle.std.specs.declared.alloc.AllocError.{AllocError}
 use Rattle.salvage.specs.Alone.{HasHead, IsOther, IsOtherBody, Reads, StoresCase, alone, between}
 use Rattle.salvage.specs.Cases.{IsSameCase}
-use Rattle.salvage.specs.Reads.{AreAllRead, AreFrom, AreHalvesRead, IsAmong, IsFrom, StayFrom, StayNamed, StayRead}
+use Rattle.salvage.specs.Reads.{AreAllRead, AreFrom, AreHalvesRead, IsFrom, IsReadAt, IsStored, StayFrom, StayNamed, StayRead}
 use Rattle.salvage.specs.declared.records.Dropped.{Dropped}
 use Rattle.salvage.specs.declared.records.Read.{Read}
 use Rattle.salvage.specs.declared.records.Span.{Span}
@@ -36,8 +38,9 @@ same_then c d e one two = record {
 }
 
 -- a read gives way to one of the same case
-pub set_stays : (reads : List Read) (i : ℕ) (r new : Read) → i < length reads → r ≡ get_or reads i r → IsSameCase (case_of new.entry) (case_of r.entry) → StayRead reads (set reads i new)
-set_stays reads i r new within is same c among = by_place (cases_eq k i)
+pub set_stays : (reads : List Read) (i : ℕ) (r new : Read) → i < length reads → r ≡ get_or reads i r → new.place ≡ r.place → IsSameCase (case_of new.entry) (case_of r.entry)
+    → StayRead reads (set reads i new)
+set_stays reads i r new within is still same place c among = by_place (cases_eq k i)
   where
     x : Read
     x = among.0
@@ -51,17 +54,19 @@ set_stays reads i r new within is same c among = by_place (cases_eq k i)
     there : get_or reads k x ≡ x
     there = among.1.2
 
-    by_place : (k ≡ i) ⊎ ((k ≡ i) → ⊥) → IsAmong (set reads i new) c
+    by_place : (k ≡ i) ⊎ ((k ≡ i) → ⊥) → IsReadAt (set reads i new) place c
     by_place (inl e) =
         let is_x : r ≡ x = is ∙ get_or_default reads i r x within ∙ ap (λ (j : ℕ). get_or reads j x) (sym e) ∙ there in (
           new,
           (i, omega (arith, within, length-set reads i new), get_or-set_same reads i new new within),
-          same_then (case_of new.entry) (case_of r.entry) c same (subst (λ (y : Read). IsSameCase (case_of y.entry) c) (sym is_x) among.2),
+          ap (λ (p : Span). p.start) still ∙ ap (λ (y : Read). y.place.start) is_x ∙ among.2,
+          same_then (case_of new.entry) (case_of r.entry) c same (subst (λ (y : Read). IsSameCase (case_of y.entry) c) (sym is_x) among.3),
         )
     by_place (inr other) = (
       x,
       (k, omega (arith, low, length-set reads i new), get_or-set_other reads i k new x other ∙ there),
       among.2,
+      among.3,
     )
 
 -- a read that says the same of the same place is of the same record
@@ -97,7 +102,7 @@ push_from blocks bytes reads r is are x has = by_part (Contains-push_cases reads
 
 -- a sort keeps all
 pub sorted_stays : (xs ys : List Read) → IsPermutation xs ys → StayRead xs ys
-sorted_stays xs ys same c among = (among.0, Contains-permutation xs ys among.0 same among.1, among.2)
+sorted_stays xs ys same place c among = (among.0, Contains-permutation xs ys among.0 same among.1, among.2, among.3)
 
 -- the records of both halves
 pub both_halves : (shape : Shape) (front : List ℕ) (reads : List Read) (drops : List Dropped) (a b : Span) → a.start ≡ half_start shape A → a.end ≡ half_start shape A + half_length shape
@@ -141,6 +146,9 @@ pub on_ok : {A : Type 0} (r : Result ℕ OpenFault) → A → OnOk r A
 on_ok (Ok n) a = a
 on_ok (Err fault) a = tt
 
+pub other_there : (blocks : ℕ) (there rest : List ℕ) → there ≡ rest → (size : ℕ) → IsOther rest size → (k : ℕ) × Reads blocks there k
+other_there blocks there rest same size other = (size, inr (subst (λ (bytes : List ℕ). IsOther bytes size) (sym same) other))
+
 -- What is read of the record at the front of these bytes, whose head says so many bytes.
 module _ (blocks n : ℕ) (there rest : List ℕ) (same : there ≡ rest) (each : (size : ℕ) → HasHead rest size → n ≡ size) where
   -- what all of its cases are
@@ -179,6 +187,25 @@ module _ (blocks n : ℕ) (there rest : List ℕ) (same : there ≡ rest) (each 
 
   pub one_there : (P : Case → Type 0) (d : Case) → n < 2 ^ 32 → StoresCase blocks rest n d → P d → AreCases P
   one_there P d small stored holds k c stores = subst P (one_stored blocks rest n d c small stored (here k c stores)) holds
+
+  -- a record reads there
+  abbrev pub ReadsThere : Type 0
+  ReadsThere = (size : ℕ) × Reads blocks there size
+
+  pub store_there : (c : Case) → StoresCase blocks rest n c → ReadsThere
+  store_there c stores = (n, inl (c, subst (λ (bytes : List ℕ). StoresCase blocks bytes n c) (sym same) stores))
+
+  -- none does, if it is neither another nor a Store record
+  pub nothing_there : ((size : ℕ) → IsOther rest size → ⊥) → AreCases (λ c. ⊥) → ReadsThere → ⊥
+  nothing_there other cases (size, inl (c, stores)) = cases size c stores
+  nothing_there other cases (size, inr is) = other size (subst (λ (bytes : List ℕ). IsOther bytes size) same is)
+
+  -- one does exactly if a case is read of it
+  pub stored_there : ((size : ℕ) → IsOther rest size → ⊥) → HasHead rest n → slice_index rest 1 ≡ 1 → (o : Option Entry) → IsStored blocks rest n (Ok o)
+      → (is : Bool) → is ≡ is_some o → IsTrue is ↔ ReadsThere
+  stored_there other head kind (Some e) stored is same = (λ yes. store_there (case_of e) (stored head kind), λ some. same)
+  stored_there other head kind None stored is same =
+      (λ yes. absurd (false≢true (sym same ∙ yes)), λ some. absurd (nothing_there other (none_there (λ c. ⊥) stored) some))
 
 -- what holds whatever the value is
 pub whatever : {T E : Type 0} {P : Type 0} (r : Result T E) → P → IfOk r (λ x. P)

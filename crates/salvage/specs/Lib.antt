@@ -1,6 +1,8 @@
 pub mod Alone
 pub mod Cases
+pub mod Contests
 pub mod Copying
+pub mod Doubting
 pub mod FaultLaws
 pub mod Finding
 pub mod FrontLaws

@@ -7,8 +7,11 @@ use Rattle.journal_layout.specs.Stands.{IsRefused, Stands}
 use Rattle.journal_layout.specs.declared.faults.Field.TheVariants.{Gate}
 use Rattle.journal_layout.specs.declared.faults.OpenFault.{OpenFault}
 use Rattle.journal_layout.specs.declared.faults.OpenFault.TheVariants.{Damaged}
+use Rattle.journal_layout.specs.declared.shape.Shape.{Shape}
 use Rattle.journal_layout.specs.Case.{Case}
 use Rattle.salvage.specs.Cases.{HasCase}
+use Rattle.salvage.specs.Contests.{IsUncontested, Knows, OfEachBehind}
+use Rattle.salvage.specs.Doubting.{IsBound, trouble_by}
 use Rattle.salvage.specs.Finding.{HasNoGate, IsShort, SeesArchive}
 use Rattle.salvage.specs.Fronts.{fronted}
 use Rattle.salvage.specs.Mending.{AreBelow, blocks_in}
@@ -19,6 +22,7 @@ use Rattle.salvage.specs.Shut.{shut_gate}
 use Rattle.salvage.specs.declared.cases_found.Found.{Found}
 use Rattle.salvage.specs.declared.cases_found.More.{More}
 use Rattle.salvage.specs.declared.doubts.Doubts.{Doubts}
+use Rattle.salvage.specs.declared.doubts.Trouble.{Trouble}
 use Rattle.salvage.specs.declared.mending.Mend.{Mend}
 use Rattle.salvage.specs.declared.records.Dropped.{Dropped}
 
@@ -44,6 +48,11 @@ abbrev pub reason_by : Option Mend → Option OpenFault → Option OpenFault
 reason_by None fault = fault
 reason_by (Some m) fault = Some m.fault
 
+-- from this number on a case is doubtful
+abbrev pub HasBound : Shape → List ℕ → Trouble → Option Doubts → Type 0
+HasBound shape bytes t None = ⊥
+HasBound shape bytes t (Some d) = IsBound shape bytes t d.bound
+
 -- The cases of an archive that are found.
 pub record SeesCases (b : List ℕ) (f : Found) : Type 0 where
   pub sees : SeesArchive b f.sight
@@ -65,6 +74,11 @@ pub record SeesCases (b : List ℕ) (f : Found) : Type 0 where
   pub refused : f.sight.fault ≢ None → f.shut ≡ None
   -- a sound archive of which no gate is damaged is read as it is
   pub sound : first_fault f ≡ None → f.more ≡ None
+  -- from which number on a case is doubtful that stands before the first fault
+  pub bound : (t : Trouble) → trouble_by f.sight.fault f.sight.patch f.shut ≡ Some t → HasBound f.first.standing.shape (part b 0 (data_start f.first.standing.shape)) t f.doubts
+  -- and which cases are known of the records from it on
+  pub behind : (t : Trouble) → trouble_by f.sight.fault f.sight.patch f.shut ≡ Some t → (d : Doubts) → f.doubts ≡ Some d
+      → OfEachBehind f.first.standing.shape (part b 0 (data_start f.first.standing.shape)) t.gate (Knows d)
 
 abbrev pub FindsCases : List ℕ → Result Found OpenFault → Type 0
 FindsCases b (Ok f) = SeesCases b f
@@ -91,8 +105,9 @@ IsHeldBy None c = Unit {0}
 IsHeldBy (Some m) c = (m.is_sure ≡ true) × AreBelow (blocks_in m.held m.shape) c.blocks
 
 -- A case is told whole: the file has all of it; and nothing is at fault, or the case precedes the first fault, that leaves its number
--- without a doubt, and no record which reads deletes it.
+-- without a doubt, and no record which reads deletes it, and none from the fault on stores a case with its number, its name or a block of it.
 abbrev pub IsWholeIn : Found → Case → Type 0
 IsWholeIn f c =
     IsHeldBy f.mend c
-    × ((first_fault f ≡ None) ⊎ (HasCase f.first.standing.cases c × IsBelow f.doubts c.seq × (AreIndexed f.scan.drops.items f.scan.dropped → IsDeleted f.scan.drops.items c.seq → ⊥)))
+    × ((first_fault f ≡ None) ⊎ (HasCase f.first.standing.cases c × IsBelow f.doubts c.seq × (AreIndexed f.scan.drops.items f.scan.dropped → IsDeleted f.scan.drops.items c.seq → ⊥)
+    × IsUncontested f.doubts c))

@@ -23,9 +23,13 @@ IsStored blocks rest size (Err fault) = Unit {0}
 abbrev pub IsAmong : List Read → Case → Type 0
 IsAmong reads c = (r : Read) × Contains reads r × IsSameCase (case_of r.entry) c
 
--- each case that was read is still among the reads
+-- the same of the record at this place
+abbrev pub IsReadAt : List Read → ℕ → Case → Type 0
+IsReadAt reads place c = (r : Read) × Contains reads r × (r.place.start ≡ place) × IsSameCase (case_of r.entry) c
+
+-- each case that was read of a place still is
 abbrev pub StayRead : List Read → List Read → Type 0
-StayRead old new = (c : Case) → IsAmong old c → IsAmong new c
+StayRead old new = (place : ℕ) (c : Case) → IsReadAt old place c → IsReadAt new place c
 
 -- The read is that of a Store record at its place of these bytes, before the end of a half. Records behind it may have pinned its case, or
 -- given it a label.
@@ -48,10 +52,10 @@ StayFrom old new = (blocks : ℕ) (bytes : List ℕ) → AreFrom blocks bytes ol
 abbrev pub StayNamed : List Dropped → List Dropped → Type 0
 StayNamed old new = (seq : ℕ) → IsDeleted old seq → IsDeleted new seq
 
--- What a record at the front of these bytes says is taken, if one reads there: the case that it stores, and the numbers whose cases it
--- deletes.
-pub record IsTaken (blocks : ℕ) (rest : List ℕ) (reads : List Read) (drops : List Dropped) : Type 0 where
-  pub case : (size : ℕ) (c : Case) → StoresCase blocks rest size c → IsAmong reads c
+-- What a record at this place says is taken, if one reads at the front of the bytes there: the case that it stores, and the numbers whose
+-- cases it deletes.
+pub record IsTaken (blocks : ℕ) (rest : List ℕ) (place : ℕ) (reads : List Read) (drops : List Dropped) : Type 0 where
+  pub case : (size : ℕ) (c : Case) → StoresCase blocks rest size c → IsReadAt reads place c
   pub numbers : (size : ℕ) → HasHead rest size → IsDropBody rest size → (index : ℕ) → index < number_of rest 8 → IsDeleted drops (number_of rest (12 + 4 * index))
 
 -- If the gate of the half is not closed, what each record of it says that reads is taken, unless the record lies within another or past
@@ -60,7 +64,7 @@ abbrev pub AreAllRead : ℕ → List ℕ → ℕ → ℕ → List Read → List 
 AreAllRead blocks bytes start end reads drops =
     was_open (slice_index bytes start) ≡ true
     → (k place : ℕ) → place ≡ start + 32 + 16 * k → place < end
-    → IsTaken blocks (between bytes place end) reads drops ⊎ IsWithinOther blocks bytes end place ⊎ IsPast blocks bytes start end place
+    → IsTaken blocks (between bytes place end) place reads drops ⊎ IsWithinOther blocks bytes end place ⊎ IsPast blocks bytes start end place
 
 -- the same of both halves of an archive, in the bytes before its data blocks
 abbrev pub AreHalvesRead : Shape → List ℕ → List Read → List Dropped → Type 0

@@ -1,5 +1,5 @@
 -- What is told of the cases of an archive, by its bytes.
-use Rattle.std.specs.Prelude.{◌≡◌, ◌≢◌, ◌⊎◌, ℕ, ◌+◌, ◌*◌, ◌<◌, true, List, slice_index, None, Option}
+use Rattle.std.specs.Prelude.{◌≡◌, ◌≢◌, ◌⊎◌, ℕ, ◌+◌, ◌*◌, ◌<◌, true, List, slice_index, None, Option, Some}
 use Rattle.std.specs.List.{Contains}
 use Rattle.disk_model.specs.Places.{part}
 use Rattle.journal_layout.specs.Case.{Case, case_of}
@@ -8,12 +8,15 @@ use Rattle.journal_layout.specs.declared.shape.Half.{Half}
 use Rattle.journal_layout.specs.declared.shape.Shape.{Shape}
 use Rattle.salvage.specs.Alone.{HasHead, IsDropBody, IsPast, IsWithinOther, StoresCase, between, was_open}
 use Rattle.salvage.specs.Cases.{HasCase}
+use Rattle.salvage.specs.Contests.{Contests, OfEachBehind}
+use Rattle.salvage.specs.Doubting.{IsBound, trouble_by}
 use Rattle.salvage.specs.Readings.{IsBelow, SeesCases, first_fault}
 use Rattle.salvage.specs.Reads.{IsFrom}
 use Rattle.salvage.specs.Records.{IsDeleted, number_of}
 use Rattle.salvage.specs.Told.{AreTold, IsTold, Line}
 use Rattle.salvage.specs.declared.cases_found.Found.{Found}
 use Rattle.salvage.specs.declared.cases_found.Loss.{Loss}
+use Rattle.salvage.specs.declared.doubts.Trouble.{Trouble}
 use Rattle.salvage.specs.declared.records.Read.{Read}
 use Rattle.salvage.specs.declared.telling.Mark.TheVariants.{Lost, Whole}
 
@@ -65,6 +68,21 @@ NoRecordDeletesWhatIsToldWhole =
     → IsWithinOther f.first.standing.shape.data_blocks (part b 0 (data_start f.first.standing.shape)) (half_start f.first.standing.shape half + half_length f.first.standing.shape) place
     ⊎ IsPast f.first.standing.shape.data_blocks (part b 0 (data_start f.first.standing.shape)) (half_start f.first.standing.shape half)
     (half_start f.first.standing.shape half + half_length f.first.standing.shape) place
+
+-- A case that is told whole has a number below the first one that the first fault makes doubtful.
+abbrev pub WhatIsToldWholeIsBelow : Type 0
+WhatIsToldWholeIsBelow =
+    (b : List ℕ) (f : Found) (lines : List Line) → SeesCases b f → AreTold f lines → (t : Trouble) → trouble_by f.sight.fault f.sight.patch f.shut ≡ Some t
+    → (c : Case) → Contains lines (record { case = c; mark = Whole })
+    → (bound : ℕ) × IsBound f.first.standing.shape (part b 0 (data_start f.first.standing.shape)) t bound × (c.seq < bound)
+
+-- And no Store record which reads by itself, from the first fault on, stores a case with its number, its name or a block of it, unless the
+-- record lies within another or past the end of the records.
+abbrev pub NoRecordContestsWhatIsToldWhole : Type 0
+NoRecordContestsWhatIsToldWhole =
+    (b : List ℕ) (f : Found) (lines : List Line) → SeesCases b f → AreTold f lines → (t : Trouble) → trouble_by f.sight.fault f.sight.patch f.shut ≡ Some t
+    → (c : Case) → Contains lines (record { case = c; mark = Whole })
+    → OfEachBehind f.first.standing.shape (part b 0 (data_start f.first.standing.shape)) t.gate (λ one. Contests one c → ⊥)
 
 -- A case that is told lost is that of a Store record of the archive, which reads by itself at its place. Records behind it may have pinned
 -- the case.

@@ -8,16 +8,23 @@ use Rattle.disk_model.specs.Places.{part}
 use Rattle.journal_layout.specs.Case.{Case, case_of}
 use Rattle.journal_layout.specs.Layout.{data_start, half_length, half_start}
 use Rattle.journal_layout.specs.Soundness.{case_numbered}
+use Rattle.journal_layout.specs.declared.faults.OpenFault.{OpenFault}
+use Rattle.journal_layout.specs.declared.shape.Shape.{Shape}
 use Rattle.salvage.specs.Alone.{IsPast, IsWithinOther, between}
 use Rattle.salvage.specs.Cases.{HasCase, IsSameCase, IsSameImage}
-use Rattle.salvage.specs.Readings.{IsBelow, IsWholeIn, cases_by, first_fault}
+use Rattle.salvage.specs.Contests.{Contests, IsUncontested, Knows, OfEachBehind, taken_end, taken_start}
+use Rattle.salvage.specs.Doubting.{IsBound, trouble_by}
+use Rattle.salvage.specs.Readings.{HasBound, IsBelow, IsWholeIn, cases_by, fault_by, first_fault}
 use Rattle.salvage.specs.Reads.{IsAmong, IsFrom, IsTaken}
-use Rattle.salvage.specs.Telling.{EachReadableCaseIsTold, EachSoundCaseIsWhole, IsHeardOf, NoRecordDeletesWhatIsToldWhole, WhatIsToldLostIsStored, WhatIsToldWholeIsNotDeleted}
+use Rattle.salvage.specs.Telling.{EachReadableCaseIsTold, EachSoundCaseIsWhole, IsHeardOf, NoRecordContestsWhatIsToldWhole, NoRecordDeletesWhatIsToldWhole, WhatIsToldLostIsStored, WhatIsToldWholeIsBelow, WhatIsToldWholeIsNotDeleted}
 use Rattle.salvage.specs.Records.{AreIndexed, IsDeleted}
 use Rattle.salvage.specs.Told.{AreCopied, AreLost, AreTold, HasDoubt, IsLost, IsMarked, IsTold, Line, copied_cases}
 use Rattle.salvage.specs.declared.cases_found.Found.{Found}
 use Rattle.salvage.specs.declared.cases_found.More.{More}
+use Rattle.salvage.specs.declared.doubts.Doubts.{Doubts}
+use Rattle.salvage.specs.declared.doubts.Trouble.{Trouble}
 use Rattle.salvage.specs.declared.records.Read.{Read}
+use Rattle.salvage.specs.declared.shown.Patch.{Patch}
 use Rattle.salvage.specs.declared.telling.Mark.{Mark}
 use Rattle.salvage.specs.declared.telling.Mark.TheVariants.{Whole, Doubtful, Cut, Lost}
 
@@ -125,11 +132,11 @@ pub each_readable_case_is_told : EachReadableCaseIsTold
 each_readable_case_is_told b f lines sees told fault half opened k place size c is before stores = heard (sees.reads fault half opened k place is before)
   where
     heard : IsTaken f.first.standing.shape.data_blocks (between (part b 0 (data_start f.first.standing.shape)) place (half_start f.first.standing.shape half + half_length f.first.standing.shape))
-        f.scan.reads.items f.scan.drops.items
+        place f.scan.reads.items f.scan.drops.items
         ⊎ IsWithinOther f.first.standing.shape.data_blocks (part b 0 (data_start f.first.standing.shape)) (half_start f.first.standing.shape half + half_length f.first.standing.shape) place
         ⊎ IsPast f.first.standing.shape.data_blocks (part b 0 (data_start f.first.standing.shape)) (half_start f.first.standing.shape half) (half_start f.first.standing.shape half + half_length f.first.standing.shape) place
         → IsHeardOf f.first.standing.shape (part b 0 (data_start f.first.standing.shape)) (half_start f.first.standing.shape half) (half_start f.first.standing.shape half + half_length f.first.standing.shape) place lines c
-    heard (inl taken) = inl (each_read_has_a_line f lines told c (taken.case size c stores))
+    heard (inl taken) = let at = taken.case size c stores in inl (each_read_has_a_line f lines told c (at.0, at.1, at.3))
     heard (inr other) = inr other
 
 one_whole : (x : Case) (xs : List Case) (rest : List Line) (c : Case) → (x ≡ c) ⊎ Contains xs c → (Contains xs c → Contains rest (record { case = c; mark = Whole }))
@@ -211,13 +218,55 @@ whole_is : (f : Found) (c : Case) → first_fault f ≢ None → AreIndexed f.sc
 whole_is f c fault indexed (held, inl sound) = absurd (fault sound)
 whole_is f c fault indexed (held, inr whole) = (whole.0, whole.1, whole.2 indexed)
 
+-- what is told whole is whole
+told_whole : (f : Found) (lines : List Line) → AreTold f lines → (c : Case) → Contains lines (record { case = c; mark = Whole }) → IsWholeIn f c
+told_whole f lines told c has =
+    ⊎_elim (λ copied. copied_marked f (copied_cases f) told.copied told.each_copied (record { case = c; mark = Whole }) copied)
+    (λ lost. absurd (lost_not_whole f [] f.scan.reads.items told.lost told.each_lost c lost))
+    (Contains-append_cases told.copied told.lost (record { case = c; mark = Whole }) (subst (λ (ls : List Line). Contains ls (record { case = c; mark = Whole })) told.all has))
+
 -- what is told whole is not deleted by a record that was read
 pub what_is_told_whole_is_not_deleted : WhatIsToldWholeIsNotDeleted
-what_is_told_whole_is_not_deleted b f lines sees told fault c has =
-    whole_is f c fault sees.indexed
-    (⊎_elim (λ copied. copied_marked f (copied_cases f) told.copied told.each_copied (record { case = c; mark = Whole }) copied)
-    (λ lost. absurd (lost_not_whole f [] f.scan.reads.items told.lost told.each_lost c lost))
-    (Contains-append_cases told.copied told.lost (record { case = c; mark = Whole }) (subst (λ (ls : List Line). Contains ls (record { case = c; mark = Whole })) told.all has)))
+what_is_told_whole_is_not_deleted b f lines sees told fault c has = whole_is f c fault sees.indexed (told_whole f lines told c has)
+
+-- where there is trouble, something is at fault
+at_fault : (fault : Option OpenFault) (patch : Option Patch) (shut : Option ℕ) (t : Trouble) → trouble_by fault patch shut ≡ Some t → fault_by fault shut ≡ None → ⊥
+at_fault None patch None t some none = absurd (cc)
+at_fault (Some fault) patch None t some none = absurd (cc)
+at_fault fault patch (Some gate) t some none = absurd (cc)
+
+-- a bound that a number is below
+below_bound : (shape : Shape) (bytes : List ℕ) (t : Trouble) (doubts : Option Doubts) (seq : ℕ) → HasBound shape bytes t doubts → IsBelow doubts seq
+    → (bound : ℕ) × IsBound shape bytes t bound × (seq < bound)
+below_bound shape bytes t None seq is below = absurd below
+below_bound shape bytes t (Some d) seq is below = (d.bound, is, below)
+
+-- what is told whole has a number that the first fault leaves without a doubt
+pub what_is_told_whole_is_below : WhatIsToldWholeIsBelow
+what_is_told_whole_is_below b f lines sees told t some c has =
+    let whole = whole_is f c (λ none. at_fault f.sight.fault f.sight.patch f.shut t some none) sees.indexed (told_whole f lines told c has) in
+    below_bound f.first.standing.shape (part b 0 (data_start f.first.standing.shape)) t f.doubts c.seq (sees.bound t some) whole.1
+
+-- of what is known of each record behind the fault
+known_of : (doubts : Option Doubts) (shape : Shape) (bytes : List ℕ) (gate : ℕ) (c : Case) (seq : ℕ) → IsBelow doubts seq → ((d : Doubts) → doubts ≡ Some d → OfEachBehind shape bytes gate (Knows d))
+    → IsUncontested doubts c → OfEachBehind shape bytes gate (λ one. Contests one c → ⊥)
+known_of None shape bytes gate c seq below behind free opened k place size one is there stores = absurd below
+known_of (Some d) shape bytes gate c seq below behind free opened k place size one is there stores = heard (behind d refl opened k place size one is there stores)
+  where
+    heard : Knows d one ⊎ IsWithinOther shape.data_blocks bytes (taken_end shape gate) place ⊎ IsPast shape.data_blocks bytes (taken_start shape gate) (taken_end shape gate) place
+        → (Contests one c → ⊥) ⊎ IsWithinOther shape.data_blocks bytes (taken_end shape gate) place ⊎ IsPast shape.data_blocks bytes (taken_start shape gate) (taken_end shape gate) place
+    heard (inl knows) = inl (free d refl one knows)
+    heard (inr other) = inr other
+
+uncontested_of : (f : Found) (c : Case) → first_fault f ≢ None → IsWholeIn f c → IsBelow f.doubts c.seq × IsUncontested f.doubts c
+uncontested_of f c fault (held, inl sound) = absurd (fault sound)
+uncontested_of f c fault (held, inr whole) = (whole.1, whole.3)
+
+-- no record from the fault on contests what is told whole
+pub no_record_contests_what_is_told_whole : NoRecordContestsWhatIsToldWhole
+no_record_contests_what_is_told_whole b f lines sees told t some c has =
+    let free = uncontested_of f c (λ none. at_fault f.sight.fault f.sight.patch f.shut t some none) (told_whole f lines told c has) in
+    known_of f.doubts f.first.standing.shape (part b 0 (data_start f.first.standing.shape)) t.gate c c.seq free.0 (sees.behind t some) free.1
 
 -- nor by any that reads
 pub no_record_deletes_what_is_told_whole : NoRecordDeletesWhatIsToldWhole
@@ -228,7 +277,7 @@ no_record_deletes_what_is_told_whole b f lines sees told fault c has half opened
     deleted_not = (what_is_told_whole_is_not_deleted b f lines sees told fault c has).2
 
     left : IsTaken f.first.standing.shape.data_blocks (between (part b 0 (data_start f.first.standing.shape)) place (half_start f.first.standing.shape half + half_length f.first.standing.shape))
-        f.scan.reads.items f.scan.drops.items
+        place f.scan.reads.items f.scan.drops.items
         ⊎ IsWithinOther f.first.standing.shape.data_blocks (part b 0 (data_start f.first.standing.shape)) (half_start f.first.standing.shape half + half_length f.first.standing.shape) place
         ⊎ IsPast f.first.standing.shape.data_blocks (part b 0 (data_start f.first.standing.shape)) (half_start f.first.standing.shape half) (half_start f.first.standing.shape half + half_length f.first.standing.shape) place
         → IsWithinOther f.first.standing.shape.data_blocks (part b 0 (data_start f.first.standing.shape)) (half_start f.first.standing.shape half + half_length f.first.standing.shape) place

@@ -1,11 +1,13 @@
 // The cases of a damaged archive: those before the first fault, and those after it.
-ghost use Rattle.std.specs.Prelude.{◌≡◌, ◌≢◌, ◌↔◌, ◌⊎◌, ◌+◌, ◌≤◌, length, true, IfOk, IsTrue, None, Ok, Some, map};
+ghost use Rattle.std.specs.Prelude.{◌≡◌, ◌≢◌, ◌↔◌, ◌⊎◌, ◌+◌, ◌≤◌, length, false, true, IfOk, IsTrue, None, Ok, Some, map};
 ghost use Rattle.journal_layout.specs.Case.{case_of};
 ghost use Rattle.case_journal.specs.Viewing.{IsOpenRefusal};
 ghost use Rattle.disk_model.specs.Places.{part};
-ghost use Rattle.journal_layout.specs.Layout.{data_start, half_length, half_start};
+ghost use Rattle.journal_layout.specs.Layout.{data_start};
 ghost use Rattle.journal_layout.specs.Stands.{Stands};
 ghost use Rattle.salvage.specs.Cases.{HasCase};
+ghost use Rattle.salvage.specs.Contests.{IsUncontested, Knows, OfEachBehind};
+ghost use Rattle.salvage.specs.Doubting.{IsBound, trouble_by};
 ghost use Rattle.salvage.specs.Fronts.{fronted};
 ghost use Rattle.salvage.specs.Readings.{FindsCases, FoundWithin, IsBelow, IsHeldBy, IsMore, IsWholeIn, cases_by, first_fault, reason_by};
 ghost use Rattle.salvage.specs.Reads.{AreFrom, AreHalvesRead, IsAmong, StayFrom, StayRead};
@@ -17,7 +19,7 @@ ghost use Rattle.salvage.specs.declared.cases_found.More.{More};
 
 use crate::cases::has_case;
 use crate::choosing::{choose, is_again, size_chosen};
-use crate::doubts::{Doubts, NO_BOUND, bound_of};
+use crate::doubts::{Doubts, Trouble, doubts_of, half_of, taken_half};
 use crate::finding::{Sight, find_sight, open_shown};
 use crate::fronted::Fronted;
 use crate::fronts::{last_of, make_front};
@@ -136,7 +138,10 @@ impl Found {
         if !has_case(&self.first, entry) || !self.is_below(entry.seq) {
             return false;
         }
-        self.scan.deleting(entry.seq).is_none() && !self.is_contested(entry)
+        if self.scan.deleting(entry.seq).is_some() || self.is_contested(entry) {
+            return false;
+        }
+        true
     }
 
     // Whether the shape is the archive's without a doubt, and all blocks of a case are in the file.
@@ -171,7 +176,9 @@ impl Found {
     }
 
     // Whether a record behind the fault stores another case with the number, the name or a block of this one.
-    fn is_contested(&self, entry: &Entry) -> bool {
+    fn is_contested(&self, entry: &Entry) -> bool
+        ensures { result ≡ false → IsUncontested self.now.doubts (case_of entry.now) }
+    {
         match &self.doubts {
             Some(doubts) => doubts.contest(entry),
             None => true,
@@ -235,17 +242,11 @@ fn loss_of(fate: Fate) -> Loss {
     }
 }
 
-// Where the first fault is, in bytes, and of which field; no place of one that is of no record and no gate.
-#[derive(Clone, Copy)]
-struct Trouble {
-    gate: usize,
-    field: Field,
-    is_refused: bool,
-}
-
+// Where the first fault is, if there is one.
 fn trouble_in(sight: Sight, shut: Option<u64>) -> Option<Trouble>
     ensures sound { sight.fault ≡ None → shut ≡ None → result ≡ None }
     ensures trouble { result ≡ None → (sight.fault ≡ None) × (shut ≡ None) }
+    ensures said { result ≡ trouble_by sight.fault sight.patch shut }
 {
     if let Some(gate) = shut {
         return Some(Trouble {
@@ -296,17 +297,6 @@ pub(crate) fn read_front<S: Source>(
     Ok(front)
 }
 
-fn half_of(shape: Shape, half: Half) -> Span
-    ensures start { result.start ≡ half_start shape half }
-    ensures end { result.end ≡ half_start shape half + half_length shape }
-{
-    let start = shape.half_start(half);
-    Span {
-        start: start as usize,
-        end: start.saturating_add(shape.half_length()) as usize,
-    }
-}
-
 // The records of both halves that read by themselves.
 pub(crate) fn read_halves(alloc: Global, front: &[u8], shape: Shape) -> Result<Scan, OpenFault>
     ensures only { IsOpenRefusal result }
@@ -319,62 +309,6 @@ pub(crate) fn read_halves(alloc: Global, front: &[u8], shape: Shape) -> Result<S
     scan.read_half(alloc, front, half_of(shape, Half::A), shape.data_blocks)?;
     scan.read_half(alloc, front, half_of(shape, Half::B), shape.data_blocks)?;
     Ok(scan)
-}
-
-// The taken half: that of the first fault, unless that is the gate of the other one.
-fn taken_half(shape: Shape, trouble: Trouble) -> Span {
-    let first = half_of(shape, Half::A);
-    let second = half_of(shape, Half::B);
-    let is_second = trouble.gate >= second.start;
-    let is_of_half = trouble.gate == first.start || trouble.gate == second.start;
-    if is_second != is_of_half {
-        second
-    } else {
-        first
-    }
-}
-
-// The generation in the header of a half.
-pub(crate) fn generation_at(front: &[u8], start: usize) -> u64 {
-    let low = number_at(front, start.saturating_add(8));
-    let high = number_at(front, start.saturating_add(12));
-    u64::from(low) + (u64::from(high) << 32)
-}
-
-// From which number on the cases are doubtful that stand before the first fault.
-fn bound_in(front: &[u8], shape: Shape, scan: &Scan, trouble: Trouble) -> u64 {
-    let taken = taken_half(shape, trouble);
-    if taken.start < trouble.gate && trouble.gate < taken.end {
-        if trouble.is_refused {
-            let reads_alone = scan.reads_at(front, trouble.gate);
-            return bound_of(front, trouble.gate, trouble.field, reads_alone);
-        }
-        return NO_BOUND;
-    }
-    let is_older = generation_at(front, trouble.gate) < generation_at(front, taken.start);
-    if is_older && !trouble.is_refused {
-        NO_BOUND
-    } else {
-        0
-    }
-}
-
-// What makes cases doubtful that stand before the first fault.
-fn doubts_of(
-    alloc: Global,
-    front: &[u8],
-    shape: Shape,
-    scan: &Scan,
-    trouble: Trouble,
-) -> Result<Doubts, AllocError> {
-    let taken = taken_half(shape, trouble);
-    let is_within = taken.start < trouble.gate && trouble.gate < taken.end;
-    let behind = Span {
-        start: if is_within { trouble.gate } else { taken.end },
-        end: taken.end,
-    };
-    let bound = bound_in(front, shape, scan, trouble);
-    Doubts::of(alloc, bound, shape.data_blocks, &scan.reads, behind)
 }
 
 // The number of the next case: no number is given again that a case has which is copied. That of the records which stand counts too, as
@@ -511,16 +445,16 @@ fn look_on<S: Source>(
     ensures indexed { IfOk result (λ r. AreIndexed r.0.drops.items r.0.dropped) }
     ensures from { IsTrue (S.is_honest source.now) → IfOk result (λ r. AreFrom first.now.standing.shape.data_blocks (part (S.seen source.now) 0 (data_start first.now.standing.shape)) r.0.reads.items) }
     ensures all { IsTrue (S.is_honest source.now) → IfOk result (λ r. AreHalvesRead first.now.standing.shape (part (S.seen source.now) 0 (data_start first.now.standing.shape)) r.0.reads.items r.0.drops.items) }
+    ensures bound { IsTrue (S.is_honest source.now) → IfOk result (λ r. IsBound first.now.standing.shape (part (S.seen source.now) 0 (data_start first.now.standing.shape)) trouble r.1.bound) }
+    ensures behind { IsTrue (S.is_honest source.now) → IfOk result (λ r. OfEachBehind first.now.standing.shape (part (S.seen source.now) 0 (data_start first.now.standing.shape)) trouble.gate (Knows r.1)) }
     ensures more { IsTrue (S.is_honest source.now) → IfOk result (λ r. (m : More) → r.2 ≡ Some m → IsMore (S.seen source.now) first.now.standing r.0.drops.items m) }
     ensures only { IsOpenRefusal result }
 {
     let shape = first.shape();
     let front = read_front(alloc, source, shape)?;
     let mut scan = read_halves(alloc, &front, shape)?;
-    let Ok(doubts) = doubts_of(alloc, &front, shape, &scan, trouble) else {
-        return Err(OpenFault::OutOfMemory);
-    };
-    let taken = taken_half(shape, trouble);
+    let doubts = doubts_of(alloc, &front, shape, &scan.reads, trouble)?;
+    let taken = half_of(shape, taken_half(shape, trouble.gate));
     let Ok(made) = choose_front(alloc, &front, &mut scan, first, taken, doubts.bound) else {
         return Err(OpenFault::OutOfMemory);
     };
@@ -535,6 +469,7 @@ fn look_on<S: Source>(
 pub fn find_cases<S: Source>(alloc: Global, source: &S) -> Result<Found, OpenFault>
     ensures within { IfOk result (FoundWithin (S.size source.now)) }
     ensures finds { IsTrue (S.is_honest source.now) → FindsCases (S.seen source.now) result }
+    ensures own { IfOk result (λ found. found.mend ≡ None) }
 {
     let sight = find_sight(alloc, source)?;
     let first = open_shown(alloc, source, sight.patch)?;

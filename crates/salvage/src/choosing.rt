@@ -1,6 +1,8 @@
 // Which of the cases that records store are copied, where not all go with one another.
-ghost use Rattle.std.specs.Prelude.{◌≡◌, IsTrue};
+ghost use Rattle.std.specs.Prelude.{◌≡◌, false, true, IsTrue};
+ghost use Rattle.extents.specs.Runs.{blocks_of, run_blocks};
 ghost use Rattle.journal_layout.specs.Case.{case_of};
+ghost use Rattle.salvage.specs.Contests.{AreUsed, StayUsed, is_used};
 ghost use Rattle.salvage.specs.Reads.{IsAmong, StayFrom, StayRead};
 
 use crate::cases::{has_case, is_same_image};
@@ -49,20 +51,33 @@ impl Blocks {
         Ok(Blocks { used })
     }
 
-    // Whether a block of a run is used, or is none.
-    fn has_of(&self, run: Run) -> bool {
-        let start = run.start as usize;
-        match self
-            .used
-            .get(start..start.saturating_add(run.count as usize))
-        {
-            Some(part) => part.contains(&true),
+    // Whether a block is used, or is none.
+    fn is_used(&self, block: usize) -> bool
+        ensures { result ≡ is_used self.now.used.items block }
+    {
+        match self.used.get(block) {
+            Some(used) => *used,
             None => true,
         }
     }
 
+    // Whether a block of a run is used, or is none.
+    fn has_of(&self, run: Run) -> bool
+        ensures { result ≡ false → AreUsed self.now.used.items false (run_blocks run) }
+    {
+        let start = run.start as usize;
+        for block in start..start + run.count as usize {
+            if self.is_used(block) {
+                return true;
+            }
+        }
+        false
+    }
+
     /// Whether a block of these runs is used, or is none.
-    pub(crate) fn has_any(&self, runs: &[Run]) -> bool {
+    pub(crate) fn has_any(&self, runs: &[Run]) -> bool
+        ensures { result ≡ false → AreUsed self.now.used.items false (blocks_of runs.now) }
+    {
         for run in runs {
             if self.has_of(*run) {
                 return true;
@@ -72,7 +87,10 @@ impl Blocks {
     }
 
     /// Uses the blocks of these runs.
-    pub(crate) fn take(&mut self, runs: &[Run]) {
+    pub(crate) fn take(&mut self, runs: &[Run])
+        ensures used { AreUsed self.new.used.items true (blocks_of runs.now) }
+        ensures stay { StayUsed self.old.used.items self.new.used.items }
+    {
         for run in runs {
             use_run(&mut self.used, *run);
         }
@@ -80,13 +98,14 @@ impl Blocks {
 }
 
 // Marks the blocks of a run.
-fn use_run(used: &mut [bool], run: Run) {
-    let start = run.start as usize;
-    let count = run.count as usize;
-    if start > used.len() || count > used.len() - start {
-        return;
+fn use_run(used: &mut Vec<bool>, run: Run)
+    ensures used { AreUsed used.new.items true (run_blocks run) }
+    ensures stay { StayUsed used.old.items used.new.items }
+{
+    let end = used.len().min(run.start as usize + run.count as usize);
+    for block in run.start as usize..end {
+        used[block] = true;
     }
-    used[start..start + count].fill(true);
 }
 
 // The bytes of the records that say a case.

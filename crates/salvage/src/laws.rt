@@ -1,6 +1,6 @@
 // Laws of a salvage for the crates above. These functions do nothing.
 ghost use Rattle.salvage.specs.Keeping.{WhatIsSoundIsCopied, WhatOpensIsKept, WhatStandsIsKept};
-ghost use Rattle.salvage.specs.Telling.{EachReadableCaseIsTold, EachSoundCaseIsWhole, NoRecordDeletesWhatIsToldWhole, WhatIsToldLostIsStored, WhatIsToldWholeIsNotDeleted};
+ghost use Rattle.salvage.specs.Telling.{EachReadableCaseIsTold, EachSoundCaseIsWhole, NoRecordContestsWhatIsToldWhole, NoRecordDeletesWhatIsToldWhole, WhatIsToldLostIsStored, WhatIsToldWholeIsBelow, WhatIsToldWholeIsNotDeleted};
 
 /// The cases that stand before the first faulty record of the taken half are kept in what is copied: under their numbers, with the same
 /// facts, and with the images that their blocks hold.
@@ -17,11 +17,14 @@ pub fn what_opens_is_kept()
 
 /// Each case that a Store record of a half says which reads by itself has a line of what is told, copied or lost, unless the record lies
 /// within another or past the end of the records. If nothing is at fault, each case of the archive is told whole. If something is, no
-/// Drop record that reads so deletes a case that is told whole. What is told lost is what a record stores which reads so.
+/// Drop record that reads so deletes a case that is told whole. Its number is below the first one that the fault makes doubtful, and no
+/// Store record from the fault on has its number, its name or a block of it. What is told lost is what a record stores which reads so.
 pub fn each_readable_case_is_told()
     ensures told { EachReadableCaseIsTold }
     ensures whole { EachSoundCaseIsWhole }
     ensures kept { WhatIsToldWholeIsNotDeleted }
     ensures undeleted { NoRecordDeletesWhatIsToldWhole }
+    ensures below { WhatIsToldWholeIsBelow }
+    ensures uncontested { NoRecordContestsWhatIsToldWhole }
     ensures lost { WhatIsToldLostIsStored }
 {}

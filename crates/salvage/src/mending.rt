@@ -9,7 +9,8 @@ ghost use Rattle.journal_layout.specs.Case.{case_of};
 ghost use Rattle.salvage.specs.declared.mending.Mended.{Mended};
 ghost use Rattle.salvage.specs.Mending.{AreBelow, IsMended, MendsArchive, Spares, blocks_in};
 
-use crate::cases_found::{generation_at, read_front, read_halves};
+use crate::cases_found::{read_front, read_halves};
+use crate::doubts::generation_at;
 use crate::finding::{GATE_OPEN, is_of_front};
 use crate::records::{Read, are_zeros, byte_at, number_at, put, was_open};
 use crate::source::Source;

@@ -4,9 +4,9 @@ ghost use Rattle.case_journal.specs.Viewing.{IsOpenRefusal};
 ghost use Rattle.disk_model.specs.Places.{overwritten};
 ghost use Rattle.journal_layout.specs.Case.{Case, case_of};
 ghost use Rattle.journal_layout.specs.Record.{rounded};
-ghost use Rattle.salvage.specs.Alone.{AreZeros, HasHead, IsOther, IsOtherBody, Reads, StoresCase, alone, between, was_open};
+ghost use Rattle.salvage.specs.Alone.{AreZeros, HasHead, IsOther, IsOtherBody, Reads, ReadsAt, StoresCase, alone, between, was_open};
 ghost use Rattle.salvage.specs.Cases.{HasCase};
-ghost use Rattle.salvage.specs.Reads.{AreAllRead, AreFrom, IsAmong, IsFrom, IsStored, IsTaken, StayFrom, StayNamed, StayRead};
+ghost use Rattle.salvage.specs.Reads.{AreAllRead, AreFrom, IsFrom, IsReadAt, IsStored, IsTaken, StayFrom, StayNamed, StayRead};
 ghost use Rattle.salvage.specs.Records.{AreDrops, HasEachBut, IsDeleted, IsDeletedAt, AreIndexed, number_of};
 
 use crate::cases::has_case;
@@ -252,6 +252,34 @@ fn stored(
     }
 }
 
+/// Whether a record reads by itself at the begin of a place, which ends with its half.
+pub(crate) fn reads_alone(
+    alloc: Global,
+    front: &[u8],
+    place: Span,
+    blocks: u32,
+) -> Result<bool, OpenFault>
+    ensures only { IsOpenRefusal result }
+    ensures reads { place.start ≤ place.end → place.end ≤ length front.now
+        → IfOk result (λ alone. IsTrue alone ↔ ((size : ℕ) × ReadsAt blocks front.now place.end place.start size)) }
+{
+    let Some(rest) = front.get(place.start..place.end) else {
+        return Ok(false);
+    };
+    if is_other(rest) {
+        return Ok(true);
+    }
+    let length = head_length(rest);
+    if length == 0 {
+        return Ok(false);
+    }
+    if byte_at(rest, 1) != STORE {
+        return Ok(false);
+    }
+    let stored = stored(alloc, rest, length, blocks)?;
+    Ok(stored.is_some())
+}
+
 impl Scan {
     /// Nothing is read yet.
     pub(crate) fn new(alloc: Global) -> Scan
@@ -285,7 +313,7 @@ impl Scan {
         ensures drops { self.new.drops ≡ self.old.drops }
         ensures dropped { self.new.dropped ≡ self.old.dropped }
         ensures stay { OnOk result (StayRead self.old.reads.items self.new.reads.items) }
-        ensures has { OnOk result (IsAmong self.new.reads.items (case_of entry)) }
+        ensures has { OnOk result (IsReadAt self.new.reads.items place.start (case_of entry)) }
         ensures from { OnOk result ((blocks : ℕ) (bytes : List ℕ)
             → IsFrom blocks bytes (record { place = place; entry = entry; label = None; fate = Fate.Same })
             → AreFrom blocks bytes self.old.reads.items → AreFrom blocks bytes self.new.reads.items) }
@@ -417,7 +445,7 @@ impl Scan {
         ensures from { OnOk result (AreFrom blocks front.now self.old.reads.items → AreFrom blocks front.now self.new.reads.items) }
         ensures length { IfOk result (λ size. 0 < size → Reads blocks (between front.now place.start place.end) size) }
         ensures taken { place.start ≤ place.end → place.end ≤ length front.now
-            → OnOk result (IsTaken blocks (between front.now place.start place.end) self.new.reads.items self.new.drops.items) }
+            → OnOk result (IsTaken blocks (between front.now place.start place.end) place.start self.new.reads.items self.new.drops.items) }
     {
         let Some(rest) = front.get(place.start..place.end) else {
             return Ok(0);
@@ -476,19 +504,6 @@ impl Scan {
             start = start.saturating_add(length.max(STEP));
         }
         Ok(())
-    }
-
-    /// Whether a record reads at this place.
-    pub(crate) fn reads_at(&self, front: &[u8], place: usize) -> bool {
-        for read in &self.reads {
-            if read.place.start == place {
-                return true;
-            }
-        }
-        match front.get(place..) {
-            Some(rest) => is_other(rest),
-            None => false,
-        }
     }
 
     // Whether a journal has a case, or a record deletes it that reads.

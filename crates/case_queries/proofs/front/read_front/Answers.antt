@@ -6,7 +6,7 @@ use Rattle.case_queries.proofs.front.read_front.Goals as goal
 pub loop-want-init : goal.loop-want-init
 loop-want-init g c =
     read_first g.D.Disk c.args.archive.now c.read_up_to.new.archive c.args.seq c.args.size c.min.result c.new-image.result.items c.read_up_to.new.image.items
-    (ap length c.new-image.ensures.items) c.in_ok-read_up_to.ensures.read (omega (arith, c.in_ok-read_up_to.ensures.long, c.min.ensures))
+    (ap length c.new-image.ensures.items) c.in_ok-read_up_to.ensures.read (omega (arith, c.in_ok-read_up_to.ensures.long, c.min.ensures)) (omega (arith, c.in_ok-read_up_to.ensures.long, c.min.ensures))
 
 pub returns-in_err-read_up_to : goal.returns-in_err-read_up_to
 returns-in_err-read_up_to g c =

@@ -1,15 +1,20 @@
-use Rattle.std.proofs.Common.{ap, ◌∙◌}
+use Rattle.std.proofs.Common.{rules, ap, ◌∙◌, w32, w64}
+use Rattle.std.specs.Prelude.{decimal}
+use Rattle.std.specs.Fmt.{signed_decimal}
+use Rattle.core_notes.specs.Descriptor.{pr_psargs}
+use Rattle.core_notes.specs.DescriptorWords.{psinfo_bytes}
 use Rattle.script_streams.specs.TellLaws.{tells_then, tells_as}
-use Rattle.case_screens.specs.Lines.{word_at}
+use Rattle.case_screens.specs.Process.{command_text}
+use Rattle.case_screens.proofs.TextLemmas.{signed_as}
 use Rattle.case_screens.proofs.process.tell_known_process.Goals as goal
 
 pub returns : goal.returns
 returns g c =
-    let numbers = c.line_at-numbers.ensures in
     tells_then c.tell.ensures
-    (tells_then (tells_as (c.word_at.ensures ∙ ap (λ l. word_at l 1) numbers) c.tell-2.ensures)
+    (tells_then (tells_as (ap signed_decimal (signed_as w64 _ _ (c.from.ensures ∙ signed_as w32 _ _ c.pr_pid.ensures (search rules)) (search rules))) c.tell_signed.ensures)
+    (tells_then c.tell-2.ensures
+    (tells_then (tells_as (ap signed_decimal (signed_as w64 _ _ (c.from-2.ensures ∙ signed_as w32 _ _ c.pr_ppid.ensures (search rules)) (search rules))) c.tell_signed-2.ensures)
     (tells_then c.tell-3.ensures
-    (tells_then (tells_as (c.word_at-2.ensures ∙ ap (λ l. word_at l 3) numbers) c.tell-4.ensures)
-    (tells_then c.tell-5.ensures
-    (tells_then (tells_as (c.word_at-3.ensures ∙ ap (λ l. word_at l 1) c.line_at.ensures) c.tell-6.ensures)
-    (tells_then c.tell-7.ensures (tells_then c.tell_command.ensures c.tell-8.ensures)))))))
+    (tells_then (tells_as (ap decimal (c.from-3.ensures ∙ c.pr_uid.ensures)) c.tell_decimal.ensures)
+    (tells_then c.tell-4.ensures
+    (tells_then (tells_as (ap (λ t. command_text t c.pr_fname.result.now) c.pr_psargs.ensures ∙ ap (command_text (pr_psargs (psinfo_bytes c.args.process.now))) c.pr_fname.ensures) c.tell_command.ensures) c.tell-5.ensures)))))))

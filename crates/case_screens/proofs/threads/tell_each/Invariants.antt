@@ -1,9 +1,15 @@
-use Rattle.std.proofs.Common.{take}
-use Rattle.std.specs.List.{flat_map}
-use Rattle.script_streams.specs.Telling.{sink, Tells}
-use Rattle.case_screens.specs.Frames.{thread_text}
-use Rattle.case_screens.specs.Lines.{texts}
+use Rattle.std.proofs.Common.{drop, option_map}
+use Rattle.core_notes.specs.FileWords.{files_bytes}
+use Rattle.script_streams.specs.Telling.{sink}
+use Rattle.thread_regs.specs.ThreadWords.{threads_left}
+use Rattle.case_screens.specs.Core.{files_in}
+use Rattle.case_screens.specs.Frames.{each_thread}
+use Rattle.case_screens.proofs.TextLemmas.{TellsFront}
 use Rattle.case_screens.proofs.threads.tell_each.Given as goal
 
-abbrev pub invariant-loop-thread : goal.invariant-loop-thread
-invariant-loop-thread g l = Tells (sink g.O.Output l.initial.reply) (sink g.O.Output l.reply) (flat_map (thread_text (texts l.files) l.count) (take l.thread-index l.threads))
+-- the threads that are left are still to be told
+abbrev pub invariant-loop-frames : goal.invariant-loop-frames
+invariant-loop-frames g l =
+    TellsFront (sink g.O.Output l.initial.reply) (sink g.O.Output l.reply)
+    (each_thread (files_in (option_map files_bytes l.files)) l.count (threads_left l.fn.threads) l.unwound)
+    (each_thread (files_in (option_map files_bytes l.files)) l.count (threads_left l.rest) (drop l.frames-index l.unwound))

@@ -9,5 +9,5 @@ loop-index-preserved c = record {
   drops = c.choose_one.ensures.drops ∙ c.loop-index.invariant.drops;
   dropped = c.choose_one.ensures.dropped ∙ c.loop-index.invariant.dropped;
   from = λ blocks bytes are. c.choose_one.ensures.from blocks bytes (c.loop-index.invariant.from blocks bytes are);
-  stay = λ k among. c.choose_one.ensures.stay k (c.loop-index.invariant.stay k among);
+  stay = λ place k among. c.choose_one.ensures.stay place k (c.loop-index.invariant.stay place k among);
 }

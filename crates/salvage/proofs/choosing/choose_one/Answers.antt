@@ -8,7 +8,7 @@ returns-clause-stay c =
     let r = c.index_mut.result.now in
     let reads = c.args.scan.now.reads in
     set_stays reads.items c.args.index r (record r { fate = c.fate_of-fate.result })
-    (omega (arith, c.if-index-len.false, c.len.ensures, reads.ok)) c.index_mut.ensures.value (same_again (case_of r.entry))
+    (omega (arith, c.if-index-len.false, c.len.ensures, reads.ok)) c.index_mut.ensures.value refl (same_again (case_of r.entry))
 
 pub returns-clause-from : goal.returns-clause-from
 returns-clause-from c =

@@ -15,3 +15,9 @@ returns-clause-undeleted c = laws.no_record_deletes_what_is_told_whole
 
 pub returns-clause-lost : goal.returns-clause-lost
 returns-clause-lost c = laws.what_is_told_lost_is_stored
+
+pub returns-clause-below : goal.returns-clause-below
+returns-clause-below c = laws.what_is_told_whole_is_below
+
+pub returns-clause-uncontested : goal.returns-clause-uncontested
+returns-clause-uncontested c = laws.no_record_contests_what_is_told_whole

@@ -7,7 +7,7 @@ pub loop-start-preserved : goal.loop-start-preserved
 loop-start-preserved c = record {
   drops = λ are. c.take.ensures.drops (c.loop-start.invariant.drops are);
   indexed = λ are. c.in_ok-length.ensures.indexed (c.loop-start.invariant.indexed are);
-  stay = λ k among. c.in_ok-length.ensures.stay k (c.loop-start.invariant.stay k among);
+  stay = λ place k among. c.in_ok-length.ensures.stay place k (c.loop-start.invariant.stay place k among);
   from = λ are. c.in_ok-length.ensures.from (c.loop-start.invariant.from are);
   kept = λ k named. c.in_ok-length.ensures.kept k (c.loop-start.invariant.kept k named);
   read = λ low.
@@ -20,7 +20,7 @@ loop-start-preserved c = record {
       let new = c.take.new.self in
       step_more c.args.blocks front c.args.half.start end c.loop-start.start
       (TakenAt c.args.blocks front end old.reads.items old.drops.items) (TakenAt c.args.blocks front end new.reads.items new.drops.items) c.loop-start.is_in_row
-      (λ p taken. taken_still c.args.blocks (between front p end) old.reads.items new.reads.items old.drops.items new.drops.items c.in_ok-length.ensures.stay c.in_ok-length.ensures.kept taken)
+      (λ p taken. taken_still c.args.blocks (between front p end) p old.reads.items new.reads.items old.drops.items new.drops.items c.in_ok-length.ensures.stay c.in_ok-length.ensures.kept taken)
       to (c.in_ok-length.ensures.taken (omega (arith, before)) last)
       c.in_ok-length.length c.saturating_add-start-in-loop-start.result before (omega (arith, last)) c.in_ok-length.ensures.length
       (c.saturating_add-start-in-loop-start.ensures ∙ ap (λ (m : ℕ). min (c.loop-start.start + m) (2 ^ 64 - 1)) c.max.ensures);
@@ -50,11 +50,11 @@ returns-then-not-was_open-2-clause-all c = λ within opened k place is before.
     (ap was_open (sym c.byte_at-then-is_in_row.ensures) ∙ sym c.was_open-then-is_in_row.ensures ∙ c.if-not-was_open-2.true) c.if-is_in_row.true
     (still_to c.args.blocks front c.args.half.start end c.loop-start.start c.loop-start.is_in_row (TakenAt c.args.blocks front end old.reads.items old.drops.items)
     (TakenAt c.args.blocks front end new.reads.items new.drops.items)
-    (λ p taken. taken_still c.args.blocks (between front p end) old.reads.items new.reads.items old.drops.items new.drops.items c.in_ok-length.ensures.stay c.in_ok-length.ensures.kept taken) there)
+    (λ p taken. taken_still c.args.blocks (between front p end) p old.reads.items new.reads.items old.drops.items new.drops.items c.in_ok-length.ensures.stay c.in_ok-length.ensures.kept taken) there)
     opened k place is before
 
 pub returns-then-not-was_open-2-clause-stay : goal.returns-then-not-was_open-2-clause-stay
-returns-then-not-was_open-2-clause-stay c = λ k among. c.in_ok-length.ensures.stay k (c.loop-start.invariant.stay k among)
+returns-then-not-was_open-2-clause-stay c = λ place k among. c.in_ok-length.ensures.stay place k (c.loop-start.invariant.stay place k among)
 
 pub returns-then-not-was_open-2-clause-from : goal.returns-then-not-was_open-2-clause-from
 returns-then-not-was_open-2-clause-from c = λ are. c.in_ok-length.ensures.from (c.loop-start.invariant.from are)

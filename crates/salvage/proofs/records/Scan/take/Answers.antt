@@ -4,7 +4,7 @@ use Rattle.disk_model.specs.Places.{part}
 use Rattle.std.specs.List.{slice_range}
 use Rattle.salvage.specs.Alone.{HasHead, IsDropBody, IsOther, StoresCase, between}
 use Rattle.journal_layout.specs.declared.entry.Entry.{Entry}
-use Rattle.salvage.specs.Reads.{IsAmong, IsStored}
+use Rattle.salvage.specs.Reads.{IsReadAt, IsStored}
 use Rattle.salvage.specs.Records.{number_of}
 use Rattle.salvage.proofs.ReadsLemmas.{handed_on, none_of_kind, none_of_other, none_short, none_there, on_ok, one_there, other_reads, same_again, store_reads}
 use Rattle.salvage.proofs.NumberLemmas.{numbers_there}
@@ -39,7 +39,7 @@ returns-then-is_other-clause-taken c = λ order within.
     handed_on c.counted.result c.take_other.result c.counted.ensures.taken c.take_other.ensures.named
     (λ named. record {
       case =
-          none_of_other c.args.blocks n there rest same c.head_length-length.ensures.each (IsAmong new.reads.items) (number_of rest 4) (c.is_other.ensures.has c.if-is_other.true);
+          none_of_other c.args.blocks n there rest same c.head_length-length.ensures.each (IsReadAt new.reads.items c.args.place.start) (number_of rest 4) (c.is_other.ensures.has c.if-is_other.true);
       numbers = numbers_there bytes c.args.place.start c.args.place.end order within new.drops.items named;
     })
 
@@ -51,7 +51,7 @@ returns-then-length-eq0-clause-taken c = λ order within.
     let there = between bytes c.args.place.start c.args.place.end in
     let same : there ≡ rest = range_is bytes c.args.place.start c.args.place.end ∙ sym c.in-Some.ensures.lookup.0.2 in
     record {
-      case = none_short c.args.blocks n there rest same c.head_length-length.ensures.each (IsAmong c.args.self.now.reads.items) c.if-length-eq0.true;
+      case = none_short c.args.blocks n there rest same c.head_length-length.ensures.each (IsReadAt c.args.self.now.reads.items c.args.place.start) c.if-length-eq0.true;
       numbers = λ size head body index below. not_other there rest size same c.is_other.result c.if-is_other.false c.is_other.ensures.each head body;
     }
 
@@ -64,7 +64,7 @@ returns-then-byte_at-ne-STORE-clause-taken c = λ order within.
     let same : there ≡ rest = range_is bytes c.args.place.start c.args.place.end ∙ sym c.in-Some.ensures.lookup.0.2 in
     record {
       case =
-          none_of_kind c.args.blocks n there rest same c.head_length-length.ensures.each (IsAmong c.args.self.now.reads.items) (λ kind. c.if-byte_at-ne-STORE.true (c.byte_at.ensures ∙ kind));
+          none_of_kind c.args.blocks n there rest same c.head_length-length.ensures.each (IsReadAt c.args.self.now.reads.items c.args.place.start) (λ kind. c.if-byte_at-ne-STORE.true (c.byte_at.ensures ∙ kind));
       numbers = λ size head body index below. not_other there rest size same c.is_other.result c.if-is_other.false c.is_other.ensures.each head body;
     }
 
@@ -90,7 +90,7 @@ returns-in-Some-2-clause-taken c = λ order within.
     let some : 0 < n = omega (arith, c.if-length-eq0.false) in
     let stored = subst (λ (o : Option Entry). IsStored c.args.blocks rest n (Ok o)) c.in-Some-2.is c.in_ok-entry.ensures.stored
     (c.head_length-length.ensures.has some) (sym c.byte_at.ensures ∙ c.if-byte_at-ne-STORE.false) in
-    let P : Case → Type 0 = IsAmong c.take_store.new.self.reads.items in
+    let P : Case → Type 0 = IsReadAt c.take_store.new.self.reads.items c.args.place.start in
     handed_on c.counted-in-Some-2.result c.take_store.result c.counted-in-Some-2.ensures.taken c.take_store.ensures.has
     (λ among. record {
       case = one_there c.args.blocks n there rest same c.head_length-length.ensures.each P (case_of c.in-Some-2.entry) c.head_length-length.ensures.small stored among;
@@ -106,7 +106,7 @@ returns-in-None-clause-taken c = λ order within.
     let same : there ≡ rest = range_is bytes c.args.place.start c.args.place.end ∙ sym c.in-Some.ensures.lookup.0.2 in
     record {
       case =
-          none_there c.args.blocks n there rest same c.head_length-length.ensures.each (IsAmong c.args.self.now.reads.items)
+          none_there c.args.blocks n there rest same c.head_length-length.ensures.each (IsReadAt c.args.self.now.reads.items c.args.place.start)
           (subst (λ (o : Option Entry). IsStored c.args.blocks rest n (Ok o)) c.in-None.is c.in_ok-entry.ensures.stored);
       numbers = λ size head body index below. not_other there rest size same c.is_other.result c.if-is_other.false c.is_other.ensures.each head body;
     }

@@ -1,0 +1,53 @@
+// Why something is not shown.
+ghost use Rattle.std.specs.Prelude.{◌≡◌};
+ghost use Rattle.case_screens.specs.Reasons as reasons;
+ghost use Rattle.case_screens.specs.ReasonWords.{reason_view};
+
+use elf_view::ElfFault;
+use image_replies::CoreFault;
+
+// Why something is not shown.
+#[derive(Clone, Copy)]
+pub(crate) struct Reason<'a> {
+    // The name of what is at fault.
+    pub(crate) name: &'a [u8],
+    // Its number, if there may be many.
+    pub(crate) index: Option<u64>,
+}
+
+// The field of a header, of a program header or of a note that is at fault.
+pub(crate) fn elf_reason(fault: ElfFault) -> Reason<'static>
+    ensures { reason_view result ≡ reasons.elf_reason fault }
+{
+    Reason {
+        name: fault.field.name().as_bytes(),
+        index: if fault.field.has_index() {
+            Some(fault.index)
+        } else {
+            None
+        },
+    }
+}
+
+// Why a core is not shown.
+pub(crate) fn core_reason(fault: CoreFault) -> Reason<'static>
+    ensures { reason_view result ≡ reasons.core_reason fault }
+{
+    match fault {
+        CoreFault::Elf(fault) => elf_reason(fault),
+        CoreFault::Note(fault) => Reason {
+            name: fault.field.name().as_bytes(),
+            index: Some(fault.index),
+        },
+    }
+}
+
+// A note that a core need not have is not there.
+pub(crate) fn missing() -> Reason<'static>
+    ensures { reason_view result ≡ reasons.missing }
+{
+    Reason {
+        name: b"Missing",
+        index: None,
+    }
+}

@@ -1,0 +1,42 @@
+// What the definitions of moments and looks say together. These functions do nothing.
+ghost use Rattle.journal_looks.specs.Statements.{ADiskAtRestIsHonest, AHalfGrowsOnly, AStillLookIsTaken, EachMomentStands, TwoReadingsAreAMoment};
+ghost use Rattle.journal_looks.specs.Outcome.{WhatIsSeenIsAMoment};
+ghost use Rattle.journal_looks.specs.Rising.{WhatIsWrittenRisingRises};
+ghost use Rattle.journal_looks.specs.Writes.{WritesAreSteps};
+
+/// Each moment of a disk whose archive is changed by one write after the other encodes an archive.
+pub fn each_moment_is_an_archive()
+    ensures { EachMomentStands }
+{}
+
+/// While a half's generation stays, its records are those that it had, and maybe more after them.
+pub fn a_half_grows_only()
+    ensures { AHalfGrowsOnly }
+{}
+
+/// What a look takes is encoded at a moment between its begin and its end. Nobody has to wait for it, and it takes no lock.
+pub fn two_readings_are_a_moment()
+    ensures { TwoReadingsAreAMoment }
+{}
+
+/// A disk that nobody changes is honest, and while nobody writes a look is taken at once.
+pub fn looks_at_a_disk_at_rest_are_taken()
+    ensures honest { ADiskAtRestIsHonest }
+    ensures taken { AStillLookIsTaken }
+{}
+
+/// Each part of a write that an append, a rewriting or a settling makes, and of one into data blocks, is a step from one moment to the next.
+pub fn writes_are_steps()
+    ensures { WritesAreSteps }
+{}
+
+/// What a look hands out encodes what the disk did at a moment between the look's begin and its end.
+pub fn what_is_seen_is_a_moment()
+    ensures { WhatIsSeenIsAMoment }
+{}
+
+/// Generations rise if the lowest byte of a half's generation is only written in the half that is not taken, and there as that of
+/// the next generation. Nothing is said of its other bytes, which come one by one.
+pub fn what_is_written_rising_rises()
+    ensures { WhatIsWrittenRisingRises }
+{}

@@ -1,0 +1,86 @@
+// A file is made under PATH.part.
+ghost use Rattle.std.specs.Prelude.{◌≡◌, false, is_ok, OnOk};
+ghost use Rattle.whole_files.specs.Calls.{just_made, locked_if};
+ghost use Rattle.whole_files.specs.Whole.{IsMade};
+
+use crate::new_file::NewFile;
+use disk_model::FileFault;
+use std::fs::TryLockError;
+use std::io;
+use std::io::ErrorKind;
+
+/// Sees to it that a file can be made: PATH must not exist, and what a process that ended has left under PATH.part is removed. A
+/// process that still writes it keeps its lock: then the file is busy.
+pub fn clear<P: NewFile>(file: &mut P) -> Result<(), FileFault> {
+    if file.is_taken() {
+        return Err(FileFault::Exists);
+    }
+    clear_part(file)
+}
+
+/// Removes what a process that ended has left under PATH.part. A process that still writes it keeps its lock: then the file is busy. A
+/// link, a pipe or a device is refused, and stays.
+pub fn clear_part<P: NewFile>(file: &mut P) -> Result<(), FileFault> {
+    let Some(looked) = if_there(file.look_left())? else {
+        return Ok(());
+    };
+    if looked.is_dir() {
+        return Err(FileFault::Folder);
+    }
+    if !looked.is_file() {
+        return Err(FileFault::Special);
+    }
+    match if_there(file.open_left(&looked))? {
+        Some(()) => remove_left(file),
+        None => Ok(()),
+    }
+}
+
+// What is answered of a file, if there is one.
+fn if_there<T>(asked: io::Result<T>) -> Result<Option<T>, FileFault> {
+    match asked {
+        Ok(found) => Ok(Some(found)),
+        Err(error) if error.kind() == ErrorKind::NotFound => Ok(None),
+        Err(error) => Err(FileFault::from(error)),
+    }
+}
+
+// Removes the file that is open, unless another process has it, or has removed it and made another one.
+fn remove_left<P: NewFile>(file: &mut P) -> Result<(), FileFault> {
+    take_lock(file)?;
+    if file.is_at_part() {
+        file.remove_part()?;
+    }
+    Ok(())
+}
+
+/// Takes the lock of the file that is open, and never waits.
+pub fn take_lock<P: NewFile>(file: &mut P) -> Result<(), FileFault>
+    ensures facts { P.facts file.new ≡ locked_if (is_ok result) (P.facts file.old) }
+{
+    match file.try_lock() {
+        Ok(()) => Ok(()),
+        Err(TryLockError::WouldBlock) => Err(FileFault::Busy),
+        Err(TryLockError::Error(_)) => Err(FileFault::Lock),
+    }
+}
+
+/// Makes an empty file under PATH.part, for its owner alone. Nothing that is there is opened, and no link followed.
+pub fn make<P: NewFile>(file: &mut P) -> Result<(), FileFault>
+    ensures made { OnOk result (P.facts file.new ≡ just_made) }
+{
+    file.create()?;
+    // The mode that a file is made with loses what the process masks.
+    file.own_alone().map_err(|_| FileFault::Length)
+}
+
+/// Makes an empty file under PATH.part, for its owner alone, and has its lock, if files have locks there.
+pub fn begin<P: NewFile>(file: &mut P) -> Result<(), FileFault>
+    ensures made { OnOk result (IsMade (P.facts file.new)) }
+    ensures unsynced { OnOk result ((P.facts file.new).is_synced ≡ false) }
+{
+    clear(file)?;
+    make(file)?;
+    let _ = file.try_lock();
+    Ok(())
+}
