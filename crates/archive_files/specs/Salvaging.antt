@@ -44,6 +44,10 @@ abbrev pub TellsFound : {O : Type 0} → output.Ghosts O → Found → O → O �
 TellsFound g f before after r =
     (done : Bool) × TellsCases f (g.taken before) (g.taken after) (g.failures before) (g.failures after) done × IsEnd f done r
 
+-- It is refused, or the cases that some source gives are told.
+abbrev pub TellsSalvage : {O : Type 0} → output.Ghosts O → O → O → Result (Unit {0}) Failure → Type 0
+TellsSalvage g before after r = IsRefusedAside before after r ⊎ ((f : Found) × TellsFound g f before after r)
+
 -- It is refused, or the cases of an archive are found and told.
 abbrev pub Salvages : {S O : Type 0} → source.Ghosts S → output.Ghosts O → S → O → O → Result (Unit {0}) Failure → Type 0
 Salvages h g s before after r =

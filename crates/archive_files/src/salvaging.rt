@@ -2,7 +2,7 @@
 ghost use Rattle.std.specs.Prelude.{◌≡◌, ◌⊎◌, ◌^◌, ◌<◌, [], false, OnOk};
 ghost use Rattle.std.proofs.lemmas.Bool.{false≢true};
 ghost use Rattle.salvage.specs.Readings.{FoundWithin};
-ghost use Rattle.archive_files.specs.Salvaging.{IsRefusedAside, Salvages, SalvagesOnto, TellsFound};
+ghost use Rattle.archive_files.specs.Salvaging.{IsRefusedAside, Salvages, SalvagesOnto, TellsFound, TellsSalvage};
 ghost use Rattle.whole_files.specs.Whole.{IsWhole};
 
 use crate::archive_path::ArchivePath;
@@ -88,7 +88,9 @@ pub fn salvage<R: AllocGlobal + Files<File = File>, O: Output, W: Onlooker>(
     new: Salvaged<'_>,
     output: &mut O,
     onlooker: &mut W,
-) -> Result<(), Failure> {
+) -> Result<(), Failure>
+    ensures told { TellsSalvage O.Output output.old output.new result }
+{
     match open_source(rt, place) {
         Ok(source) => salvage_source(rt, &source, new, output, onlooker),
         Err(refusal) => Err(Failure::Refused(refusal)),

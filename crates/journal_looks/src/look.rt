@@ -55,6 +55,7 @@ pub fn look_once<D: WatchedDisk>(
     requires size { D.size disk.old ≡ disk_length shape }
     ensures seen { IfOk result (λ o. IfSome o (λ s. IsTrue (D.is_honest disk.old)
         → IsSeen (D.moments disk.old) (D.reached disk.old) (D.reached disk.new) shape s.half s.front.items)) }
+    ensures long { IfOk result (λ o. IfSome o (λ s. length s.front.items ≡ data_start shape)) }
     ensures runs { Runs D.WatchedDisk disk.old disk.new }
 {
     let Ok(heads) = read_heads(disk, shape) else {

@@ -3,7 +3,7 @@ use Rattle.std.proofs.Common.{◌≡◌, ◌⊎◌, inl, inr, ℕ, zero, suc, ma
 use Rattle.std.proofs.lemmas.Bool.{cases_lt, lt-ltb}
 use Rattle.std.proofs.lemmas.List.{length-take}
 use Rattle.disk_model.specs.Places.{part}
-use Rattle.salvage.specs.Alone.{IsPast, IsWithinOther, Reads, ReadsAt, between, was_open}
+use Rattle.salvage.specs.Alone.{IsBegin, IsPast, IsRowEnd, IsWithinOther, Reads, ReadsAt, between, was_open}
 use Rattle.salvage.specs.Reads.{AreAllRead, IsTaken, StayNamed, StayRead}
 use Rattle.salvage.specs.Records.{number_of}
 use Rattle.salvage.specs.declared.records.Dropped.{Dropped}
@@ -18,10 +18,11 @@ abbrev pub IsHeard : ℕ → List ℕ → ℕ → ℕ → (ℕ → Type 0) → �
 IsHeard blocks bytes begin end P place = P place ⊎ IsWithinOther blocks bytes end place ⊎ IsPast blocks bytes begin end place
 
 -- The records before this place are read. If the last one reads, it ends there.
-pub record AreReadTo (blocks : ℕ) (bytes : List ℕ) (begin end at : ℕ) (in_row : Bool) (P : ℕ → Type 0) : Type 0 where
+pub record AreReadTo (blocks : ℕ) (bytes : List ℕ) (begin end at in_row : ℕ) (P : ℕ → Type 0) : Type 0 where
   pub steps : ℕ
   pub there : at ≡ begin + 32 + 16 * steps
-  pub row : in_row ≡ true → (at ≡ begin + 32) ⊎ ((r : ℕ) × (size : ℕ) × ReadsAt blocks bytes end r size × (at ≡ r + size))
+  pub row : 1 ≤ in_row → IsBegin blocks bytes begin end at
+  pub rows : 2 ≤ in_row → IsRowEnd blocks bytes begin end at
   pub heard : (k place : ℕ) → place ≡ begin + 32 + 16 * k → place < at → IsHeard blocks bytes begin end P place
 
 -- what was taken stays so
@@ -34,11 +35,12 @@ taken_still blocks rest place reads reads2 drops drops2 stay kept taken = record
 
 module _ (blocks : ℕ) (bytes : List ℕ) (begin end : ℕ) where
   -- before the first record
-  pub none_read : (P : ℕ → Type 0) → AreReadTo blocks bytes begin end (begin + 32) true P
+  pub none_read : (P : ℕ → Type 0) → AreReadTo blocks bytes begin end (begin + 32) 2 P
   none_read P = record {
     steps = 0;
     there = omega arith;
     row = λ in_row. inl refl;
+    rows = λ in_row. inl refl;
     heard = λ k place is before. absurd (omega (arith, is, before));
   }
 
@@ -60,9 +62,9 @@ module _ (blocks : ℕ) (bytes : List ℕ) (begin end : ℕ) where
   unfolding part
   reads_within at size low reads = omega (arith, low, reads_room (between bytes at end) size reads, length-take (end - at) (drop at bytes))
 
-  module _ (at : ℕ) (P Q : ℕ → Type 0) (in_row : Bool) (stay : (p : ℕ) → P p → Q p) (to : AreReadTo blocks bytes begin end at in_row P) (here : Q at) where
+  module _ (at : ℕ) (P Q : ℕ → Type 0) (in_row : ℕ) (stay : (p : ℕ) → P p → Q p) (to : AreReadTo blocks bytes begin end at in_row P) (here : Q at) where
     -- a record reads there
-    pub read_more : (size : ℕ) → ReadsAt blocks bytes end at size → AreReadTo blocks bytes begin end (at + size) true Q
+    pub read_more : (size : ℕ) → ReadsAt blocks bytes end at size → AreReadTo blocks bytes begin end (at + size) (in_row + 1) Q
     read_more size reads =
         let whole = reads_whole (between bytes at end) size reads in
         let sixteen = whole.0 in
@@ -70,7 +72,8 @@ module _ (blocks : ℕ) (bytes : List ℕ) (begin end : ℕ) where
         record {
           steps = to.steps + size / 16;
           there = omega (arith, sixteen, start);
-          row = λ in_row. inr (at, size, reads, refl);
+          row = λ one. inr (at, size, reads, refl);
+          rows = λ two. inr (at, size, reads, refl, to.row (omega (arith, two)));
           heard = λ k place is before. by_place k place is before (cases_lt place at);
         }
       where
@@ -89,13 +92,14 @@ module _ (blocks : ℕ) (bytes : List ℕ) (begin end : ℕ) where
         by_place k place is before (inr high) = at_or_behind place before (which place high)
 
     -- none reads there
-    pub none_more : AreReadTo blocks bytes begin end (at + 16) false Q
+    pub none_more : AreReadTo blocks bytes begin end (at + 16) 0 Q
     none_more =
         let start = to.there in
         record {
           steps = to.steps + 1;
           there = omega (arith, start);
-          row = λ in_row. absurd (cc);
+          row = λ one. absurd (omega (arith, one));
+          rows = λ two. absurd (omega (arith, two));
           heard = λ k place is before. by_place k place is before (cases_lt place at);
         }
       where
@@ -106,21 +110,31 @@ module _ (blocks : ℕ) (bytes : List ℕ) (begin end : ℕ) where
             inl (subst Q (sym e) here)
 
     -- one more step
-    pub step_more : (size next : ℕ) → at < end → end + 16 < 2 ^ 64 → (0 < size → ReadsAt blocks bytes end at size) → next ≡ min (at + max size 16) (2 ^ 64 - 1)
-        → AreReadTo blocks bytes begin end next (nat_lt 0 size) Q
-    step_more zero next low small reads is = subst (λ (n : ℕ). AreReadTo blocks bytes begin end n false Q) (omega (arith, is, low, small)) none_more
-    step_more (suc n) next low small reads is =
+    pub step_more : (size next row : ℕ) → at < end → end + 16 < 2 ^ 64 → (0 < size → ReadsAt blocks bytes end at size) → next ≡ min (at + max size 16) (2 ^ 64 - 1)
+        → (size ≡ 0 → row ≡ 0) → (0 < size → row ≤ in_row + 1) → AreReadTo blocks bytes begin end next row Q
+    step_more zero next row low small reads is none more =
+        subst (λ (k : ℕ). AreReadTo blocks bytes begin end next k Q) (sym (none refl)) (subst (λ (n : ℕ). AreReadTo blocks bytes begin end n 0 Q) (omega (arith, is, low, small)) none_more)
+    step_more (suc n) next row low small reads is none more =
         let there = reads (omega arith) in
         let long = reads_whole (between bytes at end) (suc n) there in
         let within = reads_within at (suc n) low there in
-        subst (λ (t : Bool). AreReadTo blocks bytes begin end next t Q) (sym (lt-ltb 0 (suc n) (omega arith)))
-        (subst (λ (k : ℕ). AreReadTo blocks bytes begin end k true Q) (omega (arith, is, long.1, within, small)) (read_more (suc n) there))
+        fewer (in_row + 1) row (more (omega arith)) (subst (λ (k : ℕ). AreReadTo blocks bytes begin end k (in_row + 1) Q) (omega (arith, is, long.1, within, small)) (read_more (suc n) there))
+      where
+        fewer : (i j : ℕ) → j ≤ i → AreReadTo blocks bytes begin end next i Q → AreReadTo blocks bytes begin end next j Q
+        fewer i j low2 to2 = record {
+          steps = to2.steps;
+          there = to2.there;
+          row = λ one. to2.row (omega (arith, low2, one));
+          rows = λ two. to2.rows (omega (arith, low2, two));
+          heard = to2.heard;
+        }
 
-  pub still_to : (at : ℕ) (in_row : Bool) (P Q : ℕ → Type 0) → ((p : ℕ) → P p → Q p) → AreReadTo blocks bytes begin end at in_row P → AreReadTo blocks bytes begin end at in_row Q
+  pub still_to : (at in_row : ℕ) (P Q : ℕ → Type 0) → ((p : ℕ) → P p → Q p) → AreReadTo blocks bytes begin end at in_row P → AreReadTo blocks bytes begin end at in_row Q
   still_to at in_row P Q stay to = record {
     steps = to.steps;
     there = to.there;
     row = to.row;
+    rows = to.rows;
     heard = λ k place is before. still_heard P Q stay place (to.heard k place is before);
   }
 
@@ -131,16 +145,16 @@ module _ (blocks : ℕ) (bytes : List ℕ) (begin end : ℕ) where
       still_heard (TakenAt blocks bytes end reads drops) (TakenAt blocks bytes end reads2 drops2)
       (λ p taken. taken_still blocks (between bytes p end) p reads reads2 drops drops2 stay kept taken) place (all opened k place is before)
 
-  module _ (at : ℕ) (in_row : Bool) (reads : List Read) (drops : List Dropped) where
+  module _ (at in_row : ℕ) (reads : List Read) (drops : List Dropped) where
     -- all is read where the half ends
     pub read_all : end ≤ at → AreReadTo blocks bytes begin end at in_row (TakenAt blocks bytes end reads drops) → AreAllRead blocks bytes begin end reads drops
     read_all past to = λ opened k place is before. to.heard k place is (omega (arith, past, before))
 
     -- and where a gate is closed right behind a record
-    pub read_shut : was_open (slice_index bytes at) ≡ false → in_row ≡ true → AreReadTo blocks bytes begin end at in_row (TakenAt blocks bytes end reads drops)
+    pub read_shut : was_open (slice_index bytes at) ≡ false → 2 ≤ in_row → AreReadTo blocks bytes begin end at in_row (TakenAt blocks bytes end reads drops)
         → AreAllRead blocks bytes begin end reads drops
     read_shut closed rowed to = λ opened k place is before. by_place k place is (cases_lt place at)
       where
         by_place : (k place : ℕ) → place ≡ begin + 32 + 16 * k → (place < at) ⊎ (at ≤ place) → IsHeard blocks bytes begin end (TakenAt blocks bytes end reads drops) place
         by_place k place is (inl low) = to.heard k place is low
-        by_place k place is (inr high) = inr (inr (record { gate = at; before = high; closed = closed; behind = to.row rowed }))
+        by_place k place is (inr high) = inr (inr (record { gate = at; before = high; closed = closed; behind = to.rows rowed }))

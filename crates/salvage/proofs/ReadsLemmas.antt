@@ -1,11 +1,12 @@
 -- The cases that are read, one after another.
-use Rattle.std.proofs.Common.{◌≡◌, ◌⊎◌, inl, inr, ℕ, ◌+◌, ◌^◌, ◌<◌, List, [], ◌∷◌, ◌++◌, length, get_or, set, slice_index, refl, sym, ap, ◌∙◌, subst, arith, Bool, Option, None, Some, IsTrue, Result, Ok, Err, IfOk, OnOk}
+use Rattle.std.proofs.Common.{◌≡◌, ◌⊎◌, inl, inr, ℕ, ◌+◌, ◌^◌, ◌<◌, List, [], ◌∷◌, ◌++◌, length, get_or, set, slice_index, refl, sym, ap, ◌∙◌, subst, arith, Bool, false, Option, None, Some, IsTrue, Result, Ok, Err, IfOk, OnOk}
 use Rattle.std.specs.Prelude.{◌↔◌, is_some}
 use Rattle.std.proofs.lemmas.Bool.{cases_eq, false≢true}
 use Rattle.std.proofs.lemmas.List.{get_or-set_same, get_or-set_other, get_or_default, length-set}
 use Rattle.std.proofs.lemmas.List.Sorted.{Contains-permutation, IsPermutation-sym}
 use Rattle.std.proofs.lemmas.List.Elements.{Contains-push_cases}
-use Rattle.std.specs.List.{Contains}
+use Rattle.disk_model.specs.Places.{part}
+use Rattle.std.specs.List.{Contains, slice_range}
 use Rattle.std.specs.List.Sorted.{IsPermutation}
 use Rattle.journal_layout.specs.Case.{Case, case_of}
 use Rattle.journal_layout.specs.Layout.{half_length, half_start}
@@ -23,6 +24,15 @@ use Rattle.salvage.specs.declared.records.Read.{Read}
 use Rattle.salvage.specs.declared.records.Span.{Span}
 use Rattle.salvage.proofs.AloneLemmas.{one_said}
 use Rattle.salvage.proofs.HalfLemmas.{all_still}
+
+-- the bytes from one place to another
+pub range_is : (bytes : List ℕ) (start end : ℕ) → between bytes start end ≡ slice_range bytes start end
+unfolding part
+range_is bytes start end = refl
+
+-- none but a Store record reads where this is seen
+pub no_other : (rest : List ℕ) (is : Bool) → is ≡ false → ((size : ℕ) → IsOther rest size → IsTrue is) → (size : ℕ) → IsOther rest size → ⊥
+no_other rest is none each size other = let yes = each size other in absurd (cc)
 
 pub same_again : (c : Case) → IsSameCase c c
 same_again c = record { seq = refl; image = record { origin = refl; len = refl; blocks = refl } }

@@ -471,8 +471,8 @@ impl Scan {
     }
 
     /// Reads the records of a half, unless its gate is closed. The first begins behind the header, and the next one behind each that
-    /// reads. If none reads there, it may begin 16 bytes on. A closed gate right behind a record that reads ends them, and so does the
-    /// end of the half.
+    /// reads. If none reads there, it may begin 16 bytes on. The end of the half ends them. So does a closed gate right behind the header,
+    /// the first record, or two in a row: within a faulty record, one of 16 bytes may seem to stand.
     pub(crate) fn read_half(
         &mut self,
         alloc: Global,
@@ -494,13 +494,14 @@ impl Scan {
         }
         let end = half.end.min(front.len());
         let mut start = half.start.saturating_add(HEADER);
-        let mut is_in_row = true;
+        // Behind the header a closed gate ends the records, and behind two in a row.
+        let mut in_row = 2usize;
         while start < end {
             let length = self.take(alloc, front, Span { start, end }, blocks)?;
-            if length == 0 && is_in_row && !was_open(byte_at(front, start)) {
+            if length == 0 && in_row >= 2 && !was_open(byte_at(front, start)) {
                 return Ok(());
             }
-            is_in_row = length > 0;
+            in_row = row_after(in_row, length);
             start = start.saturating_add(length.max(STEP));
         }
         Ok(())
@@ -527,6 +528,17 @@ impl Scan {
         }
         true
     }
+}
+
+// How many records stand in a row, after so many and one of this length, or none.
+fn row_after(row: usize, length: usize) -> usize
+    ensures none { length ≡ 0 → result ≡ 0 }
+    ensures more { 0 < length → result ≤ row + 1 }
+{
+    if length == 0 {
+        return 0;
+    }
+    row.saturating_add(1)
 }
 
 // So many bytes are read, if there was memory for what they say.

@@ -3,3 +3,4 @@ pub mod Steady
 pub mod SteadyLaws
 pub mod Front
 pub mod Looks
+pub mod Lockless

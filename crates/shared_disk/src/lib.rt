@@ -1,6 +1,7 @@
 //! A disk that others change while it is read: looked at under its lock, and read between two looks without it.
 #![tactic(auto)]
 
+mod lockless;
 mod looked;
 mod shared;
 mod shared_file;

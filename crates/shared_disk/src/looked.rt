@@ -23,7 +23,7 @@ pub struct Looked<S: SharedDisk> {
 impl<S: SharedDisk + Drop> Looked<S> {
     ghost use Rattle.shared_disk.specs.Looks.{LooksAnew, shared_of};
 
-    /// Looks at a disk. The lock is held while its front is read, and no longer.
+    /// Looks at a disk.
     pub fn look(alloc: Global, shared: S) -> Result<Looked<S>, LookFault>
         ensures looks { IfOk result (λ l. LooksAnew S.SharedDisk shared (shared_of l)) }
     {
@@ -32,7 +32,7 @@ impl<S: SharedDisk + Drop> Looked<S> {
             return Err(LookFault::OutOfMemory);
         };
         let mut shared = shared;
-        shared.look(&mut front)?;
+        shared.look(alloc, &mut front)?;
         Ok(Looked { shared, front })
     }
 }

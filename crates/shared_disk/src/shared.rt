@@ -4,6 +4,7 @@ ghost use Rattle.disk_model.specs.Places.{AreBytes, part};
 ghost use Rattle.shared_disk.specs.Meanwhile.{AreHeld, EndsWith, IsHeld};
 
 use disk_model::DiskFault;
+use std::alloc::Global;
 use thiserror::Error;
 
 /// Why a disk could not be looked at.
@@ -23,9 +24,9 @@ pub enum LookFault {
     OutOfMemory,
 }
 
-/// A disk of fixed length that others change while it is read. They change it under a lock. A look takes that lock, so it sees the
-/// bytes of one moment. Reads between two looks take no lock: each byte is one that the disk held at some moment from the one look
-/// to the other. Its clauses on bytes hold of an honest disk.
+/// A disk of fixed length that others change while it is read. They change it under a lock. A look sees the bytes of one moment, but
+/// for bytes that no opening reads. Reads between two looks take no lock: each byte is one that the disk held at some moment from the
+/// one look to the other. Its clauses on bytes hold of an honest disk.
 pub trait SharedDisk {
     /// The length in bytes.
     ghost size: { Self → ℕ };
@@ -49,9 +50,9 @@ pub trait SharedDisk {
         ensures bytes { OnOk result (IsTrue (is_honest self.now) → AreHeld (meanwhile self.now) at into.new) }
         ensures kind { IsOkUnless result DiskFault.Read };
 
-    /// Takes the lock, reads the first bytes into all of `into`, and lets the lock go: the next interval begins. Answers `Busy`,
-    /// `Lock` or `Read`.
-    fn look(&mut self, into: &mut [u8]) -> Result<(), LookFault>
+    /// Reads the first bytes into all of `into`, as they were at one moment: the next interval begins. Answers `Busy`, `Lock`, `Read` or
+    /// `OutOfMemory`.
+    fn look(&mut self, alloc: Global, into: &mut [u8]) -> Result<(), LookFault>
         requires { length into.old ≤ size self.old }
         ensures bytes { OnOk result (IsTrue (is_honest self.old) → into.new ≡ part (looked self.new) 0 (length into.old)) }
         ensures next { OnOk result (IsTrue (is_honest self.old) → EndsWith (meanwhile self.old) (looked self.new)) }

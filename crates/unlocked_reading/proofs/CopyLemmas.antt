@@ -1,7 +1,6 @@
 -- What is read of a case between two looks at its archive.
-use Rattle.std.proofs.Common.{◌≡◌, ◌⊎◌, ◌∙◌, ◌+◌, ◌&&◌, ◌++◌, ℕ, Bool, true, false, cond, List, [], ◌∷◌, length, map, refl, sym, ap, subst, ⊎_elim, inl, inr, Option, None, Some, Result, Ok, Err, Vec, Global, IsTrue}
+use Rattle.std.proofs.Common.{◌≡◌, ◌∙◌, ◌&&◌, ℕ, Bool, true, false, cond, List, [], ◌∷◌, length, map, refl, sym, ap, subst, ⊎_elim, inl, inr, Option, None, Some, Result, Ok, Err, Vec, Global, IsTrue}
 use Rattle.std.proofs.lemmas.Bool.{and_from, false≢true, true≢false}
-use Rattle.std.proofs.lemmas.List.{append-nil}
 use Rattle.std.proofs.lemmas.Bool.Decides.{eqb_tells}
 use Rattle.std.specs.Prelude.{is_some}
 use Rattle.std.specs.Io.KnownBytes.{Appends}
@@ -11,8 +10,8 @@ use Rattle.intake.specs.Blocks.{image_in}
 use Rattle.intake.specs.Calls.{OpenCall}
 use Rattle.intake.specs.Contents.{image_at}
 use Rattle.intake.specs.Durable.{Durable, FoundCase, StandsFor, durable_of, durable_part, found_case, with_images}
-use Rattle.intake.specs.InTurn.{ACaseIsThereBetween, AreInTurn, IsBetween, StandsAs, last_state}
-use Rattle.intake.specs.Lasting.{HasNumbers, NumbersAreAbove}
+use Rattle.intake.specs.InTurn.{ACaseIsThereBetween, IsBetween, StandsAs, last_state}
+use Rattle.intake.specs.Lasting.{NumbersAreAbove}
 use Rattle.intake.specs.Lives.{IsAmong}
 use Rattle.intake.specs.Opened.{CaseReply}
 use Rattle.intake.specs.Parts.{Parts, state_of, contents_of}
@@ -35,7 +34,6 @@ use Rattle.unlocked_reading.specs.Copying.{CopiesSeen, CopiesUnlocked, LeavesThe
 use Rattle.unlocked_reading.specs.declared.faults.UnlockedFault.{UnlockedFault}
 use Rattle.unlocked_reading.specs.declared.faults.UnlockedFault.TheVariants as fault
 use Rattle.inspector_cli.specs.declared.copying.CopyFault.{CopyFault}
-use Rattle.inspector_cli.specs.declared.copying.CopyFault.TheVariants as copy
 use Rattle.unlocked_reading.specs.Finding.{FindsCase, FindsPlaces, has_number}
 use Rattle.unlocked_reading.specs.History.{HasNone, HoldsArchive, IsNumbered}
 

@@ -1,5 +1,5 @@
 -- A question that is answered between two looks at its disk.
-use Rattle.std.specs.Prelude.{◌≡◌, ℕ, Bool, true, List, [], Option, Result, Ok, Err, IsTrue}
+use Rattle.std.specs.Prelude.{◌≡◌, ℕ, Bool, List, [], Option, Result, Ok, Err, IsTrue}
 use Rattle.disk_model.specs.declared.disk.Disk as disk
 use Rattle.inspector_cli.specs.Asking.{AsksAlone, line_streams}
 use Rattle.inspector_cli.specs.Life.{LifeEnds}

@@ -5,3 +5,4 @@ pub mod Copying
 pub mod Places
 pub mod Asking
 pub mod Gone
+pub mod Lockless

@@ -1,8 +1,10 @@
 // What the definitions that the contracts cite say together. These functions do nothing.
 ghost use Rattle.unlocked_reading.specs.Gone.{CopiesAreOfTheCase, GoneCasesAreNoticed, NoCaseIsGoneAtWill, NoCopyIsGoneAtWill};
+ghost use Rattle.unlocked_reading.specs.Lockless.{LooksHoldAnArchive};
 
 use disk_model::Disk;
 use intake::{a_case_is_there_between, the_next_number_is_above};
+use journal_looks::what_is_seen_is_a_moment;
 use shared_disk::{SharedDisk, Unlocked};
 
 /// Where a case is gone at the next look, the look is not answered with `Ok`: so no question is done over it. And no question is refused
@@ -20,4 +22,12 @@ pub fn copies_are_of_the_case<S: SharedDisk + Drop>()
 {
     the_next_number_is_above();
     a_case_is_there_between();
+}
+
+/// What the looks of `look_lockless` saw, and what the disk did between them, is an archive all the time. So what is read by such looks is
+/// what the calls above promise.
+pub fn looks_hold_an_archive<S: SharedDisk>()
+    ensures { LooksHoldAnArchive S.SharedDisk }
+{
+    what_is_seen_is_a_moment();
 }

@@ -12,5 +12,5 @@ mod places;
 pub use asking::{ask_unlocked, stay};
 pub use copying::copy_unlocked;
 pub use faults::{AskFault, UnlockedFault};
-pub use laws::{copies_are_of_the_case, gone_cases_are_noticed};
+pub use laws::{copies_are_of_the_case, gone_cases_are_noticed, looks_hold_an_archive};
 pub use places::{Places, Reads, find_cases};

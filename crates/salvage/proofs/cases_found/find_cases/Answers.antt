@@ -1,4 +1,5 @@
 use Rattle.std.proofs.Common.{inl, refl, ap, ◌∙◌, ◌≡◌, Option, Some, subst, sym, arith, None}
+use Rattle.std.proofs.lemmas.Option.{none-some, same_Some}
 use Rattle.std.proofs.lemmas.Result.{err_from_is_err_and}
 use Rattle.disk_model.specs.Places.{part}
 use Rattle.journal_layout.specs.Layout.{data_start}
@@ -11,15 +12,6 @@ use Rattle.salvage.specs.Doubting.{IsBound}
 use Rattle.salvage.specs.declared.doubts.Doubts.{Doubts}
 use Rattle.salvage.specs.declared.doubts.Trouble.{Trouble}
 use Rattle.salvage.proofs.cases_found.find_cases.Goals as goal
-
-no_some : {A : Type 0} (o : Option A) (x : A) → o ≡ None → o ≡ Some x → ⊥
-no_some o x none some = absurd (cc)
-
-one_some : {A : Type 0} (o : Option A) (x y : A) → o ≡ Some x → o ≡ Some y → x ≡ y
-one_some o x y one two = cc
-
-same_some : {A : Type 0} (x y : A) → Some x ≡ Some y → x ≡ y
-same_some x y e = cc
 
 pub returns-in_err-first-clause-finds : goal.returns-in_err-first-clause-finds
 returns-in_err-first-clause-finds g c = λ honest.
@@ -41,8 +33,8 @@ returns-in_default-clause-finds g c = λ honest. record {
       c.in_ok-shut.shut (c.in_ok-shut.ensures.finds honest);
   refused = λ some. same_ok c.in_ok-shut.shut None (c.in_ok-shut.ensures.refused some);
   sound = λ none. refl;
-  bound = λ t some. absurd (no_some c.trouble_in.result t c.in_default.is (c.trouble_in.ensures.said ∙ some));
-  behind = λ t some. absurd (no_some c.trouble_in.result t c.in_default.is (c.trouble_in.ensures.said ∙ some));
+  bound = λ t some. absurd (none-some t (sym c.in_default.is ∙ c.trouble_in.ensures.said ∙ some));
+  behind = λ t some. absurd (none-some t (sym c.in_default.is ∙ c.trouble_in.ensures.said ∙ some));
 }
 
 pub returns-clause-finds : goal.returns-clause-finds
@@ -61,9 +53,9 @@ returns-clause-finds g c = λ honest. record {
   sound = λ none. absurd (gate_sound c.in_ok-sight.sight.fault c.in_ok-shut.shut c.trouble_in.result c.in-Some.trouble c.trouble_in.ensures.sound c.in-Some.is none);
   bound = λ t some.
       subst (λ (t : Trouble). IsBound c.in_ok-first.first.standing.shape (part (g.S.Source.seen c.args.source.now) 0 (data_start c.in_ok-first.first.standing.shape)) t c.in_ok-scan.doubts.bound)
-      (one_some c.trouble_in.result c.in-Some.trouble t c.in-Some.is (c.trouble_in.ensures.said ∙ some)) (c.in_ok-scan.ensures.bound honest);
+      (same_Some c.in-Some.trouble t (sym c.in-Some.is ∙ c.trouble_in.ensures.said ∙ some)) (c.in_ok-scan.ensures.bound honest);
   behind = λ t some d is.
-      subst (λ (x : Doubts). OfEachBehind c.in_ok-first.first.standing.shape (part (g.S.Source.seen c.args.source.now) 0 (data_start c.in_ok-first.first.standing.shape)) t.gate (Knows x)) (same_some c.in_ok-scan.doubts d is)
+      subst (λ (x : Doubts). OfEachBehind c.in_ok-first.first.standing.shape (part (g.S.Source.seen c.args.source.now) 0 (data_start c.in_ok-first.first.standing.shape)) t.gate (Knows x)) (same_Some c.in_ok-scan.doubts d is)
       (subst (λ (t : Trouble). OfEachBehind c.in_ok-first.first.standing.shape (part (g.S.Source.seen c.args.source.now) 0 (data_start c.in_ok-first.first.standing.shape)) t.gate (Knows c.in_ok-scan.doubts))
-      (one_some c.trouble_in.result c.in-Some.trouble t c.in-Some.is (c.trouble_in.ensures.said ∙ some)) (c.in_ok-scan.ensures.behind honest));
+      (same_Some c.in-Some.trouble t (sym c.in-Some.is ∙ c.trouble_in.ensures.said ∙ some)) (c.in_ok-scan.ensures.behind honest));
 }

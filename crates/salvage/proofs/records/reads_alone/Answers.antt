@@ -4,15 +4,8 @@ use Rattle.std.proofs.lemmas.Bool.{false≢true}
 use Rattle.std.specs.List.{slice_range}
 use Rattle.salvage.specs.Alone.{IsOther, between}
 use Rattle.salvage.specs.Records.{number_of}
-use Rattle.salvage.proofs.ReadsLemmas.{none_of_kind, none_short, nothing_there, other_there, stored_there}
+use Rattle.salvage.proofs.ReadsLemmas.{no_other, none_of_kind, none_short, nothing_there, other_there, range_is, stored_there}
 use Rattle.salvage.proofs.records.reads_alone.Goals as goal
-
-range_is : (bytes : List ℕ) (start end : ℕ) → between bytes start end ≡ slice_range bytes start end
-unfolding part
-range_is bytes start end = refl
-
-no_other : (rest : List ℕ) (is : Bool) → is ≡ false → ((size : ℕ) → IsOther rest size → IsTrue is) → (size : ℕ) → IsOther rest size → ⊥
-no_other rest is none each size other = let yes = each size other in absurd (cc)
 
 pub returns-then-is_other-clause-reads : goal.returns-then-is_other-clause-reads
 returns-then-is_other-clause-reads c = λ order within.

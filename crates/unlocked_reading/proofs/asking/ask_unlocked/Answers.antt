@@ -1,4 +1,4 @@
-use Rattle.std.proofs.Common.{◌≡◌, ◌∙◌, ap, subst, sym, List, ℕ, Ok, Err}
+use Rattle.std.proofs.Common.{◌∙◌, ap, subst, List, ℕ, Ok, Err}
 use Rattle.std.proofs.lemmas.Result.{err_from_is_err_and}
 use Rattle.shared_disk.specs.SteadyLaws.{none_steady}
 use Rattle.unlocked_reading.specs.Asking.{LeavesAllThere}

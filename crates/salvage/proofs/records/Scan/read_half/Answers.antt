@@ -19,11 +19,11 @@ loop-start-preserved c = record {
       let old = c.loop-start.self in
       let new = c.take.new.self in
       step_more c.args.blocks front c.args.half.start end c.loop-start.start
-      (TakenAt c.args.blocks front end old.reads.items old.drops.items) (TakenAt c.args.blocks front end new.reads.items new.drops.items) c.loop-start.is_in_row
+      (TakenAt c.args.blocks front end old.reads.items old.drops.items) (TakenAt c.args.blocks front end new.reads.items new.drops.items) c.loop-start.in_row
       (λ p taken. taken_still c.args.blocks (between front p end) p old.reads.items new.reads.items old.drops.items new.drops.items c.in_ok-length.ensures.stay c.in_ok-length.ensures.kept taken)
       to (c.in_ok-length.ensures.taken (omega (arith, before)) last)
-      c.in_ok-length.length c.saturating_add-start-in-loop-start.result before (omega (arith, last)) c.in_ok-length.ensures.length
-      (c.saturating_add-start-in-loop-start.ensures ∙ ap (λ (m : ℕ). min (c.loop-start.start + m) (2 ^ 64 - 1)) c.max.ensures);
+      c.in_ok-length.length c.saturating_add-start-in-loop-start.result c.row_after-in_row.result before (omega (arith, last)) c.in_ok-length.ensures.length
+      (c.saturating_add-start-in-loop-start.ensures ∙ ap (λ (m : ℕ). min (c.loop-start.start + m) (2 ^ 64 - 1)) c.max.ensures) c.row_after-in_row.ensures.none c.row_after-in_row.ensures.more;
 }
 
 pub returns-clause-all : goal.returns-clause-all
@@ -32,9 +32,9 @@ returns-clause-all c = λ within opened k place is before.
     let to = c.loop-start.invariant.read (omega (arith, is, before, e)) in
     let now = c.loop-start.self in
     let front = c.args.front.now in
-    read_all c.args.blocks front c.args.half.start c.args.half.end c.loop-start.start c.loop-start.is_in_row now.reads.items now.drops.items
+    read_all c.args.blocks front c.args.half.start c.args.half.end c.loop-start.start c.loop-start.in_row now.reads.items now.drops.items
     (omega (arith, c.loop-start-test.false, e))
-    (subst (λ (n : ℕ). AreReadTo c.args.blocks front c.args.half.start n c.loop-start.start c.loop-start.is_in_row (TakenAt c.args.blocks front n now.reads.items now.drops.items)) e to)
+    (subst (λ (n : ℕ). AreReadTo c.args.blocks front c.args.half.start n c.loop-start.start c.loop-start.in_row (TakenAt c.args.blocks front n now.reads.items now.drops.items)) e to)
     opened k place is before
 
 pub returns-then-not-was_open-2-clause-all : goal.returns-then-not-was_open-2-clause-all
@@ -45,10 +45,10 @@ returns-then-not-was_open-2-clause-all c = λ within opened k place is before.
     let new = c.take.new.self in
     let front = c.args.front.now in
     let end = c.args.half.end in
-    let there = subst (λ (n : ℕ). AreReadTo c.args.blocks front c.args.half.start n c.loop-start.start c.loop-start.is_in_row (TakenAt c.args.blocks front n old.reads.items old.drops.items)) e to in
-    read_shut c.args.blocks front c.args.half.start end c.loop-start.start c.loop-start.is_in_row new.reads.items new.drops.items
-    (ap was_open (sym c.byte_at-then-is_in_row.ensures) ∙ sym c.was_open-then-is_in_row.ensures ∙ c.if-not-was_open-2.true) c.if-is_in_row.true
-    (still_to c.args.blocks front c.args.half.start end c.loop-start.start c.loop-start.is_in_row (TakenAt c.args.blocks front end old.reads.items old.drops.items)
+    let there = subst (λ (n : ℕ). AreReadTo c.args.blocks front c.args.half.start n c.loop-start.start c.loop-start.in_row (TakenAt c.args.blocks front n old.reads.items old.drops.items)) e to in
+    read_shut c.args.blocks front c.args.half.start end c.loop-start.start c.loop-start.in_row new.reads.items new.drops.items
+    (ap was_open (sym c.byte_at-then-in_row-ge2.ensures) ∙ sym c.was_open-then-in_row-ge2.ensures ∙ c.if-not-was_open-2.true) c.if-in_row-ge2.true
+    (still_to c.args.blocks front c.args.half.start end c.loop-start.start c.loop-start.in_row (TakenAt c.args.blocks front end old.reads.items old.drops.items)
     (TakenAt c.args.blocks front end new.reads.items new.drops.items)
     (λ p taken. taken_still c.args.blocks (between front p end) p old.reads.items new.reads.items old.drops.items new.drops.items c.in_ok-length.ensures.stay c.in_ok-length.ensures.kept taken) there)
     opened k place is before

@@ -12,7 +12,7 @@ invariant-loop-start l = record {
   stay : StayRead l.fn.self.reads.items l.self.reads.items;
   from : AreFrom l.blocks l.front l.fn.self.reads.items → AreFrom l.blocks l.front l.self.reads.items;
   kept : StayNamed l.fn.self.drops.items l.self.drops.items;
-  read : l.fn.half.start + 32 ≤ l.end → AreReadTo l.blocks l.front l.fn.half.start l.end l.start l.is_in_row (TakenAt l.blocks l.front l.end l.self.reads.items l.self.drops.items);
+  read : l.fn.half.start + 32 ≤ l.end → AreReadTo l.blocks l.front l.fn.half.start l.end l.start l.in_row (TakenAt l.blocks l.front l.end l.self.reads.items l.self.drops.items);
 }
 
 abbrev pub decreases-loop-start : goal.decreases-loop-start

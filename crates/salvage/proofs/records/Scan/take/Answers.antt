@@ -6,13 +6,9 @@ use Rattle.salvage.specs.Alone.{HasHead, IsDropBody, IsOther, StoresCase, betwee
 use Rattle.journal_layout.specs.declared.entry.Entry.{Entry}
 use Rattle.salvage.specs.Reads.{IsReadAt, IsStored}
 use Rattle.salvage.specs.Records.{number_of}
-use Rattle.salvage.proofs.ReadsLemmas.{handed_on, none_of_kind, none_of_other, none_short, none_there, on_ok, one_there, other_reads, same_again, store_reads}
+use Rattle.salvage.proofs.ReadsLemmas.{handed_on, none_of_kind, none_of_other, none_short, none_there, no_other, on_ok, one_there, other_reads, range_is, same_again, store_reads}
 use Rattle.salvage.proofs.NumberLemmas.{numbers_there}
 use Rattle.salvage.proofs.records.Scan.take.Goals as goal
-
-range_is : (bytes : List ℕ) (start end : ℕ) → between bytes start end ≡ slice_range bytes start end
-unfolding part
-range_is bytes start end = refl
 
 pub returns-then-is_other-clause-length : goal.returns-then-is_other-clause-length
 returns-then-is_other-clause-length c =
@@ -22,11 +18,6 @@ returns-then-is_other-clause-length c =
     let same : there ≡ rest = range_is bytes c.args.place.start c.args.place.end ∙ sym c.in-Some.ensures.lookup.0.2 in
     other_reads c.args.blocks c.head_length-length.result there rest same c.head_length-length.ensures.each c.counted.result c.counted.ensures.length
     (number_of rest 4) (c.is_other.ensures.has c.if-is_other.true)
-
-not_other : {A : Type 0} (there rest : List ℕ) (size : ℕ) → there ≡ rest → (is : Bool) → is ≡ false → ((k : ℕ) → IsOther rest k → IsTrue is) → HasHead there size → IsDropBody there size → A
-not_other there rest size same is none each head body =
-    let yes = each size (subst (λ (bytes : List ℕ). IsOther bytes size) same (head, inl body)) in
-    absurd (cc)
 
 pub returns-then-is_other-clause-taken : goal.returns-then-is_other-clause-taken
 returns-then-is_other-clause-taken c = λ order within.
@@ -52,7 +43,7 @@ returns-then-length-eq0-clause-taken c = λ order within.
     let same : there ≡ rest = range_is bytes c.args.place.start c.args.place.end ∙ sym c.in-Some.ensures.lookup.0.2 in
     record {
       case = none_short c.args.blocks n there rest same c.head_length-length.ensures.each (IsReadAt c.args.self.now.reads.items c.args.place.start) c.if-length-eq0.true;
-      numbers = λ size head body index below. not_other there rest size same c.is_other.result c.if-is_other.false c.is_other.ensures.each head body;
+      numbers = λ size head body index below. absurd (no_other rest c.is_other.result c.if-is_other.false c.is_other.ensures.each size (subst (λ (bytes : List ℕ). IsOther bytes size) same (head, inl body)));
     }
 
 pub returns-then-byte_at-ne-STORE-clause-taken : goal.returns-then-byte_at-ne-STORE-clause-taken
@@ -65,7 +56,7 @@ returns-then-byte_at-ne-STORE-clause-taken c = λ order within.
     record {
       case =
           none_of_kind c.args.blocks n there rest same c.head_length-length.ensures.each (IsReadAt c.args.self.now.reads.items c.args.place.start) (λ kind. c.if-byte_at-ne-STORE.true (c.byte_at.ensures ∙ kind));
-      numbers = λ size head body index below. not_other there rest size same c.is_other.result c.if-is_other.false c.is_other.ensures.each head body;
+      numbers = λ size head body index below. absurd (no_other rest c.is_other.result c.if-is_other.false c.is_other.ensures.each size (subst (λ (bytes : List ℕ). IsOther bytes size) same (head, inl body)));
     }
 
 pub returns-in-Some-2-clause-length : goal.returns-in-Some-2-clause-length
@@ -94,7 +85,7 @@ returns-in-Some-2-clause-taken c = λ order within.
     handed_on c.counted-in-Some-2.result c.take_store.result c.counted-in-Some-2.ensures.taken c.take_store.ensures.has
     (λ among. record {
       case = one_there c.args.blocks n there rest same c.head_length-length.ensures.each P (case_of c.in-Some-2.entry) c.head_length-length.ensures.small stored among;
-      numbers = λ size head body index below. not_other there rest size same c.is_other.result c.if-is_other.false c.is_other.ensures.each head body;
+      numbers = λ size head body index below. absurd (no_other rest c.is_other.result c.if-is_other.false c.is_other.ensures.each size (subst (λ (bytes : List ℕ). IsOther bytes size) same (head, inl body)));
     })
 
 pub returns-in-None-clause-taken : goal.returns-in-None-clause-taken
@@ -108,7 +99,7 @@ returns-in-None-clause-taken c = λ order within.
       case =
           none_there c.args.blocks n there rest same c.head_length-length.ensures.each (IsReadAt c.args.self.now.reads.items c.args.place.start)
           (subst (λ (o : Option Entry). IsStored c.args.blocks rest n (Ok o)) c.in-None.is c.in_ok-entry.ensures.stored);
-      numbers = λ size head body index below. not_other there rest size same c.is_other.result c.if-is_other.false c.is_other.ensures.each head body;
+      numbers = λ size head body index below. absurd (no_other rest c.is_other.result c.if-is_other.false c.is_other.ensures.each size (subst (λ (bytes : List ℕ). IsOther bytes size) same (head, inl body)));
     }
 
 pub returns-in-Some-2-clause-from : goal.returns-in-Some-2-clause-from
