@@ -2,6 +2,7 @@ pub mod Asking
 pub mod Checks
 pub mod Copying
 pub mod Holding
+pub mod Locks
 pub mod Look
 pub mod Looking
 pub mod Making

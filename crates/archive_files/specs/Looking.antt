@@ -1,8 +1,8 @@
 -- How it is told that an archive could not be looked at, or that an image was not copied while others may change it.
 use Rattle.std.specs.Prelude.{◌≡◌, ℕ, Bool, true, false, List, Option, Result, Ok, Err}
 use Rattle.disk_model.specs.declared.disk.Disk as disk
-use Rattle.disk_model.specs.declared.file_disk.FileFault.{FileFault}
-use Rattle.disk_model.specs.declared.file_disk.FileFault.TheVariants as file
+use Rattle.disk_model.specs.declared.file_fault.FileFault.{FileFault}
+use Rattle.disk_model.specs.declared.file_fault.FileFault.TheVariants as file
 use Rattle.inspector_cli.specs.declared.copying.CopyFault.{CopyFault}
 use Rattle.inspector_cli.specs.declared.copying.CopyFault.TheVariants as copy
 use Rattle.inspector_cli.specs.declared.session.SessionFault.TheVariants.{WriteFailed}

@@ -1,8 +1,8 @@
 -- What the program tells of a failure: `no REASON` for what is refused, and `fault NAME` where a session ended before its script.
 use Rattle.std.specs.Prelude.{ℕ, Bool, true, false, List, [], ◌∷◌, ◌++◌, Option, Some, Result, codes, decimal}
 use Rattle.archive_replies.specs.Reasons.{reason_of}
-use Rattle.disk_model.specs.declared.file_disk.FileFault.{FileFault}
-use Rattle.disk_model.specs.declared.file_disk.FileFault.TheVariants as file
+use Rattle.disk_model.specs.declared.file_fault.FileFault.{FileFault}
+use Rattle.disk_model.specs.declared.file_fault.FileFault.TheVariants as file
 use Rattle.inspector_cli.specs.declared.session.SessionFault.{SessionFault}
 use Rattle.inspector_cli.specs.declared.session.SessionFault.TheVariants.{ReadFailed, WriteFailed, TooManyReads}
 use Rattle.journal_layout.specs.FieldNames.{field_name}

@@ -5,6 +5,9 @@ ghost use Rattle.case_journal.specs.Viewing.{OnlyReads};
 ghost use Rattle.journal_layout.specs.Standing.{Standing};
 ghost use Rattle.journal_layout.specs.Stands.{Stands};
 ghost use Rattle.diagnostics.specs.Counts.{HasRisen};
+ghost use Rattle.disk_model.specs.Holding.{just_opened, locked_if};
+ghost use Rattle.disk_model.specs.declared.held_facts.Hold.TheVariants.{Alone};
+ghost use Rattle.archive_files.specs.Locks.{hold_of};
 ghost use Rattle.whole_files.specs.Calls.{just_made};
 ghost use Rattle.whole_files.specs.Whole.{IsUnnamed, IsMade, IsWritten, IsWhole};
 
@@ -13,15 +16,15 @@ use crate::failures::{Danger, FileWord, Refusal};
 use crate::making::format_over;
 use case_journal::settle;
 use diagnostics::Onlooker;
-use disk_model::{Disk, FileDisk, FileFault};
+use disk_model::{Disk, FileDisk, FileFault, HeldFile, Hold, OpenFile, RawFile};
 use journal_layout::{OpenFault, Shape};
 use std::alloc::Global;
 use std::fs;
-use std::fs::{File, Metadata, TryLockError};
+use std::fs::{File, Metadata};
 use std::os::unix::fs::FileExt;
 use std::rt::Files;
 use whole_files::{
-    NameFault, NewFile, PartFile, clear, give_name, is_named, is_same, make, remove, take_lock,
+    NameFault, NewFile, PartFile, clear, give_name, is_named, is_same, make, remove,
 };
 
 /// What is done to an archive: what only looks needs no right to write its file, and shares its lock.
@@ -155,7 +158,7 @@ fn disk_of_zeros<'a, R: Files<File = File>, W: Onlooker>(
     ensures part { IsUnnamed (⟦<PartFile<'a, R> as NewFile>⟧.facts file.new) }
     ensures made { OnOk result (IsMade (⟦<PartFile<'a, R> as NewFile>⟧.facts file.new)) }
 {
-    take_lock(file)?;
+    file.try_lock()?;
     file.set_length(length).map_err(|_| FileFault::Length)?;
     if !is_sparse {
         make_room(file, length, onlooker)?;
@@ -227,27 +230,27 @@ fn disk_of<R: AllocGlobal + Files<File = File>>(
 ) -> Result<FileDisk, FileFault> {
     let file = take_file(rt, place, access)?;
     match access {
-        Access::Looking => FileDisk::from_shared(file),
+        Access::Looking => Ok(FileDisk::from_shared(RawFile::settled(file)?)),
         Access::Changing => disk_to_change(rt.alloc(), file),
     }
 }
 
-// The disk of an archive in a file that is open for reading and writing, and has its lock alone.
-pub(crate) fn disk_to_change(alloc: Global, file: File) -> Result<FileDisk, FileFault> {
-    settled(alloc, FileDisk::from_locked(alloc, file)?)
-}
-
-// Has the gates written again that an earlier process may have failed to write: reads don't tell. If the system tells of a lost
-// write, another program may have written any byte, as one that restored the file: then the superblock and all of the journal
-// are written again. What is built on them is as durable as they are.
-fn settled(alloc: Global, disk: FileDisk) -> Result<FileDisk, FileFault> {
-    let mut disk = disk;
-    if disk.has_lost_writes() {
-        let front = front_of(&mut disk)?;
-        disk.write_again(front)?;
-    } else {
-        settle_gates(alloc, &mut disk)?;
+// The disk of an archive in a file that is open for reading and writing, and has its lock alone. It has the gates written again that an
+// earlier process may have failed to write: reads don't tell. If the system tells of a lost write, another program may have written any
+// byte, as one that restored the file: then the superblock and all of the journal are written again. What is built on them is as durable as
+// they are.
+pub(crate) fn disk_to_change(alloc: Global, file: OpenFile) -> Result<FileDisk, FileFault>
+    requires alone { ⟦<OpenFile as HeldFile>⟧.facts file ≡ locked_if true Alone just_opened }
+{
+    let raw = RawFile::settled(file)?;
+    if raw.file().known().has_lost_writes {
+        let mut raw = raw;
+        let front = front_of(&mut raw)?;
+        let raw = raw.write_again(front)?;
+        return Ok(FileDisk::from_locked(alloc, raw)?);
     }
+    let mut disk = FileDisk::from_locked(alloc, raw)?;
+    settle_gates(alloc, &mut disk)?;
     Ok(disk)
 }
 
@@ -297,12 +300,14 @@ pub(crate) fn take_file<R: Files<File = File>>(
     rt: &R,
     place: ArchivePath<'_>,
     access: Access,
-) -> Result<File, FileFault> {
+) -> Result<OpenFile, FileFault>
+    ensures locked { IfOk result (λ f. ⟦<OpenFile as HeldFile>⟧.facts f ≡ locked_if true (hold_of access) just_opened) }
+{
     for _ in 0..MOST_TRIES {
         look_at_file(rt, place.path)?;
-        let file = open_file(rt, place.path, access)?;
-        lock(&file, place.waits, access)?;
-        if is_named(rt, place.path, &file)? {
+        let mut file = OpenFile::new(open_file(rt, place.path, access)?);
+        file.lock(hold_of(access), place.waits)?;
+        if is_named(rt, place.path, file.file())? {
             return Ok(file);
         }
     }
@@ -369,25 +374,12 @@ pub(crate) fn open_file<R: Files<File = File>>(
     Ok(options.open(rt, path)?)
 }
 
-fn lock(file: &File, waits: bool, access: Access) -> Result<(), FileFault> {
-    if waits {
-        return wait_for_lock(file, access);
+// How the lock is taken of what is done to an archive.
+fn hold_of(access: Access) -> Hold
+    ensures { result ≡ hold_of access }
+{
+    match access {
+        Access::Looking => Hold::Shared,
+        Access::Changing => Hold::Alone,
     }
-    let tried = match access {
-        Access::Looking => file.try_lock_shared(),
-        Access::Changing => file.try_lock(),
-    };
-    match tried {
-        Ok(()) => Ok(()),
-        Err(TryLockError::WouldBlock) => Err(FileFault::Busy),
-        Err(TryLockError::Error(_)) => Err(FileFault::Lock),
-    }
-}
-
-fn wait_for_lock(file: &File, access: Access) -> Result<(), FileFault> {
-    let locked = match access {
-        Access::Looking => file.lock_shared(),
-        Access::Changing => file.lock(),
-    };
-    locked.map_err(|_| FileFault::Lock)
 }

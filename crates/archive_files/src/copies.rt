@@ -1,5 +1,6 @@
 // Archives, copied into new files.
-ghost use Rattle.std.specs.Prelude.{true, false, OnOk};
+ghost use Rattle.std.specs.Prelude.{◌≡◌, true, false, Some, OnOk};
+ghost use Rattle.disk_model.specs.declared.held_facts.Hold.TheVariants.{Alone};
 ghost use Rattle.whole_files.specs.Whole.{IsWritten, IsWhole};
 
 use crate::archive_path::ArchivePath;
@@ -14,7 +15,7 @@ use crate::over_disk::look_over;
 use archive_care::CopyWish;
 use archive_checks::shape_on;
 use diagnostics::Onlooker;
-use disk_model::{FileDisk, FileFault};
+use disk_model::{FileDisk, FileFault, HeldFile, OpenFile};
 use journal_layout::Shape;
 use shown_progress::CountedDisk;
 use std::alloc::Global;
@@ -97,7 +98,7 @@ pub fn resize_archive_file<R: AllocGlobal + Files<File = File>, W: Onlooker>(
     }
     let waits = place.waits;
     let old = take_file(rt, ArchivePath { path, waits }, Access::Changing).map_err(refused)?;
-    refuse_rights(&old, wanted.drops_rights)?;
+    refuse_rights(old.file(), wanted.drops_rights)?;
     let mut file = PartFile::new(rt.alloc(), rt, path)?;
     copy_in_place(rt.alloc(), &old, &mut file, wanted, onlooker)
 }
@@ -105,17 +106,18 @@ pub fn resize_archive_file<R: AllocGlobal + Files<File = File>, W: Onlooker>(
 // Copies the archive in a file that is open, and locked, into a new file, which takes its place then.
 fn copy_in_place<'a, R: Files<File = File>, W: Onlooker>(
     alloc: Global,
-    old: &File,
+    old: &OpenFile,
     file: &mut PartFile<'a, R>,
     wanted: CopyWords,
     onlooker: &mut W,
 ) -> Result<(), Refusal>
+    requires alone { (⟦<OpenFile as HeldFile>⟧.facts old.now).lock ≡ Some Alone }
     ensures whole { OnOk result (IsWhole true (⟦<PartFile<'a, R> as NewFile>⟧.facts file.new)) }
 {
     clear_part(file).map_err(refused)?;
     let from = disk_beside(alloc, old).map_err(refused)?;
     let copy = copy_part(alloc, from, file, wanted, onlooker)?;
-    let placed = take_place(file, old);
+    let placed = take_place(file, old.file());
     drop(copy);
     placed.map_err(|fault| name_refusal(FileWord::Archive, fault))
 }
@@ -136,7 +138,9 @@ fn refuse_rights(file: &File, drops_rights: bool) -> Result<(), Refusal> {
 }
 
 // The disk of an archive whose file stays open too, and has its lock.
-fn disk_beside(alloc: Global, file: &File) -> Result<FileDisk, FileFault> {
+fn disk_beside(alloc: Global, file: &OpenFile) -> Result<FileDisk, FileFault>
+    requires alone { (⟦<OpenFile as HeldFile>⟧.facts file.now).lock ≡ Some Alone }
+{
     disk_to_change(alloc, file.try_clone()?)
 }
 

@@ -5,7 +5,7 @@ ghost use Rattle.archive_files.specs.Looking.{copy_told, look_fault, unlocked_to
 use crate::archive_path::ArchivePath;
 use crate::archives::{Access, MOST_TRIES, look_at_file, open_file};
 use crate::failures::{Failure, FileWord, Refusal};
-use disk_model::FileFault;
+use disk_model::{FileFault, OpenFile};
 use inspector_cli::{CopyFault, SessionFault};
 use intake::ArchiveFault;
 use shared_disk::{LookFault, Looked, SharedFile};
@@ -19,7 +19,7 @@ use whole_files::is_named;
 pub fn take_look<R: AllocGlobal + Files<File = File>>(
     rt: &R,
     place: ArchivePath<'_>,
-) -> Result<Looked<SharedFile>, Refusal> {
+) -> Result<Looked<SharedFile<OpenFile>>, Refusal> {
     let looked = look_at(rt, place);
     looked.map_err(|fault| Refusal::File(FileWord::Archive, fault))
 }
@@ -28,13 +28,13 @@ pub fn take_look<R: AllocGlobal + Files<File = File>>(
 fn look_at<R: AllocGlobal + Files<File = File>>(
     rt: &R,
     place: ArchivePath<'_>,
-) -> Result<Looked<SharedFile>, FileFault> {
+) -> Result<Looked<SharedFile<OpenFile>>, FileFault> {
     for _ in 0..MOST_TRIES {
         look_at_file(rt, place.path)?;
         let file = open_file(rt, place.path, Access::Looking)?;
-        let shared = SharedFile::new(file, place.waits)?;
+        let shared = SharedFile::new(OpenFile::new(file), place.waits)?;
         let looked = Looked::look(rt.alloc(), shared).map_err(look_fault)?;
-        if is_named(rt, place.path, looked.shared().file())? {
+        if is_named(rt, place.path, looked.shared().file().file())? {
             return Ok(looked);
         }
     }

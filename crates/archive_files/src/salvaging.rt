@@ -1,5 +1,6 @@
 // The cases of an archive whose opening is refused, copied into a new file.
-ghost use Rattle.std.specs.Prelude.{◌≡◌, ◌⊎◌, ◌^◌, ◌<◌, [], false, OnOk};
+ghost use Rattle.std.specs.Prelude.{◌≡◌, ◌⊎◌, ◌^◌, ◌<◌, [], false, is_ok, OnOk};
+ghost use Rattle.disk_model.specs.Calls.{read};
 ghost use Rattle.std.proofs.lemmas.Bool.{false≢true};
 ghost use Rattle.salvage.specs.Readings.{FoundWithin};
 ghost use Rattle.archive_files.specs.Salvaging.{IsRefusedAside, Salvages, SalvagesOnto, TellsFound, TellsSalvage};
@@ -11,7 +12,7 @@ use crate::copy_over::{copy_refusal, larger_wish};
 use crate::failures::{Failure, FileWord, Refusal};
 use archive_care::CopyWish;
 use diagnostics::Onlooker;
-use disk_model::{Disk, DiskFault, FileDisk, FileFault};
+use disk_model::{Disk, DiskFault, FileDisk, FileFault, HeldFile, OpenFile};
 use inspector_cli::SessionFault;
 use journal_layout::{OpenFault, Shape};
 use salvage::{
@@ -20,30 +21,26 @@ use salvage::{
 use script_streams::Output;
 use std::alloc::Global;
 use std::fs::File;
-use std::os::unix::fs::FileExt;
 use std::rt::Files;
 use whole_files::{NewFile, PartFile, clear, give_name};
 
-// A file that is open for reading, of the length that it had when it was opened. Nothing is proved of its bytes.
+// A regular file that is open for reading, of the length that it had when it was looked at. Nothing is proved of its bytes.
 #[derive(Drop)]
-struct ReadFile {
-    file: File,
+struct ReadFile<F: HeldFile> {
+    file: F,
     length: u64,
     ghost small: { length < 2 ^ 64 },
 }
 
-impl ReadFile {
-    fn new(file: File) -> Result<ReadFile, FileFault> {
-        let metadata = file.metadata().map_err(|_| FileFault::Length)?;
-        if metadata.is_dir() {
-            return Err(FileFault::Folder);
-        }
-        let length = metadata.len();
+impl<F: HeldFile + Drop> ReadFile<F> {
+    fn new(file: F) -> Result<ReadFile<F>, FileFault> {
+        let mut file = file;
+        let length = file.look_at_kind()?;
         Ok(ReadFile { file, length })
     }
 }
 
-impl Source for ReadFile {
+impl<F: HeldFile> Source for ReadFile<F> {
     ghost size = { λ f. f.length };
 
     ghost seen = { λ f. [] };
@@ -60,8 +57,10 @@ impl Source for ReadFile {
         self.length
     }
 
-    fn read_at(&self, at: u64, into: &mut [u8]) -> Result<(), DiskFault> {
-        match self.file.read_exact_at(into, at) {
+    fn read_at(&self, at: u64, into: &mut [u8]) -> Result<(), DiskFault>
+        ensures made { F.made self.now.file (read at (is_ok result) into.new) self.now.file }
+    {
+        match self.file.peek(into, at) {
             Ok(()) => Ok(()),
             Err(_) => Err(DiskFault::Read),
         }
@@ -189,7 +188,7 @@ pub fn fault_found<R: AllocGlobal + Files<File = File>>(
 fn open_source<R: AllocGlobal + Files<File = File>>(
     rt: &R,
     place: ArchivePath<'_>,
-) -> Result<ReadFile, Refusal> {
+) -> Result<ReadFile<OpenFile>, Refusal> {
     let taken = take_file(rt, place, Access::Looking).and_then(ReadFile::new);
     taken.map_err(|fault| Refusal::File(FileWord::Archive, fault))
 }

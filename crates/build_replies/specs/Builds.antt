@@ -1,7 +1,7 @@
 -- The build IDs of a core's mapped files (core(5), NT_FILE), next to those of the executables that are stored under their names.
-use Rattle.std.specs.Prelude.{ℕ, ◌-◌, ◌==◌, not, if◌then◌else◌, Bool, List, [], ◌∷◌, ◌++◌, filter, find, map, Option, None, Some, Result, codes}
+use Rattle.std.specs.Prelude.{ℕ, ◌-◌, ◌==◌, not, if◌then◌else◌, Bool, List, [], ◌∷◌, ◌++◌, filter, find, map, Option, None, Some, Result, Ok, Err, codes}
 use Rattle.std.specs.List.{flat_map}
-use Rattle.std.specs.Option.{option_and_then}
+use Rattle.std.specs.Option.{option_and_then, option_map}
 use Rattle.std.specs.Str.{bytes_eq}
 use Rattle.script_words.specs.Hex.{hex_of}
 use Rattle.script_words.specs.Printing.{shown}
@@ -63,14 +63,38 @@ verdict None stored = codes "unknown"
 abbrev pub ids_words : Option (List ℕ) → Option (List ℕ) → List ℕ
 ids_words core stored = id_word core ++ (32 ∷ [] ++ (id_word stored ++ (32 ∷ [] ++ verdict core stored)))
 
+-- a mapped file, by its name, with the build ID of its front and that of what is stored under the name
+pub record BuildValue : Type 0 where
+  pub name : List ℕ
+  pub core : Option (List ℕ)
+  pub stored : Option (List ℕ)
+
+-- by the fronts and what is stored
+abbrev pub build_value : List ExecutableView → List ExecutableView → List ℕ → BuildValue
+build_value fronts stored name = record { name = name; core = id_named fronts name; stored = id_named stored name }
+
+-- one for each name
+abbrev pub values_of : Space → List ExecutableView → List FileView → List BuildValue
+values_of space stored files = map (build_value (fronts_of space files) stored) (once (map name_of files))
+
+-- those of a core, by the first NT_FILE (0x46494c45); none, if it has no such note. No executable is attached to the memory in which the
+-- fronts are.
+unfoldable pub builds_of : List ℕ → List ExecutableView → Option (List BuildValue)
+builds_of b executables = option_map (λ desc. values_of (memory_of b []) executables (files_of desc)) (first_desc 0x46494c45 (notes_of Core b))
+
 -- `NAME CORE STORED VERDICT`
-unfoldable pub build_line : List ExecutableView → List ExecutableView → List ℕ → List ℕ
-build_line fronts stored name = shown name ++ (32 ∷ [] ++ (ids_words (id_named fronts name) (id_named stored name) ++ 10 ∷ []))
+unfoldable pub build_line : BuildValue → List ℕ
+build_line v = shown v.name ++ (32 ∷ [] ++ (ids_words v.core v.stored ++ 10 ∷ []))
 
--- a line for each name
+-- a line for each
 abbrev pub lines_of : Space → List ExecutableView → List FileView → List ℕ
-lines_of space stored files = flat_map (build_line (fronts_of space files) stored) (once (map name_of files))
+lines_of space stored files = flat_map build_line (values_of space stored files)
 
--- `builds`: of the first NT_FILE (0x46494c45). No executable is attached to the memory in which the fronts are.
+-- `builds`
 unfoldable pub builds_answer : List ℕ → List ExecutableView → Result (List ℕ) (List ℕ)
 builds_answer b executables = if_there (first_desc 0x46494c45 (notes_of Core b)) (λ desc. lines_of (memory_of b []) executables (files_of desc))
+
+-- the same from the values
+abbrev pub printed : Option (List BuildValue) → Result (List ℕ) (List ℕ)
+printed None = Err (codes "Missing")
+printed (Some values) = Ok (flat_map build_line values)

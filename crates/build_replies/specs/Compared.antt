@@ -1,5 +1,6 @@
 -- What is compared of a core of which not all bytes are at hand.
-use Rattle.std.specs.Prelude.{◌≡◌, ℕ, List, [], ◌++◌, ◌∷◌, map, Option, None, Some, Vec}
+use Rattle.std.specs.Prelude.{◌≡◌, ℕ, List, [], map, Option, None, Some, Vec}
+use Rattle.std.specs.Borrow.{Bor}
 use Rattle.std.specs.Global.{Global}
 use Rattle.std.specs.Option.{option_map}
 use Rattle.elf_view.specs.Field.{part}
@@ -11,11 +12,11 @@ use Rattle.address_space.specs.Source.{ExecutableView}
 use Rattle.address_space.specs.Whole.{IsFrontOf, space_in}
 use Rattle.build_ids.specs.BuildId.{build_id_of}
 use Rattle.memory_replies.specs.Memory.{memory_of}
-use Rattle.script_words.specs.Printing.{shown}
-use Rattle.build_replies.specs.Builds.{fronts_of, id_named, ids_words, name_of, once}
+use Rattle.build_replies.specs.Builds.{BuildValue, build_value, fronts_of, id_named, name_of, once}
 use Rattle.build_replies.specs.PlacesWords.{fronts_in}
 use Rattle.build_replies.specs.TableWords.{path_of, table_rows}
 use Rattle.build_replies.specs.declared.compared.ComparedFiles.{ComparedFiles}
+use Rattle.build_replies.specs.declared.ids.BuildAnswer.{BuildAnswer}
 use Rattle.build_replies.specs.declared.ids.FrontId.{FrontId}
 use Rattle.build_replies.specs.declared.places.FrontPlace.{FrontPlace}
 
@@ -46,17 +47,17 @@ NamedId = List ℕ × Option (List ℕ)
 abbrev pub id_view : FrontId → NamedId
 id_view f = (f.name.now, option_map (λ (v : Vec ℕ Global). v.items) f.id)
 
-abbrev pub named_id : List ExecutableView → List ℕ → NamedId
-named_id fronts name = (name, id_named fronts name)
+-- with the build ID of what is stored under the name
+abbrev pub with_stored : List ExecutableView → NamedId → BuildValue
+with_stored stored x = record { name = x.0; core = x.1; stored = id_named stored x.0 }
 
--- the build IDs of these names, if the core has that image
-abbrev pub AreIdsFor : List ℕ → ComparedFiles → List (List ℕ) → List FrontId → Type 0
-AreIdsFor image c names ids = map id_view ids ≡ map (named_id (fronts_in image c.fronts)) names
+abbrev pub build_view : BuildAnswer → BuildValue
+build_view r = record { name = r.front.name.now; core = option_map (λ (v : Vec ℕ Global). v.items) r.front.id; stored = option_map (λ (id : Bor (List ℕ)). id.now) r.stored }
 
--- those of all
-abbrev pub AreIdsOf : List ℕ → ComparedFiles → List FrontId → Type 0
-AreIdsOf image c ids = AreIdsFor image c (names_of c) ids
+-- what is told of these names, if the core has that image
+abbrev pub AreRowsFor : List ℕ → ComparedFiles → List (List ℕ) → List BuildAnswer → Type 0
+AreRowsFor image c names rows = map build_view rows ≡ map (build_value (fronts_in image c.fronts) (table_rows c.stored)) names
 
--- `NAME CORE STORED VERDICT` of a name and the build ID of its front
-unfoldable pub id_line : List ExecutableView → NamedId → List ℕ
-id_line stored x = shown x.0 ++ (32 ∷ [] ++ (ids_words x.1 (id_named stored x.0) ++ 10 ∷ []))
+-- of all
+abbrev pub AreRowsOf : List ℕ → ComparedFiles → List BuildAnswer → Type 0
+AreRowsOf image c rows = AreRowsFor image c (names_of c) rows

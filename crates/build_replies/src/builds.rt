@@ -5,18 +5,13 @@ ghost use Rattle.std.specs.Option.{option_map};
 ghost use Rattle.script_streams.specs.Replies.{TellsReply, TellsText, telling};
 ghost use Rattle.address_space.specs.SpaceWords.{attached_view};
 ghost use Rattle.address_space.specs.Source.{ExecutableView};
-ghost use Rattle.address_space.specs.Whole.{IsFrontOf};
-ghost use Rattle.elf_view.specs.ViewWords.{notes_of};
-ghost use Rattle.elf_view.specs.declared.faults.Want.TheVariants.{Core};
 ghost use Rattle.image_replies.specs.CoreWords.{core_bytes};
 ghost use Rattle.memory_replies.specs.Answers.{AnswersWith};
 ghost use Rattle.build_replies.specs.Builds as spec;
-ghost use Rattle.build_replies.specs.Compared.{AreIdsOf, IsFoundOf, id_line, id_view};
-ghost use Rattle.build_replies.specs.TableWords.{table_rows};
+ghost use Rattle.build_replies.specs.Compared.{IsFoundOf, build_view};
 
 use crate::compared::ComparedFiles;
-use crate::ids::{FrontId, all_ids};
-use crate::table::Table;
+use crate::ids::{BuildAnswer, all_rows};
 use address_space::Attached;
 use image_replies::CoreImage;
 use memory_replies::Outcome;
@@ -33,8 +28,8 @@ fn tell_id<O: Output>(reply: &mut Reply<'_, O>, id: Option<&[u8]>)
     }
 }
 
-/// What two IDs say.
-fn verdict(core: Option<&[u8]>, stored: Option<&[u8]>) -> &'static [u8]
+/// What two build IDs say: `unknown` where one is missing, else `same` or `differs`.
+pub fn verdict(core: Option<&[u8]>, stored: Option<&[u8]>) -> &'static [u8]
     ensures { result.now ≡ spec.verdict (option_map (λ id. id.now) core.entry) (option_map (λ id. id.now) stored.entry) }
 {
     match (core, stored) {
@@ -57,39 +52,31 @@ fn tell_ids<O: Output>(reply: &mut Reply<'_, O>, core: Option<&[u8]>, stored: Op
 }
 
 /// Tells the line of a name.
-#[tactic(auto, unfolding(crate::specs::Compared::id_line))]
-fn tell_line<O: Output>(reply: &mut Reply<'_, O>, stored: &Table<'_>, front: &FrontId<'_>)
-    ensures { TellsText (telling O.Output reply.old reply.new) (id_line (table_rows stored.now) (id_view front.now)) }
+#[tactic(auto, unfolding(crate::specs::Builds::build_line))]
+fn tell_line<O: Output>(reply: &mut Reply<'_, O>, row: &BuildAnswer<'_>)
+    ensures { TellsText (telling O.Output reply.old reply.new) (spec.build_line (build_view row.now)) }
 {
-    let name = front.name();
-    reply.tell_text(name);
+    reply.tell_text(row.front.name);
     reply.tell(b" ");
-    tell_ids(reply, front.id(), stored.id_named(name));
+    tell_ids(reply, row.front.id(), row.stored);
     reply.tell(b"\n");
 }
 
 /// Tells a line for each name.
-fn tell_lines<O: Output>(reply: &mut Reply<'_, O>, stored: &Table<'_>, ids: &[FrontId<'_>])
-    ensures { TellsText (telling O.Output reply.old reply.new)
-        (flat_map (id_line (table_rows stored.now)) (map id_view ids.now)) }
+fn tell_lines<O: Output>(reply: &mut Reply<'_, O>, rows: &[BuildAnswer<'_>])
+    ensures { TellsText (telling O.Output reply.old reply.new) (flat_map spec.build_line (map build_view rows.now)) }
 {
-    for front in ids {
-        tell_line(reply, stored, front);
+    for row in rows {
+        tell_line(reply, row);
     }
 }
 
-/// Tells the reply to `builds` of a core, by what is compared and the build IDs of the fronts: one for each name, in their order. It is
-/// that of each image which the core may have and these are the build IDs of. Says what became of it.
-pub fn tell_compared<O: Output>(
-    reply: &mut Reply<'_, O>,
-    compared: &ComparedFiles<'_>,
-    ids: &[FrontId<'_>],
-) -> Outcome
-    ensures { (front image : List ℕ) (size : ℕ) (xs : List ExecutableView) → IsFrontOf front size image → notes_of Core front ≡ notes_of Core image
-        → IsFoundOf front size xs (Some compared.now) → AreIdsOf image compared.now ids.now
+/// Tells the reply to `builds` of a core, by what is told of its mapped files. Says what became of it.
+pub fn tell_compared<O: Output>(reply: &mut Reply<'_, O>, rows: &[BuildAnswer<'_>]) -> Outcome
+    ensures { (image : List ℕ) (xs : List ExecutableView) → spec.builds_of image xs ≡ Some (map build_view rows.now)
         → TellsReply (telling O.Output reply.old reply.new) (AnswersWith result (spec.builds_answer image xs)) }
 {
-    tell_lines(reply, &compared.stored, ids);
+    tell_lines(reply, rows);
     tell_ok(reply);
     Outcome::Done
 }
@@ -104,8 +91,8 @@ fn tell_whole<O: Output>(
     ensures { (xs : List ExecutableView) → IsFoundOf (core_bytes core.now) (length (core_bytes core.now)) xs (Some compared.now)
         → TellsReply (telling O.Output reply.old reply.new) (AnswersWith result (spec.builds_answer (core_bytes core.now) xs)) }
 {
-    match all_ids(alloc, core.elf().image(), compared) {
-        Ok(ids) => tell_compared(reply, compared, &ids),
+    match all_rows(alloc, core.elf().image(), compared) {
+        Ok(rows) => tell_compared(reply, &rows),
         Err(_) => {
             tell_no(reply, b"OutOfMemory");
             Outcome::OutOfMemory

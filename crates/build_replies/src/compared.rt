@@ -8,10 +8,11 @@ ghost use Rattle.core_notes.specs.Typed.{first_desc};
 ghost use Rattle.address_space.specs.SpaceWords.{attached_view};
 ghost use Rattle.image_replies.specs.CoreWords.{core_bytes};
 ghost use Rattle.build_replies.specs.Builds as spec;
-ghost use Rattle.build_replies.specs.Compared.{HasFiles, IsFoundOf, IsIdPlace, names_of};
+ghost use Rattle.build_replies.specs.Compared.{HasFiles, IsFoundOf, IsIdPlace, build_view, id_view, names_of, with_stored};
 ghost use Rattle.build_replies.specs.PlaceWords.{EndsWithin};
 ghost use Rattle.build_replies.specs.TableWords.{path_of, table_rows};
 
+use crate::ids::{BuildAnswer, FrontId};
 use crate::names::names;
 use crate::places::{FrontPlace, FrontPlaces};
 use crate::table::Table;
@@ -85,5 +86,13 @@ impl<'a> ComparedFiles<'a> {
             Some(named) => self.fronts.front(named.path),
             None => unreachable!(),
         }
+    }
+
+    /// What is told of a file, by the build ID of its front.
+    pub fn row(&self, front: FrontId<'a>) -> BuildAnswer<'a>
+        ensures { build_view result ≡ with_stored (table_rows self.now.stored) (id_view front.entry) }
+    {
+        let stored = self.stored.id_named(front.name);
+        BuildAnswer { front, stored }
     }
 }

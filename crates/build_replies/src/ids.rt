@@ -1,7 +1,7 @@
 // The build IDs of the fronts of a core's mapped files.
 ghost use Rattle.std.specs.Prelude.{◌≡◌, IfOk};
 ghost use Rattle.std.specs.Option.{option_map};
-ghost use Rattle.build_replies.specs.Compared.{AreIdsOf, id_view};
+ghost use Rattle.build_replies.specs.Compared.{AreRowsOf, id_view};
 
 use crate::compared::ComparedFiles;
 use build_ids::build_id;
@@ -11,8 +11,18 @@ use std::alloc::{AllocError, Global};
 /// The build ID of the front of a mapped file.
 #[derive(Drop)]
 pub struct FrontId<'a> {
-    name: &'a [u8],
-    id: Option<Vec<u8>>,
+    /// The file's name.
+    pub name: &'a [u8],
+    pub(crate) id: Option<Vec<u8>>,
+}
+
+/// A mapped file, with the build ID of its front, and that of the executable that is stored under its name.
+#[derive(Drop)]
+pub struct BuildAnswer<'a> {
+    /// Its name, and the build ID of its front, as far as the core has it.
+    pub front: FrontId<'a>,
+    /// That of the first executable that is stored under the name. `None` where there is none, or it has no build ID.
+    pub stored: Option<&'a [u8]>,
 }
 
 /// The same bytes. The error is that there is no memory.
@@ -36,13 +46,6 @@ impl<'a> FrontId<'a> {
         Ok(FrontId { name, id })
     }
 
-    /// The file's name.
-    pub(crate) fn name(&self) -> &'a [u8]
-        ensures { result ≡ self.now.name }
-    {
-        self.name
-    }
-
     /// The build ID, lent.
     pub fn id(&self) -> Option<&[u8]>
         ensures { option_map (λ id. id.now) result ≡ option_map (λ v. v.items) self.now.id }
@@ -54,19 +57,19 @@ impl<'a> FrontId<'a> {
     }
 }
 
-/// The build IDs of the fronts of a core's mapped files, by all of its image. The error is that there is no memory.
-pub(crate) fn all_ids<'a>(
+/// What is told of a core's mapped files, by all of its image. The error is that there is no memory.
+pub(crate) fn all_rows<'a>(
     alloc: Global,
     image: &[u8],
     compared: &ComparedFiles<'a>,
-) -> Result<Vec<FrontId<'a>>, AllocError>
-    ensures { IfOk result (λ ids. AreIdsOf image.now compared.now ids.items) }
+) -> Result<Vec<BuildAnswer<'a>>, AllocError>
+    ensures { IfOk result (λ rows. AreRowsOf image.now compared.now rows.items) }
 {
-    let mut ids = Vec::new(alloc);
+    let mut rows = Vec::new(alloc);
     for i in 0..compared.count() {
         let front = compared.front(i);
         let id = build_id(part(image, front.start, front.count));
-        ids.push(FrontId::new(alloc, front.path, id)?)?;
+        rows.push(compared.row(FrontId::new(alloc, front.path, id)?))?;
     }
-    Ok(ids)
+    Ok(rows)
 }

@@ -12,8 +12,8 @@ mod names;
 mod places;
 mod table;
 
-pub use builds::{tell_builds, tell_compared};
+pub use builds::{tell_builds, tell_compared, verdict};
 pub use choosing::ChosenExecutables;
 pub use compared::ComparedFiles;
-pub use ids::FrontId;
+pub use ids::{BuildAnswer, FrontId};
 pub use places::{FrontPlace, FrontPlaces};

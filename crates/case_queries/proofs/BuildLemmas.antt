@@ -1,5 +1,5 @@
 -- What is shown of the build IDs of a core that is read piece by piece.
-use Rattle.std.proofs.Common.{◌≡◌, ◌≤◌, inl, inr, ℕ, ◌+◌, List, map, drop, length, Option, None, Result, Ok, Err, Vec, Global, refl, ap, sym, ◌∙◌, subst, arith}
+use Rattle.std.proofs.Common.{◌≡◌, ◌≤◌, inl, inr, ℕ, ◌+◌, List, map, drop, length, Option, None, Some, Result, Ok, Err, Vec, Global, refl, ap, sym, ◌∙◌, subst, arith}
 use Rattle.std.specs.Prelude.{MatchResult, codes}
 use Rattle.std.specs.Borrow.{Bor}
 use Rattle.std.specs.Option.{option_map}
@@ -11,10 +11,11 @@ use Rattle.elf_view.specs.declared.faults.Want.TheVariants.{Core}
 use Rattle.address_space.specs.Source.{ExecutableView}
 use Rattle.address_space.specs.Whole.{IsFrontOf}
 use Rattle.build_ids.specs.Fronts as ids
-use Rattle.build_replies.specs.Builds.{builds_answer}
+use Rattle.build_replies.specs.Builds.{builds_answer, printed}
 use Rattle.build_replies.specs.Compared.{IsFoundOf, id_view}
-use Rattle.build_replies.specs.ComparedLaws.{missing_answer}
+use Rattle.build_replies.specs.ComparedLaws.{builds_printed, found_rows, missing_rows}
 use Rattle.build_replies.specs.declared.compared.ComparedFiles.{ComparedFiles}
+use Rattle.build_replies.specs.declared.ids.BuildAnswer.{BuildAnswer}
 use Rattle.build_replies.specs.declared.ids.FrontId.{FrontId}
 use Rattle.build_replies.specs.declared.places.FrontPlace.{FrontPlace}
 use Rattle.intake.specs.Parts.{Parts, state_of}
@@ -29,7 +30,7 @@ use Rattle.seen_memory.specs.Parts.{IsPartOf}
 use Rattle.seen_memory.specs.declared.part.Part as seen
 use Rattle.case_queries.specs.Asking.{for_builds}
 use Rattle.case_queries.specs.Finding.{ShowsFound, found_reply}
-use Rattle.case_queries.specs.FrontIds.{FindsIds, GathersOn, ReadsId}
+use Rattle.case_queries.specs.FrontIds.{FindsBuilds, FindsRows, GathersOn, ReadsId}
 use Rattle.case_queries.specs.Fronts.{HasSize, IsSoundFront, ReadsFront}
 use Rattle.case_queries.specs.PieceWords.{lent_view}
 use Rattle.case_queries.specs.Pieces.{BeginsWith, HasMore, SeesMore, SeesPieces, piece_view}
@@ -81,30 +82,42 @@ id_found o ps qs p bytes id (Ok f) earlier gathered few within tells told =
     (earlier, λ image begins. told ∙ ap (λ (x : Option (List ℕ)). (p.path.now, x)) (tells (part image p.start p.count) (front_begins image bytes o.size p.start p.count begins.0.0 within few (gathered image begins))))
 id_found o ps qs p bytes id (Err f) earlier gathered few within tells told = tt
 
--- a fault on the way
-pub ids_stop : {D : Type 0} (g : disk.Ghosts D) (before now : Parts D) (o : CaseImage) (ps : List Part) (c : ComparedFiles) (f : WalkFault) → SeesMore {A = FrontId} g before o ps (Err f) now → FindsIds g before o c (Err f) now
-ids_stop g before now o ps c (Unread f) sees = sees
-ids_stop g before now o ps c OutOfMemory sees = sees
+module _ {D : Type 0} (g : disk.Ghosts D) (before now : Parts D) (o : CaseImage) where
+  -- a fault on the way
+  pub rows_stop : (ps : List Part) (c : ComparedFiles) (f : WalkFault) → SeesMore {A = FrontId} g before o ps (Err f) now → FindsRows g before o c (Err f) now
+  rows_stop ps c (Unread f) sees = sees
+  rows_stop ps c OutOfMemory sees = sees
 
-module _ (notes : NotesLaw) (o : CaseImage) (sound : IsSoundFront Core o.front.now) (xs : List ExecutableView) where
-  -- the first bytes have the notes
-  pub notes_same : (image : List ℕ) → IsFrontOf o.front.now o.size image → notes_of Core o.front.now ≡ notes_of Core image
-  notes_same image front = enough_shows (notes_of Core) (λ b n whole fine. notes Core b n whole fine) o.front.now image (inr (front.1, sound))
+  module _ (xs : List ExecutableView) where
+    pub builds_stop : (c : ComparedFiles) (f : WalkFault) → FindsRows g before o c (Err f) now → FindsBuilds g before o xs (Err f) now
+    builds_stop c (Unread f) finds = finds
+    builds_stop c OutOfMemory finds = finds
 
-  module _ {D : Type 0} (g : disk.Ghosts D) (before now : Parts D) where
-    -- a core without NT_FILE
-    pub none_missing : HasSize (state_of now) o.seq o.size → length o.front.now ≤ o.size → ReadsFront g before o.seq o.front.now now → IsFoundOf o.front.now o.size xs None → ShowsFound g before o xs for_builds (no_reply (codes "Missing")) now
-    none_missing sized short reads none =
-        let x = some_seen g before o now now o.front.now 0 o.front.now sized reads (at_start g before o now reads short) in
-        (Ok x.0, x.1, (x.2, inl (ap reply_of (missing_answer o.front.now x.0 o.size xs (notes_same x.0 x.2) none))))
+    module _ (notes : NotesLaw) (sound : IsSoundFront Core o.front.now) where
+      -- the first bytes have the notes
+      notes_same : (image : List ℕ) → IsFrontOf o.front.now o.size image → notes_of Core o.front.now ≡ notes_of Core image
+      notes_same image front = enough_shows (notes_of Core) (λ b n whole fine. notes Core b n whole fine) o.front.now image (inr (front.1, sound))
 
-    -- the IDs that were found
-    pub ids_shown : (c : ComparedFiles) (v : Vec FrontId Global) (outcome : Outcome) (tell : Telling) → (finds : FindsIds g before o c (Ok v) now) → TellsReply tell (AnswersWith outcome (builds_answer finds.0 xs)) → TellsOutcome tell (λ text. ShowsFound g before o xs for_builds text now) (is_done outcome)
-    ids_shown c v outcome tell finds told =
+      -- a core without NT_FILE
+      pub missing_found : HasSize (state_of now) o.seq o.size → length o.front.now ≤ o.size → ReadsFront g before o.seq o.front.now now → IsFoundOf o.front.now o.size xs None → FindsBuilds g before o xs (Ok None) now
+      missing_found sized short reads none =
+          let x = some_seen g before o now now o.front.now 0 o.front.now sized reads (at_start g before o now reads short) in
+          (x.0, x.1, x.2, missing_rows o.front.now x.0 o.size xs (notes_same x.0 x.2) none)
+
+      -- what was found
+      pub rows_found : (c : ComparedFiles) (v : Vec BuildAnswer Global) → IsFoundOf o.front.now o.size xs (Some c) → FindsRows g before o c (Ok v) now → FindsBuilds g before o xs (Ok (Some v)) now
+      rows_found c v found finds = (finds.0, finds.1, finds.2, found_rows o.front.now finds.0 o.size xs c v.items finds.2 (notes_same finds.0 finds.2) found finds.3)
+
+    -- it is told
+    pub rows_shown : (v : Vec BuildAnswer Global) (outcome : Outcome) (tell : Telling) → (finds : FindsBuilds g before o xs (Ok (Some v)) now) → TellsReply tell (AnswersWith outcome (builds_answer finds.0 xs)) → TellsOutcome tell (λ text. ShowsFound g before o xs for_builds text now) (is_done outcome)
+    rows_shown v outcome tell finds told =
         let answer = builds_answer finds.0 xs in
         (told.0, (Ok finds.0, finds.1, (finds.2, answered outcome answer told.0 told.1)), outcome_with outcome answer told.0 told.1, told.2)
 
+    pub missing_shown : FindsBuilds g before o xs (Ok None) now → ShowsFound g before o xs for_builds (no_reply (codes "Missing")) now
+    missing_shown finds = (Ok finds.0, finds.1, (finds.2, inl (ap reply_of (sym (builds_printed finds.0 xs ∙ ap printed finds.3)))))
+
     -- a fault
-    pub ids_unread : (c : ComparedFiles) (f : WalkFault) → FindsIds g before o c (Err f) now → ShowsFound g before o xs for_builds (found_reply (Err f)) now
-    ids_unread c (Unread f) finds = (Err f, finds, refl)
-    ids_unread c OutOfMemory finds = (Ok finds.0, finds.1, (finds.2, inr refl))
+    pub builds_unread : (f : WalkFault) → FindsBuilds g before o xs (Err f) now → ShowsFound g before o xs for_builds (found_reply (Err f)) now
+    builds_unread (Unread f) finds = (Err f, finds, refl)
+    builds_unread OutOfMemory finds = (Ok finds.0, finds.1, (finds.2, inr refl))

@@ -33,6 +33,8 @@ use Rattle.case_queries.specs.Finding.{ShowsFound, found_reply}
 use Rattle.case_queries.specs.FrontIds.{IsChoiceAt}
 use Rattle.case_queries.specs.Fronts.{HasSize, IsSoundFront, ReadsFront}
 use Rattle.case_queries.specs.Pieces.{BeginsWith, FindsFrames, SeesMore, SeesPieces}
+use Rattle.case_queries.specs.Unwound.{FindsThread}
+use Rattle.case_queries.specs.declared.frames.UnwoundThread.{UnwoundThread}
 use Rattle.case_queries.specs.declared.walk.CaseImage.{CaseImage}
 use Rattle.case_queries.specs.declared.walk.WalkFault.{WalkFault}
 use Rattle.case_queries.specs.declared.walk.WalkFault.TheVariants.{OutOfMemory, Unread}
@@ -51,6 +53,10 @@ some_front front size short =
 
 abbrev pub NotesLaw : Type 0
 NotesLaw = (want : Want) (b : List ℕ) (n : ℕ) → IsHeaderWhole (take n b) → IsSound want (take n b) → notes_of want (take n b) ≡ notes_of want b
+
+no_thread : (t : ℕ) (image : List ℕ) (xs : List ExecutableView) (frame : Option ℕ) → thread_state image t ≡ None → no_reply (codes "NoThread") ≡ reply_of (frames_answer image xs t frame)
+no_thread t image xs None none = ap reply_of (unwind_missing image xs t none)
+no_thread t image xs (Some i) none = ap reply_of (frame_missing image xs t none i)
 
 module _ (notes : NotesLaw) (o : CaseImage) (sound : IsSoundFront Core o.front.now) (t : ℕ) where
   -- the first bytes have the threads
@@ -76,36 +82,36 @@ module _ (notes : NotesLaw) (o : CaseImage) (sound : IsSoundFront Core o.front.n
       let front = has.0 in
       walk_begins o.front.now image xs (choice_view c) t p w own (choice_same xs ps places c are is image has) (enough_shows _ law o.front.now image (inr (front.1, sound))) (start_same image front) (state_same image front) begins
 
-  no_thread : (image : List ℕ) (xs : List ExecutableView) (frame : Option ℕ) → thread_state image t ≡ None → no_reply (codes "NoThread") ≡ reply_of (frames_answer image xs t frame)
-  no_thread image xs None none = ap reply_of (unwind_missing image xs t none)
-  no_thread image xs (Some i) none = ap reply_of (frame_missing image xs t none i)
+  -- a thread that is not there
+  pub missing_found : {D : Type 0} (g : disk.Ghosts D) (before now : Parts D) (xs : List ExecutableView) → HasSize (state_of now) o.seq o.size → length o.front.now ≤ o.size → ReadsFront g before o.seq o.front.now now → thread_state o.front.now t ≡ None → FindsThread g before o xs t (Ok None) now
+  missing_found g before now xs sized short reads none =
+      let x = some_seen g before o now now o.front.now 0 o.front.now sized reads (at_start g before o now reads short) in
+      (x.0, x.1, x.2, sym (state_same x.0 x.2) ∙ none)
 
-  module _ {D : Type 0} (g : disk.Ghosts D) (before now : Parts D) (xs : List ExecutableView) (frame : Option ℕ) where
-    -- a thread that is not there
-    pub missing_shown : HasSize (state_of now) o.seq o.size → length o.front.now ≤ o.size → ReadsFront g before o.seq o.front.now now → thread_state o.front.now t ≡ None → ShowsFound g before o xs (for_frames t frame) (no_reply (codes "NoThread")) now
-    missing_shown sized short reads none =
-        let x = some_seen g before o now now o.front.now 0 o.front.now sized reads (at_start g before o now reads short) in
-        (Ok x.0, x.1, (x.2, inl (no_thread x.0 xs frame (sym (state_same x.0 x.2) ∙ none))))
-
-module _ {D : Type 0} (g : disk.Ghosts D) (before new : Parts D) (o : CaseImage) (xs : List ExecutableView) (t : ℕ) (frame : Option ℕ) (p : UnwoundProcess) (w : frames.Walk) where
-  -- the frames that were found
-  pub frames_shown : (stop : Stop) (outcome : Outcome) (tell : Telling) → (finds : FindsFrames g before o xs t p (Ok stop) w new) → TellsReply tell (AnswersWith outcome (frames_answer finds.0 xs t frame)) → TellsOutcome tell (λ text. ShowsFound g before o xs (for_frames t frame) text new) (is_done outcome)
-  frames_shown stop outcome tell finds told =
-      let answer = frames_answer finds.0 xs t frame in
-      (told.0, (Ok finds.0, finds.1, (finds.2, answered outcome answer told.0 told.1)), outcome_with outcome answer told.0 told.1, told.2)
-
+module _ {D : Type 0} (g : disk.Ghosts D) (before new : Parts D) (o : CaseImage) (xs : List ExecutableView) (t : ℕ) where
   -- a walk that stopped
-  pub stop_shown : (f : WalkFault) → FindsFrames g before o xs t p (Err f) w new → ShowsFound g before o xs (for_frames t frame) (found_reply (Err f)) new
-  stop_shown (Unread f) finds = (Err f, finds, refl)
-  stop_shown OutOfMemory finds = (Ok finds.0, finds.1, (finds.2, inr refl))
+  pub stop_found : (p : UnwoundProcess) (w : frames.Walk) (f : WalkFault) → FindsFrames g before o xs t p (Err f) w new → FindsThread g before o xs t (Err f) new
+  stop_found p w (Unread f) finds = finds
+  stop_found p w OutOfMemory finds = finds
 
--- there is no memory once the image is seen; or it can't be read
-pub memory_shown : {D : Type 0} (g : disk.Ghosts D) (before now : Parts D) (o : CaseImage) (ps : List Part) (xs : List ExecutableView) (asking : Asking) → SeesPieces g before o ps now → ShowsFound g before o xs asking memory_reply now
-memory_shown g before now o ps xs asking sees = (Ok sees.0, sees.1, (sees.2.0, inr refl))
+  -- a piece that can't be read
+  pub fault_found : (A : Type 0) (ps : List Part) (f : WalkFault) → SeesMore {A = A} g before o ps (Err f) new → FindsThread g before o xs t (Err f) new
+  fault_found A ps (Unread f) sees = sees
+  fault_found A ps OutOfMemory sees = sees
 
-pub fault_shown : {D : Type 0} (A : Type 0) (g : disk.Ghosts D) (before now : Parts D) (o : CaseImage) (ps : List Part) (xs : List ExecutableView) (asking : Asking) (f : WalkFault) → SeesMore {A = A} g before o ps (Err f) now → ShowsFound g before o xs asking (found_reply (Err f)) now
-fault_shown A g before now o ps xs asking (Unread f) sees = (Err f, sees, refl)
-fault_shown A g before now o ps xs asking OutOfMemory sees = (Ok sees.0, sees.1, (sees.2, inr refl))
+  module _ (frame : Option ℕ) where
+    -- the frames that were found are told
+    pub frames_shown : (u : UnwoundThread) (outcome : Outcome) (tell : Telling) → (finds : FindsThread g before o xs t (Ok (Some u)) new) → TellsReply tell (AnswersWith outcome (frames_answer finds.0 xs t frame)) → TellsOutcome tell (λ text. ShowsFound g before o xs (for_frames t frame) text new) (is_done outcome)
+    frames_shown u outcome tell finds told =
+        let answer = frames_answer finds.0 xs t frame in
+        (told.0, (Ok finds.0, finds.1, (finds.2, answered outcome answer told.0 told.1)), outcome_with outcome answer told.0 told.1, told.2)
+
+    pub missing_shown : FindsThread g before o xs t (Ok None) new → ShowsFound g before o xs (for_frames t frame) (no_reply (codes "NoThread")) new
+    missing_shown finds = (Ok finds.0, finds.1, (finds.2, inl (no_thread t finds.0 xs frame finds.3)))
+
+    pub stop_shown : (f : WalkFault) → FindsThread g before o xs t (Err f) new → ShowsFound g before o xs (for_frames t frame) (found_reply (Err f)) new
+    stop_shown (Unread f) finds = (Err f, finds, refl)
+    stop_shown OutOfMemory finds = (Ok finds.0, finds.1, (finds.2, inr refl))
 
 -- nothing but the first bytes is read
 pub no_pieces : {D : Type 0} (g : disk.Ghosts D) (before now : Parts D) (o : CaseImage) → HasSize (state_of now) o.seq o.size → length o.front.now ≤ o.size → ReadsFront g before o.seq o.front.now now → SeesPieces g before o [] now

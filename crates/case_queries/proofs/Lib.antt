@@ -13,3 +13,4 @@ pub mod MoreLemmas
 pub mod FramesLemmas
 pub mod BuildLemmas
 pub mod StoredLemmas
+pub mod FactLemmas

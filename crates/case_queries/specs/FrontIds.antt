@@ -1,17 +1,20 @@
 -- The build IDs of fronts in an image that is read piece by piece.
-use Rattle.std.specs.Prelude.{◌≡◌, ◌≤◌, ◌<◌, ⊤, ℕ, ◌+◌, List, length, Result, Ok, Err, Vec}
+use Rattle.std.specs.Prelude.{◌≡◌, ◌≤◌, ◌<◌, ⊤, ℕ, ◌+◌, List, length, map, Option, Result, Ok, Err, Vec}
 use Rattle.std.specs.Global.{Global}
+use Rattle.std.specs.Option.{option_map}
 use Rattle.disk_model.specs.declared.disk.Disk as disk
 use Rattle.elf_view.specs.Field.{part}
 use Rattle.address_space.specs.Source.{ExecutableView}
 use Rattle.address_space.specs.Whole.{IsFrontOf}
 use Rattle.build_ids.specs.BuildId.{build_id_of}
+use Rattle.build_replies.specs.Builds.{BuildValue, builds_of}
 use Rattle.build_replies.specs.Choosing.{choice_of}
 use Rattle.build_replies.specs.ChoosingWords.{choice_view}
-use Rattle.build_replies.specs.Compared.{AreIdsOf, id_view}
+use Rattle.build_replies.specs.Compared.{AreRowsOf, build_view, id_view}
 use Rattle.build_replies.specs.PlacesWords.{fronts_in}
 use Rattle.build_replies.specs.declared.choosing.ChosenExecutables.{ChosenExecutables}
 use Rattle.build_replies.specs.declared.compared.ComparedFiles.{ComparedFiles}
+use Rattle.build_replies.specs.declared.ids.BuildAnswer.{BuildAnswer}
 use Rattle.build_replies.specs.declared.ids.FrontId.{FrontId}
 use Rattle.build_replies.specs.declared.places.FrontPlace.{FrontPlace}
 use Rattle.build_replies.specs.declared.places.FrontPlaces.{FrontPlaces}
@@ -60,8 +63,18 @@ abbrev pub ReadsChoice : CaseImage → List Part → FrontPlaces → List Execut
 ReadsChoice o ps fronts stored (Ok c) qs = HasMore o ps qs × IsChoiceAt o qs fronts stored c
 ReadsChoice o ps fronts stored (Err f) qs = ⊤
 
--- all are found of the image that is seen; or why they are not
-abbrev pub FindsIds : {D : Type 0} → disk.Ghosts D → Parts D → CaseImage → ComparedFiles → Result (Vec FrontId Global) WalkFault → Parts D → Type 0
-FindsIds g before o c (Ok v) now = (image : List ℕ) × SeesImage g before o.seq image now × IsFrontOf o.front.now o.size image × AreIdsOf image c v.items
-FindsIds g before o c (Err (Unread f)) now = LooksAt g before o.seq (Err f) now
-FindsIds g before o c (Err OutOfMemory) now = (image : List ℕ) × SeesImage g before o.seq image now × IsFrontOf o.front.now o.size image
+-- what is told of all is found of the image that is seen; or why it is not
+abbrev pub FindsRows : {D : Type 0} → disk.Ghosts D → Parts D → CaseImage → ComparedFiles → Result (Vec BuildAnswer Global) WalkFault → Parts D → Type 0
+FindsRows g before o c (Ok v) now = (image : List ℕ) × SeesImage g before o.seq image now × IsFrontOf o.front.now o.size image × AreRowsOf image c v.items
+FindsRows g before o c (Err (Unread f)) now = LooksAt g before o.seq (Err f) now
+FindsRows g before o c (Err OutOfMemory) now = (image : List ℕ) × SeesImage g before o.seq image now × IsFrontOf o.front.now o.size image
+
+-- what is told, as values
+abbrev pub builds_view : Option (Vec BuildAnswer Global) → Option (List BuildValue)
+builds_view rows = option_map (λ (v : Vec BuildAnswer Global). map build_view v.items) rows
+
+-- the build IDs of the mapped files are found of the image that is seen; or why they are not
+abbrev pub FindsBuilds : {D : Type 0} → disk.Ghosts D → Parts D → CaseImage → List ExecutableView → Result (Option (Vec BuildAnswer Global)) WalkFault → Parts D → Type 0
+FindsBuilds g before o xs (Ok rows) now = (image : List ℕ) × SeesImage g before o.seq image now × IsFrontOf o.front.now o.size image × (builds_of image xs ≡ builds_view rows)
+FindsBuilds g before o xs (Err (Unread f)) now = LooksAt g before o.seq (Err f) now
+FindsBuilds g before o xs (Err OutOfMemory) now = (image : List ℕ) × SeesImage g before o.seq image now × IsFrontOf o.front.now o.size image

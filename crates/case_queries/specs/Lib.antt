@@ -12,6 +12,8 @@ pub mod Walking
 pub mod Asking
 pub mod PieceWords
 pub mod Pieces
+pub mod Unwound
 pub mod FrontIds
+pub mod Facts
 pub mod Finding
 pub mod Stored

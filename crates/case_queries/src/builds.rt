@@ -1,4 +1,4 @@
-// The answer to `builds` of a core that is read piece by piece.
+// The build IDs of the mapped files, and the answer to `builds`, of a core that is read piece by piece.
 ghost use Rattle.std.specs.Prelude.{◌≡◌, ◌+◌, ◌<◌, ◌≤◌, Ok, Some, MatchResult, OnOk, length, map};
 ghost use Rattle.std.specs.Option.{option_map};
 ghost use Rattle.build_replies.specs.Compared.{id_view};
@@ -10,19 +10,18 @@ ghost use Rattle.memory_replies.specs.Memory.{attached_view};
 ghost use Rattle.script_streams.specs.Replies.{TellsOutcome, telling};
 ghost use Rattle.case_queries.specs.Asking.{for_builds};
 ghost use Rattle.case_queries.specs.Finding.{ShowsFound};
-ghost use Rattle.case_queries.specs.FrontIds.{FindsIds, GathersOn, GathersRead, ReadsId};
+ghost use Rattle.case_queries.specs.FrontIds.{FindsBuilds, FindsRows, GathersOn, GathersRead, ReadsId};
 ghost use Rattle.case_queries.specs.Fronts.{HasSize, IsSoundFront, ReadsFront};
 ghost use Rattle.case_queries.specs.Pieces.{SeesMore, SeesPieces};
 ghost use Rattle.case_queries.specs.declared.walk.WalkFault.TheVariants as faults;
 
-use crate::find::tell_no_memory;
 use crate::found::tell_found;
 use crate::pieces::{MOST, lent_pieces, read_more};
 use crate::walk::{CaseImage, WalkFault};
 use crate::window::Part;
 use address_space::Attached;
 use build_ids::build_id_by_front;
-use build_replies::{ComparedFiles, FrontId, FrontPlace, tell_compared};
+use build_replies::{BuildAnswer, ComparedFiles, FrontId, FrontPlace, tell_compared};
 use disk_model::Disk;
 use elf_view::a_sound_front_is_enough;
 use image_replies::CoreImage;
@@ -120,37 +119,65 @@ pub(crate) fn read_id<'a, D: Disk>(
     }
 }
 
-// The build IDs of the fronts of a core's mapped files, one for each name.
-fn read_ids<'a, D: Disk>(
+// What is told of a core's mapped files, one for each name.
+fn read_rows<'a, D: Disk>(
     alloc: Global,
     image: CaseImage<'_>,
     compared: &ComparedFiles<'a>,
     archive: &mut Archive<D>,
-) -> Result<Vec<FrontId<'a>>, WalkFault>
+) -> Result<Vec<BuildAnswer<'a>>, WalkFault>
     requires has { HasSize (state_of archive.old) image.seq image.size }
     requires short { length image.front.now ≤ image.size }
     requires size { compared.now.fronts.size ≡ image.size }
     ensures { (before : Parts D) → ReadsFront D.Disk before image.entry.seq image.entry.front.now archive.old
-        → FindsIds D.Disk before image.entry compared.now result archive.new }
+        → FindsRows D.Disk before image.entry compared.now result archive.new }
 {
     let mut pieces = Vec::new(alloc);
-    let mut ids = Vec::new(alloc);
+    let mut rows = Vec::new(alloc);
     for i in 0..compared.count() {
         let id = read_id(alloc, image, compared.front(i), &mut pieces, archive)?;
-        let Ok(()) = ids.push(id) else {
+        let Ok(()) = rows.push(compared.row(id)) else {
             return Err(WalkFault::OutOfMemory);
         };
     }
-    Ok(ids)
+    Ok(rows)
 }
 
-// Tells the build IDs of the mapped files of a core of which the first bytes are at hand, next to those of the stored executables. Of
-// the rest of the image it reads what tells the IDs, before the first line.
-pub(crate) fn builds_in_core<O: Output, D: Disk>(
+// The build IDs of the mapped files of a core of which the first bytes are at hand, next to those of the stored executables, or `None`
+// where it has no NT_FILE. Of the rest of the image it reads what tells the IDs.
+pub(crate) fn compare_in_core<'a, D: Disk>(
     alloc: Global,
     image: CaseImage<'_>,
-    core: &CoreImage<'_>,
-    attached: &[Attached<'_>],
+    core: &CoreImage<'a>,
+    attached: &[Attached<'a>],
+    archive: &mut Archive<D>,
+) -> Result<Option<Vec<BuildAnswer<'a>>>, WalkFault>
+    requires has { HasSize (state_of archive.old) image.seq image.size }
+    requires short { length image.front.now ≤ image.size }
+    requires front { core_bytes core.now ≡ image.front.now }
+    requires sound { IsSoundFront Core image.front.now }
+    ensures { (before : Parts D) → ReadsFront D.Disk before image.entry.seq image.entry.front.now archive.old
+        → FindsBuilds D.Disk before image.entry (map attached_view attached.now) result archive.new }
+{
+    a_sound_front_is_enough();
+    let Ok(found) = ComparedFiles::of(alloc, core, image.size as u64, attached) else {
+        return Err(WalkFault::OutOfMemory);
+    };
+    let Some(compared) = found else {
+        return Ok(None);
+    };
+    match read_rows(alloc, image, &compared, archive) {
+        Ok(rows) => Ok(Some(rows)),
+        Err(fault) => Err(fault),
+    }
+}
+
+// Tells them. All that is wanted is read before the first line.
+pub(crate) fn builds_in_core<'a, O: Output, D: Disk>(
+    alloc: Global,
+    image: CaseImage<'_>,
+    core: &CoreImage<'a>,
+    attached: &[Attached<'a>],
     reply: &mut Reply<'_, O>,
     archive: &mut Archive<D>,
 ) -> Outcome
@@ -161,16 +188,12 @@ pub(crate) fn builds_in_core<O: Output, D: Disk>(
     ensures { (before : Parts D) → ReadsFront D.Disk before image.entry.seq image.entry.front.now archive.old
         → TellsOutcome (telling O.Output reply.old reply.new) (λ text. ShowsFound D.Disk before image.entry (map attached_view attached.now) for_builds text archive.new) (is_done result) }
 {
-    a_sound_front_is_enough();
-    let Ok(found) = ComparedFiles::of(alloc, core, image.size as u64, attached) else {
-        return tell_no_memory(reply);
-    };
-    let Some(compared) = found else {
-        tell_no(reply, b"Missing");
-        return Outcome::Refused;
-    };
-    match read_ids(alloc, image, &compared, archive) {
-        Ok(ids) => tell_compared(reply, &compared, &ids),
+    match compare_in_core(alloc, image, core, attached, archive) {
+        Ok(Some(rows)) => tell_compared(reply, &rows),
+        Ok(None) => {
+            tell_no(reply, b"Missing");
+            Outcome::Refused
+        }
         Err(fault) => tell_found(reply, Err(fault)),
     }
 }

@@ -32,8 +32,12 @@ pub(crate) struct WantedCase {
     pub(crate) path: Name,
 }
 
-// Reads the stored executables whose names the core's NT_FILE has, in the order of their numbers.
-pub(crate) fn collect_executables<D: Disk>(
+/// Reads the stored executables whose names the core's NT_FILE has, in the order of their numbers.
+///
+/// # Errors
+///
+/// Those of `image` of `Archive`. `OutOfMemory`: there is no memory to hold them.
+pub fn stored_executables<D: Disk>(
     alloc: Global,
     core: &CoreImage<'_>,
     archive: &mut Archive<D>,

@@ -1,10 +1,10 @@
-// The answers to `unwind` and `frame` of a core that is read piece by piece.
+// The frames of a thread, and the answers to `unwind` and `frame`, of a core that is read piece by piece.
 ghost use Rattle.std.specs.Prelude.{◌≡◌, ◌≤◌, ℕ, List, length, map};
 ghost use Rattle.address_space.specs.Source.{ExecutableView};
 ghost use Rattle.address_space.specs.SpaceWords.{core_of};
 ghost use Rattle.build_replies.specs.ChoosingWords.{choice_view};
 ghost use Rattle.elf_view.specs.declared.faults.Want.TheVariants.{Core};
-ghost use Rattle.frame_replies.specs.Walking.{HasFound, IsProcessOf, IsWalkOf, WalksOn, process_by};
+ghost use Rattle.frame_replies.specs.Walking.{IsProcessOf, IsWalkOf, WalksOn, process_by};
 ghost use Rattle.frame_replies.specs.declared.process.UnwoundProcess as processes;
 ghost use Rattle.image_replies.specs.CoreWords.{core_bytes};
 ghost use Rattle.intake.specs.Parts.{Parts, state_of};
@@ -15,9 +15,9 @@ ghost use Rattle.case_queries.specs.Asking.{for_frames, frames_answer};
 ghost use Rattle.case_queries.specs.Finding.{ShowsFound};
 ghost use Rattle.case_queries.specs.Fronts.{HasSize, IsSoundFront, ReadsFront};
 ghost use Rattle.case_queries.specs.Pieces.{BeginsWith, FindsFrames, SeesPieces, WalkedTo};
+ghost use Rattle.case_queries.specs.Unwound.{FindsThread, IsUnwound};
 
 use crate::chosen::choose;
-use crate::find::tell_no_memory;
 use crate::found::tell_found;
 use crate::pieces::{MOST, lent_pieces, read_more};
 use crate::walk::{CaseImage, WalkFault};
@@ -33,6 +33,14 @@ use memory_replies::{Outcome, a_sound_front_names_the_files};
 use script_streams::{Output, Reply, tell_no};
 use std::alloc::Global;
 use unwind::Stop;
+
+// The frames of a thread, all of which are found.
+#[derive(Drop)]
+pub(crate) struct UnwoundThread<'a> {
+    pub(crate) process: UnwoundProcess<'a>,
+    pub(crate) walk: Walk,
+    pub(crate) stop: Stop,
+}
 
 // Goes on with a walk over the first bytes of an image and these pieces.
 fn go_on(
@@ -79,55 +87,86 @@ fn walk_frames<D: Disk>(
     Err(WalkFault::OutOfMemory)
 }
 
-// Tells the frames of a thread, or the registers of the one of that number.
-fn tell_frames<O: Output>(
-    reply: &mut Reply<'_, O>,
-    process: &UnwoundProcess<'_>,
-    walk: &Walk,
-    stop: Stop,
-    frame: Option<u64>,
-) -> Outcome
-    ensures { (image : List ℕ) (executables : List ExecutableView) (thread : ℕ) → IsWalkOf image executables thread process.now walk.now → HasFound walk.now stop
-        → TellsReply (telling O.Output reply.old reply.new) (AnswersWith result (frames_answer image executables thread frame)) }
-{
-    match frame {
-        Some(frame) => tell_walked_frame(reply, walk, frame),
-        None => tell_walked(reply, process, walk, stop),
-    }
-}
-
-// Walks through the frames of a thread with the executables that are chosen, and tells them, or the registers of the one of that number.
-// These pieces of the core's image are read.
-fn tell_chosen<'a, O: Output, D: Disk>(
+// Walks through the frames of a thread with the executables that are chosen. These pieces of the core's image are read.
+fn walk_chosen<'a, D: Disk>(
     alloc: Global,
     image: CaseImage<'_>,
     core: &CoreImage<'a>,
     chosen: ChosenExecutables<'a>,
     begun: Walk,
-    frame: Option<u64>,
     pieces: &mut Vec<Part>,
-    reply: &mut Reply<'_, O>,
     archive: &mut Archive<D>,
-) -> Outcome
+) -> Result<Option<UnwoundThread<'a>>, WalkFault>
     requires has { HasSize (state_of archive.old) image.seq image.size }
     requires front { core_bytes core.now ≡ image.front.now }
     requires some { (b : List ℕ) × BeginsWith image pieces.old.items b }
     ensures { (before : Parts D) (stored : List ExecutableView) (thread : ℕ) → SeesPieces D.Disk before image.entry pieces.old.items archive.old
         → ((b : List ℕ) (process : processes.UnwoundProcess) → BeginsWith image.entry pieces.old.items b → IsProcessOf image.entry.front.now (choice_view chosen.entry) process → IsWalkOf b stored thread process begun)
-        → TellsOutcome (telling O.Output reply.old reply.new) (λ text. ShowsFound D.Disk before image.entry stored (for_frames thread frame) text archive.new) (is_done result) }
+        → FindsThread D.Disk before image.entry stored thread result archive.new }
 {
     let Ok(process) = UnwoundProcess::of(alloc, core, chosen) else {
-        return tell_no_memory(reply);
+        return Err(WalkFault::OutOfMemory);
     };
     let mut walk = begun;
     match walk_frames(alloc, image, &process, &mut walk, pieces, archive) {
-        Ok(stop) => tell_frames(reply, &process, &walk, stop, frame),
-        Err(fault) => tell_found(reply, Err(fault)),
+        Ok(stop) => Ok(Some(UnwoundThread {
+            process,
+            walk,
+            stop,
+        })),
+        Err(fault) => Err(fault),
     }
 }
 
-// Tells the frames of a thread of a core of which the first bytes are at hand, or the registers of the frame of that number. The image is
-// read piece by piece, and all that is wanted before the first line. First it is read which of the executables are used.
+// The frames of a thread of a core of which the first bytes are at hand, or `None` where it has fewer threads. The image is read piece by
+// piece. First it is read which of the executables are used.
+pub(crate) fn unwind_in_core<'a, D: Disk>(
+    alloc: Global,
+    image: CaseImage<'_>,
+    core: &CoreImage<'a>,
+    attached: &[Attached<'a>],
+    thread: u64,
+    archive: &mut Archive<D>,
+) -> Result<Option<UnwoundThread<'a>>, WalkFault>
+    requires has { HasSize (state_of archive.old) image.seq image.size }
+    requires short { length image.front.now ≤ image.size }
+    requires front { core_bytes core.now ≡ image.front.now }
+    requires sound { IsSoundFront Core image.front.now }
+    ensures { (before : Parts D) → ReadsFront D.Disk before image.entry.seq image.entry.front.now archive.old
+        → FindsThread D.Disk before image.entry (map attached_view attached.now) thread result archive.new }
+{
+    a_sound_front_names_the_files();
+    a_sound_front_is_enough();
+    let Ok(fronts) = FrontPlaces::of_core(alloc, core, image.size as u64) else {
+        return Err(WalkFault::OutOfMemory);
+    };
+    let Some(begun) = Walk::begin(alloc, core, thread) else {
+        return Ok(None);
+    };
+    let mut pieces = Vec::new(alloc);
+    match choose(alloc, image, &fronts, attached, &mut pieces, archive) {
+        Ok(chosen) => walk_chosen(alloc, image, core, chosen, begun, &mut pieces, archive),
+        Err(fault) => Err(fault),
+    }
+}
+
+// Tells the frames of a thread, or the registers of the one of that number.
+fn tell_frames<O: Output>(
+    reply: &mut Reply<'_, O>,
+    unwound: &UnwoundThread<'_>,
+    frame: Option<u64>,
+) -> Outcome
+    ensures { (image : List ℕ) (executables : List ExecutableView) (thread : ℕ) → IsUnwound image executables thread unwound.now
+        → TellsReply (telling O.Output reply.old reply.new) (AnswersWith result (frames_answer image executables thread frame)) }
+{
+    match frame {
+        Some(frame) => tell_walked_frame(reply, &unwound.walk, frame),
+        None => tell_walked(reply, &unwound.process, &unwound.walk, unwound.stop),
+    }
+}
+
+// Tells the frames of a thread of a core of which the first bytes are at hand, or the registers of the frame of that number. All that is
+// wanted is read before the first line.
 pub(crate) fn frames_in_core<'a, O: Output, D: Disk>(
     alloc: Global,
     image: CaseImage<'_>,
@@ -145,28 +184,12 @@ pub(crate) fn frames_in_core<'a, O: Output, D: Disk>(
     ensures { (before : Parts D) → ReadsFront D.Disk before image.entry.seq image.entry.front.now archive.old
         → TellsOutcome (telling O.Output reply.old reply.new) (λ text. ShowsFound D.Disk before image.entry (map attached_view attached.now) (for_frames thread frame) text archive.new) (is_done result) }
 {
-    a_sound_front_names_the_files();
-    a_sound_front_is_enough();
-    let Ok(fronts) = FrontPlaces::of_core(alloc, core, image.size as u64) else {
-        return tell_no_memory(reply);
-    };
-    let Some(begun) = Walk::begin(alloc, core, thread) else {
-        tell_no(reply, b"NoThread");
-        return Outcome::Refused;
-    };
-    let mut pieces = Vec::new(alloc);
-    match choose(alloc, image, &fronts, attached, &mut pieces, archive) {
-        Ok(chosen) => tell_chosen(
-            alloc,
-            image,
-            core,
-            chosen,
-            begun,
-            frame,
-            &mut pieces,
-            reply,
-            archive,
-        ),
+    match unwind_in_core(alloc, image, core, attached, thread, archive) {
+        Ok(Some(unwound)) => tell_frames(reply, &unwound, frame),
+        Ok(None) => {
+            tell_no(reply, b"NoThread");
+            Outcome::Refused
+        }
         Err(fault) => tell_found(reply, Err(fault)),
     }
 }

@@ -16,7 +16,7 @@ ghost use Rattle.case_queries.specs.Seeing.{IsKept};
 ghost use Rattle.case_queries.specs.Windows.{IsSeenBy};
 
 use crate::asked::Asked;
-use crate::collect_executables::{StoredExecutable, collect_executables, lent};
+use crate::collect_executables::{StoredExecutable, lent, stored_executables};
 use crate::find::answer_find;
 use crate::front::size_of;
 use crate::kept_image::{Images, kept_if};
@@ -227,7 +227,7 @@ pub(crate) fn collected<D: Disk>(
 {
     match kept {
         Some(executables) => Ok(executables),
-        None => collect_executables(alloc, core, archive),
+        None => stored_executables(alloc, core, archive),
     }
 }
 

@@ -33,12 +33,12 @@ pub(crate) struct Walk<'n> {
     pub(crate) search: MemoryScan<'n>,
 }
 
-// Why a walk stops.
+/// Why a walk through an image stops.
 #[derive(Clone, Copy, Debug)]
-pub(crate) enum WalkFault {
-    // The image can't be read.
+pub enum WalkFault {
+    /// The image can't be read.
     Unread(ArchiveFault),
-    // There is no memory for what was found.
+    /// There is no memory for what was found.
     OutOfMemory,
 }
 

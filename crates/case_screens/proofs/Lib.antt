@@ -2,3 +2,4 @@ pub mod RowLemmas
 pub mod FoundLemmas
 pub mod TextLemmas
 pub mod ThreadLemmas
+pub mod QuoteLemmas

@@ -7,6 +7,7 @@ use Rattle.case_tables.specs.Named.{has_name}
 use Rattle.case_tables.specs.Table.{left_text}
 use Rattle.case_tables.specs.Wanted.{is_same_kind}
 use Rattle.case_screens.specs.Lines.{line_at, reason_in, row_count, word_at}
+use Rattle.case_screens.specs.Quotes.{quoted}
 use Rattle.case_screens.specs.Texts.{label_at, rows_to, refused_line, text_in}
 
 -- the number of the case, if it is an executable
@@ -33,7 +34,7 @@ build_text line = if bytes_eq (word_at line 3) (codes "differs") then codes ", a
 
 abbrev pub stored_text : Option ℕ → List ℕ → List ℕ
 stored_text (Some seq) line = codes "stored as case " ++ (decimal seq ++ build_text line)
-stored_text None line = codes "not stored: corekeep store ARCHIVE FILE --exec " ++ word_at line 0
+stored_text None line = codes "not stored: corekeep store ARCHIVE FILE --exec " ++ quoted (word_at line 0)
 
 -- a mapped file, by its line in the reply to `builds`
 abbrev pub file_row : List Case → List (List ℕ) → ℕ → List ℕ

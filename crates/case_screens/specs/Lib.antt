@@ -9,6 +9,7 @@ pub mod CodeWords
 pub mod Signal
 pub mod Frames
 pub mod Files
+pub mod Quotes
 pub mod Screen
 pub mod Archive
 pub mod Tally

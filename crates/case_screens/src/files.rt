@@ -7,6 +7,7 @@ ghost use Rattle.case_screens.specs.Lines.{texts};
 
 use crate::answer::Answer;
 use crate::lines::{line_at, reason_in, row_count, word_at};
+use crate::quotes::tell_quoted;
 use crate::texts::{tell_label, tell_left, tell_refused, text_in};
 use case_tables::case_of_name;
 use journal_layout::{Entry, Kind};
@@ -53,7 +54,7 @@ fn tell_stored<O: Output>(reply: &mut Reply<'_, O>, number: Option<u32>, line: &
         }
         None => {
             reply.tell(b"not stored: corekeep store ARCHIVE FILE --exec ");
-            reply.tell(word_at(line, 0));
+            tell_quoted(reply, word_at(line, 0));
         }
     }
 }

@@ -235,6 +235,21 @@ abbrev pub length_of : Option (List ℕ) → Option ℕ
 length_of None = None
 length_of (Some word) = number_of word
 
+-- the number that a pair has behind a key
+abbrev pub IsNumberIn : List ℕ → List ℕ → Option ℕ → Type 0
+IsNumberIn key pair None = (value : List ℕ) → pair ≡ key ++ value → number_of value ≡ None
+IsNumberIn key pair (Some n) = (value : List ℕ) × (pair ≡ key ++ value) × (number_of value ≡ Some n)
+
+-- this number, or if there is none what the others have
+abbrev pub IsNumberOr : Option ℕ → Option ℕ → Type 0 → Type 0
+IsNumberOr None found Others = Others
+IsNumberOr (Some n) found Others = found ≡ Some n
+
+-- The number of the first pair that has one behind a key.
+abbrev pub IsNumberAt : List ℕ → List (Bor (List ℕ)) → Option ℕ → Type 0
+IsNumberAt key [] found = found ≡ None
+IsNumberAt key (pair ∷ pairs) found = (number : Option ℕ) × IsNumberIn key pair.now number × IsNumberOr number found (IsNumberAt key pairs found)
+
 -- the first word, unless it has an `=`
 abbrev pub config_of : List (Bor (List ℕ)) → Option (List ℕ)
 config_of [] = None
@@ -261,4 +276,7 @@ pub record Handles (given : GivenHandle) (asked : HandleWords) : Type 0 where
   pub length : asked.length ≡ length_of stated
   -- what states a length, and is no number
   pub faulty : option_copied asked.faulty_length ≡ (if is_some asked.length then None else stated)
+  -- what the process allows its core, and its dump mode
+  pub core_limit : IsNumberAt (codes "limit=") (pairs_beside given.words.now) asked.core_limit
+  pub mode : IsNumberAt (codes "mode=") (pairs_beside given.words.now) asked.mode
   pub is_check : asked.is_check ≡ given.is_check

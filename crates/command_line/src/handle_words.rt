@@ -58,6 +58,8 @@ pub(crate) fn handle_words<'a>(
         left_out,
         length,
         faulty_length: if length.is_none() { stated } else { None },
+        core_limit: number_at(pairs, "limit="),
+        mode: number_at(pairs, "mode="),
         is_check: given.is_check,
     })
 }
@@ -111,6 +113,26 @@ fn length_of(stated: Option<&str>) -> Option<u64>
     ensures { result ≡ spec.length_of (option_copied stated.entry) }
 {
     parse_number(stated?.as_bytes())
+}
+
+// The number of the first pair that has one behind this key, as `begin core` reads it.
+fn number_at(pairs: &[&str], key: &str) -> Option<u64>
+    ensures { spec.IsNumberAt key.now pairs.now result }
+{
+    for pair in pairs {
+        if let Some(number) = number_in(pair, key) {
+            return Some(number);
+        }
+    }
+    None
+}
+
+// The number of a pair behind this key.
+fn number_in(pair: &str, key: &str) -> Option<u64>
+    ensures { spec.IsNumberIn key.now pair.now result }
+{
+    let value = pair.strip_prefix(key)?;
+    parse_number(value.as_bytes())
 }
 
 // The line that begins a core with these pairs, and the pairs that it can't have.

@@ -16,7 +16,7 @@ use command_words::{
     Context, Watched, asked_help, context_of, in_order, line_in_place_of_a_command, tell_help,
     tell_note, words_of,
 };
-use core_handler::{Log, Teller, handle, store_told, tell_lost_words};
+use core_handler::{Log, Teller, handle, store_told, tell_lost_words, write_trouble};
 use diagnostics::{Nobody, Onlooker};
 use inspector_cli::memory_session;
 use intake::Settings;
@@ -210,6 +210,7 @@ fn answer_asked<R: AllocGlobal + Files<File = File> + Clock, I: Read, O: Output,
                     path: log.unwrap_or(""),
                     archive: Some(archive.path),
                 },
+                mode: None,
             };
             store_told(
                 rt, teller, archive, file, request, input, output, note, onlooker,
@@ -279,6 +280,12 @@ fn answer_line<R: AllocGlobal + Files<File = File>, O: Output, W: Onlooker>(
     output: &mut O,
     onlooker: &mut W,
 ) -> Result<(), Failure> {
+    if question
+        .as_ref()
+        .is_some_and(|question| !question.only_looks())
+    {
+        refuse_unwritten(rt, place.path, onlooker)?;
+    }
     let words = line.words(rt.alloc())?;
     match (line.form, question) {
         (Form::Rows, question) => ask_rows(rt, place, &words, question, output, onlooker),
@@ -286,6 +293,19 @@ fn answer_line<R: AllocGlobal + Files<File = File>, O: Output, W: Onlooker>(
         (Form::Reply, Some(question)) => ask(rt, place, question, output, onlooker),
         (Form::Reply, None) => ask_case(rt, place, &words, output, onlooker),
     }
+}
+
+// Refuses to change an archive whose file has more bytes than the process may write, as if a write had failed.
+fn refuse_unwritten<R: AllocGlobal + Files<File = File>, W: Onlooker>(
+    rt: &R,
+    path: &str,
+    onlooker: &mut W,
+) -> Result<(), Failure> {
+    let Some(trouble) = write_trouble(rt, path) else {
+        return Ok(());
+    };
+    onlooker.fail(trouble);
+    Err(Failure::Refused(Refusal::Disk))
 }
 
 // What `extract` is refused is told apart from its output, which is that of an image, also where its words could not be read.
@@ -315,6 +335,7 @@ fn run_file<R: AllocGlobal + Files<File = File>, I: Read, O: Output, W: Onlooker
     onlooker: &mut W,
 ) -> Result<(), Failure> {
     let naming = naming_of(settings)?;
+    refuse_unwritten(rt, place.path, onlooker)?;
     let disk = take_disk(rt, place, Access::Changing)?;
     let mut script = ReadInput::new(input);
     let (ended, disk) = run_over(

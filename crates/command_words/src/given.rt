@@ -12,6 +12,7 @@ ghost use Rattle.command_words.specs.Words.{IsFoundBy, IsRead, IsSaidBy, flag_in
 
 use crate::commands::commands;
 use crate::grammar::matches_of;
+use crate::raw_words::shown_words;
 use crate::tables::CommandWords;
 use clap::error::ErrorKind;
 use clap::{ArgMatches, Error};
@@ -109,7 +110,7 @@ fn read_by<'a>(
             Ok(given) => Ok(given),
             Err(AllocError) => Err(Unread::OutOfMemory),
         },
-        Err(error) => Err(why_unread(alloc, &error)),
+        Err(error) => Err(why_unread(alloc, commands, words, &error)),
     }
 }
 
@@ -137,12 +138,24 @@ fn named_in<'a>(matches: ArgMatches<'a>) -> (&'a str, ArgMatches<'a>)
     }
 }
 
-fn why_unread(alloc: Global, error: &Error) -> Unread
+// Why these words are refused. They are told as words that print.
+fn why_unread(alloc: Global, commands: &[&CommandWords], words: &[String], error: &Error) -> Unread
     ensures { kind_of error.now ≡ kind.OutOfMemory → result ≡ OutOfMemory }
 {
     if error.kind() == ErrorKind::OutOfMemory {
         return Unread::OutOfMemory;
     }
+    let Ok(shown) = shown_words(alloc, words) else {
+        return Unread::OutOfMemory;
+    };
+    match matches_of(alloc, commands, &shown) {
+        Ok(_) => text_of(alloc, error),
+        Err(error) => text_of(alloc, &error),
+    }
+}
+
+// What clap tells people.
+fn text_of(alloc: Global, error: &Error) -> Unread {
     match format!(in alloc; "{error}") {
         Ok(text) if error.use_stderr() => Unread::Wrong(text),
         Ok(text) => Unread::Help(text),

@@ -1,5 +1,5 @@
 // The words of a handler, which loses no core for one that it does not know.
-ghost use Rattle.std.specs.Prelude.{◌≡◌, None, Ok, false};
+ghost use Rattle.std.specs.Prelude.{◌≡◌, ◌≤◌, None, Ok, false, length};
 ghost use Rattle.command_words.specs.Handling.{asks_to_handle};
 
 use std::alloc::{AllocError, Global};
@@ -16,7 +16,8 @@ enum Kind {
 }
 
 /// The words of `handle` in an order in which none is refused: its options, and then, after `--`, the others, those last that are no
-/// option that is known. These are then told and left out. Nothing if the words are not those of `handle`.
+/// option that is known. These are then told and left out. From the first pair on all words are pairs, and stay together: a program may
+/// have the name of an option. Nothing if the words are not those of `handle`.
 ///
 /// # Errors
 ///
@@ -30,17 +31,41 @@ pub fn in_order(alloc: Global, words: &[String]) -> Result<Option<Vec<String>>, 
     if command.as_str() != "handle" {
         return Ok(None);
     }
+    let (front, pairs) = rest.split_at(front_length(rest));
     let mut ordered = Vec::new(alloc);
     ordered.push(command.clone()?)?;
-    push_all(&mut ordered, rest, Kind::Known)?;
+    push_kind(&mut ordered, front, Kind::Known)?;
     ordered.push(String::from_str(alloc, "--")?)?;
-    push_all(&mut ordered, rest, Kind::Plain)?;
-    push_all(&mut ordered, rest, Kind::Unknown)?;
+    push_kind(&mut ordered, front, Kind::Plain)?;
+    push_all(&mut ordered, pairs)?;
+    push_kind(&mut ordered, front, Kind::Unknown)?;
     Ok(Some(ordered))
 }
 
+// How many words stand before the first pair: a word with an `=` that is no option, and no option's value.
+fn front_length(words: &[String]) -> usize
+    ensures { result ≤ length words.now }
+{
+    let mut is_value = false;
+    for (index, word) in words.iter().enumerate() {
+        if !is_value && word.contains('=') && kind_of(word) == Kind::Plain {
+            return index;
+        }
+        is_value = !is_value && kind_of_value(word).is_some();
+    }
+    words.len()
+}
+
+// Adds all of these words.
+fn push_all(ordered: &mut Vec<String>, words: &[String]) -> Result<(), AllocError> {
+    for word in words {
+        ordered.push(word.clone()?)?;
+    }
+    Ok(())
+}
+
 // Adds the words of this kind. A value is of the kind of its option.
-fn push_all(ordered: &mut Vec<String>, words: &[String], wanted: Kind) -> Result<(), AllocError> {
+fn push_kind(ordered: &mut Vec<String>, words: &[String], wanted: Kind) -> Result<(), AllocError> {
     let mut of_option = None;
     for word in words {
         let kind = match of_option {

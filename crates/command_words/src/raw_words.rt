@@ -109,6 +109,28 @@ pub fn push_escaped(line: &mut Vec<u8>, word: &str) -> Result<(), AllocError>
     Ok(())
 }
 
+// Words as they are told: one with a byte outside 0x20 to 0x7e as a script prints it, the others as they are.
+pub(crate) fn shown_words(alloc: Global, words: &[String]) -> Result<Vec<String>, AllocError> {
+    let mut shown = Vec::new(alloc);
+    for word in words {
+        shown.push(shown_word(alloc, word)?)?;
+    }
+    Ok(shown)
+}
+
+fn shown_word(alloc: Global, word: &str) -> Result<String, AllocError> {
+    if word.bytes().all(|byte| (0x20..=0x7e).contains(&byte)) {
+        return String::from_str(alloc, word);
+    }
+    let mut line = Vec::new(alloc);
+    push_escaped(&mut line, word)?;
+    let mut shown = String::new(alloc);
+    for byte in &line {
+        shown.push(char::from(*byte))?;
+    }
+    Ok(shown)
+}
+
 fn push_shown(line: &mut Vec<u8>, character: char) -> Result<(), AllocError>
     ensures { OnOk result (line.new.items ≡ line.old.items ++ flat_map shown_byte (bytes_kept character)) }
 {

@@ -7,7 +7,7 @@ pub(crate) struct Meaning {
 }
 
 // The reasons for which something is refused. Other reasons are fields of an image.
-static MEANINGS: [Meaning; 40] = [
+static MEANINGS: [Meaning; 41] = [
     Meaning {
         reason: b"SpaceFull",
         words: b"the image takes more blocks than are free (corekeep ask ARCHIVE free counts them): delete or retire cases (pinned ones once they are unpinned); if it takes more than the archive has, make that larger (corekeep resize)",
@@ -27,6 +27,10 @@ static MEANINGS: [Meaning; 40] = [
     Meaning {
         reason: b"Burst",
         words: b"as many cores of this program as may be were stored shortly before (burst)",
+    },
+    Meaning {
+        reason: b"Limit",
+        words: b"its process allows a core less than 4,096 bytes (ulimit -c), and obey-limit is set",
     },
     Meaning {
         reason: b"TooLong",

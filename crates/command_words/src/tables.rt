@@ -222,7 +222,7 @@ const HANDLER_PAIRS: Word = Word {
     shown: "WORD",
     takes: Takes::Words(0),
     default: None,
-    help: "the configuration's file (else /etc/corekeep.conf), and then KEY=VALUE as `store --escape` takes them; a pair that is none is told and left out",
+    help: "the configuration's file (else /etc/corekeep.conf), and then KEY=VALUE as `store --escape` takes them; a pair that is none is told and left out; behind the first pair no word is an option",
 };
 
 // The archive of a handler.
@@ -249,7 +249,7 @@ const EXEC: Word = Word {
     shown: "NAME",
     takes: Takes::Text,
     default: None,
-    help: "stores an executable of this name in place of a core",
+    help: "stores an executable of this name in place of a core; a byte of it outside 0x21 to 0x7e, or a backslash, is \\xHH, unless --escape is there",
 };
 
 // Whether the case is kept from retirement.

@@ -30,7 +30,7 @@ static ERRORS: [SystemError; 9] = [
     SystemError {
         number: 27,
         name: b"EFBIG",
-        words: b"the file may not grow so large",
+        words: b"the process may not write so far into a file: ulimit -f",
     },
     SystemError {
         number: 28,

@@ -1,5 +1,5 @@
 -- What the kernel's handler asks for, by its configuration and by the words that the kernel gives it.
-use Rattle.std.specs.Prelude.{◌≡◌, ℕ, ◌-◌, ◌^◌, false, List, Option, None, Some, Result, Ok, Err, codes, if◌then◌else◌}
+use Rattle.std.specs.Prelude.{◌≡◌, ℕ, ◌-◌, ◌^◌, Bool, true, false, ◌&&◌, nat_lt, List, Option, None, Some, Result, Ok, Err, codes, if◌then◌else◌}
 use Rattle.std.specs.Option.{option_copied, unwrap_or}
 use Rattle.arrayvec.specs.ArrayVec.{ArrayVec}
 use Rattle.archive_files.specs.declared.storing.StoreRequest.{StoreRequest}
@@ -15,6 +15,7 @@ use Rattle.retention.specs.declared.Policy.{Policy}
 use Rattle.script_lines.specs.Said.{Said, said}
 use Rattle.stream_names.specs.Commands.{stream_found}
 use Rattle.core_handler.specs.Fronts.{named_by, program_front}
+use Rattle.core_handler.specs.declared.handling.HandleWords.{HandleWords}
 
 -- The time of this age, in seconds since 1970: never before 1970. None, if no age is said, or the time is not known.
 abbrev pub time_before : Option ℕ → Option ℕ → Option ℕ
@@ -92,3 +93,13 @@ AsksBy config begin length template request =
 -- What the handler asks for.
 abbrev pub IsRequested : Config → List ℕ → Option ℕ → StoreRequest → Type 0
 IsRequested config begin length request = AsksBy config begin length (naming_template config (said begin)) request
+
+-- The core is lost for its process's own limit: the configuration obeys such limits, the pattern states it, and it is less than a page.
+abbrev pub is_limited : Config → Option ℕ → Bool
+is_limited config None = false
+is_limited config (Some bytes) = config.obeys_limit && nat_lt bytes 4096
+
+-- What is stored of a core with these words: nothing exactly if it is lost for that limit, and else what the handler asks for.
+abbrev pub IsWanted : Config → HandleWords → Option StoreRequest → Type 0
+IsWanted config words None = is_limited config words.core_limit ≡ true
+IsWanted config words (Some request) = (is_limited config words.core_limit ≡ false) × IsRequested config words.begin.items words.length request

@@ -82,6 +82,7 @@ fn tell_config<O: Output>(reply: &mut Reply<'_, O>, config: &Config<'_>, archive
     tell_flag_line(reply, b"fit ", config.fit);
     tell_flag_line(reply, b"cut ", config.cut);
     tell_burst_line(reply, config.burst);
+    tell_flag_line(reply, b"obey-limit ", config.obeys_limit);
     let template = config.template.unwrap_or(HANDLER_TEMPLATE);
     tell_text_line(reply, b"template ", Some(template));
     tell_flag_line(reply, b"uses-pid ", config.uses_pid);

@@ -104,13 +104,12 @@ fn fault_words(fault: Fault) -> &'static [u8] {
     }
 }
 
-// One line on a fault: the file, the line, and what is wrong.
+// One line on a fault: the file, the line, the key if it is one's, and what is wrong.
 fn fault_line(
     alloc: Global,
     path: &str,
     line: usize,
-    what: &[u8],
-    mark: &[u8],
+    key: Option<&str>,
     words: &[u8],
 ) -> Collected {
     let mut told = Collected::new(alloc);
@@ -121,8 +120,10 @@ fn fault_line(
         reply.tell_decimal(line as u128);
     }
     reply.tell(b": ");
-    reply.tell(what);
-    reply.tell(mark);
+    if let Some(key) = key {
+        reply.tell_text(key.as_bytes());
+        reply.tell(b" ");
+    }
     reply.tell(words);
     let _ = reply.finish();
     told
@@ -131,14 +132,13 @@ fn fault_line(
 // What is wrong with the file as a whole.
 fn line_on(alloc: Global, path: &str, trouble: Trouble) -> Collected {
     match trouble {
-        Trouble::Missing => fault_line(alloc, path, 0, b"", b"", b"there is no such file"),
-        Trouble::Unreadable => fault_line(alloc, path, 0, b"", b"", b"the file could not be read"),
+        Trouble::Missing => fault_line(alloc, path, 0, None, b"there is no such file"),
+        Trouble::Unreadable => fault_line(alloc, path, 0, None, b"the file could not be read"),
         Trouble::NotToml(line) => fault_line(
             alloc,
             path,
             line,
-            b"",
-            b"",
+            None,
             b"the file is no TOML: no line of it holds, not even the archive's name",
         ),
     }
@@ -160,7 +160,7 @@ impl Document {
             if let Some(fault) = entry_fault(key, value) {
                 let line = line_of(&self.text, key);
                 let words = fault_words(fault);
-                faults.push(fault_line(alloc, path, line, key.as_bytes(), b" ", words))?;
+                faults.push(fault_line(alloc, path, line, Some(key), words))?;
             }
         }
         Ok(faults)

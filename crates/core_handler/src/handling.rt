@@ -1,16 +1,18 @@
 // What the kernel's handler does: a core from the input is stored as a configuration says, and the outcome is told to a log.
-ghost use Rattle.std.specs.Prelude.{◌≡◌, IfOk, IfErr, None};
+ghost use Rattle.std.specs.Prelude.{◌≡◌, codes, IfOk, IfErr, None};
 ghost use Rattle.std.specs.Option.{option_copied};
+ghost use Rattle.archive_files.specs.Telling.{IsToldAs};
 ghost use Rattle.archive_files.specs.declared.failures.Refusal.TheVariants.{OutOfMemory};
+ghost use Rattle.script_streams.specs.Replies.{no_reply};
 ghost use Rattle.name_template.specs.Template.{template_fault};
-ghost use Rattle.core_handler.specs.Requesting.{AsksBy, IsRequested, template_of};
+ghost use Rattle.core_handler.specs.Requesting.{AsksBy, IsRequested, IsWanted, template_of};
 
 use crate::checking::check;
 use crate::config_file::{DEFAULT_CONFIG, Document, Trouble, read_document};
 use crate::labels::escaped_label;
 use crate::log::{KERNEL_LOG, Level, Log};
-use crate::outcome_lines::lost_line;
-use crate::requesting::{request_of, seconds_of};
+use crate::outcome_lines::{lost_line, words_of};
+use crate::requesting::{is_limited, request_of, seconds_of};
 use crate::teller::{Teller, store_told};
 use archive_files::{ArchivePath, Collected, Failure, FileWord, Refusal, StoreRequest};
 use arrayvec::ArrayVec;
@@ -51,6 +53,10 @@ pub struct HandleWords<'a> {
     pub length: Option<u64>,
     /// What states its length, and is no number.
     pub faulty_length: Option<&'a str>,
+    /// How many bytes its process allows a core file, the soft limit, if that is stated.
+    pub core_limit: Option<u64>,
+    /// The dump mode of its process, if that is stated.
+    pub mode: Option<u64>,
     /// Nothing is stored, and what holds by the configuration is told.
     pub is_check: bool,
 }
@@ -77,7 +83,8 @@ impl<'a> HandleWords<'a> {
 ///
 /// # Errors
 ///
-/// Those of `store_file` of `archive_files`, and `File` if no archive is named. With `--check` it is `Told` if not all is in order.
+/// Those of `store_told`, and `File` if no archive is named. `Told`, with the reply `no Limit`, if the configuration obeys the limit of the
+/// core's process, and that is less than a page. With `--check` it is `Told` if not all is in order.
 pub fn handle<R: AllocGlobal + Files<File = File> + Clock, I: Read, O: Output, W: Onlooker>(
     rt: &R,
     words: HandleWords<'_>,
@@ -91,6 +98,7 @@ pub fn handle<R: AllocGlobal + Files<File = File> + Clock, I: Read, O: Output, W
     let teller = Teller {
         alloc: rt.alloc(),
         log: log_of(&config, words.archive),
+        mode: words.mode,
     };
     if words.is_check {
         return check(rt, &words, &document, output, note);
@@ -98,15 +106,17 @@ pub fn handle<R: AllocGlobal + Files<File = File> + Clock, I: Read, O: Output, W
     let handler = Handler { config, teller };
     tell_faults(rt, &handler, &words, &document);
     let Some(archive) = config.archive.or(words.archive) else {
-        handler.tell_unnamed(rt, &words);
+        handler.tell_lost(rt, &words, "", b"File", UNNAMED);
         return Err(Failure::Refused(Refusal::File(FileWord::Archive, FileFault::Missing)));
     };
     let place = ArchivePath {
         path: archive,
         waits: !config.no_wait,
     };
-    let request = handler.request(rt, &words)?;
-    handler.store(rt, place, request, input, output, onlooker)
+    match handler.wanted(rt, &words)? {
+        Some(request) => handler.store(rt, place, request, input, output, onlooker),
+        None => handler.refuse_limited(rt, &words, archive, output),
+    }
 }
 
 // Where a configuration has outcomes told, if the words name this archive.
@@ -124,7 +134,7 @@ pub fn tell_lost_words<R: AllocGlobal + Files<File = File>>(rt: &R) {
         archive: None,
     };
     let words = b"the words of handle are refused";
-    let line = lost_line(rt.alloc(), b"", b"", "", b"BadLine", words);
+    let line = lost_line(rt.alloc(), b"", b"", "", b"BadLine", words, None);
     log.tell(rt, rt.alloc(), Level::Error, line.text());
 }
 
@@ -171,15 +181,55 @@ impl<'a> Handler<'a> {
         self.tell(rt, Level::Warning, line.text());
     }
 
-    // Tells that a core is lost since no archive is named.
-    fn tell_unnamed<R: Files<File = File> + Clock>(&self, rt: &R, words: &HandleWords<'_>) {
-        let alloc = self.teller.alloc;
-        let mut name = Collected::new(alloc);
+    // Tells that a core is lost before its archive is opened, for this reason, which means this.
+    fn tell_lost<R: Files<File = File> + Clock>(
+        &self,
+        rt: &R,
+        words: &HandleWords<'_>,
+        archive: &str,
+        reason: &[u8],
+        meaning: &[u8],
+    ) {
+        let mut name = Collected::new(self.teller.alloc);
         if let Ok(request) = self.request(rt, words) {
-            name = request.printed_name(alloc);
+            name = request.printed_name(self.teller.alloc);
         }
-        let line = lost_line(alloc, b"", name.text(), "", b"File", UNNAMED);
-        self.tell(rt, Level::Error, line.text());
+        self.teller
+            .tell_lost(rt, archive, b"", name.text(), reason, meaning);
+    }
+
+    // Refuses a core for the limit of its process.
+    fn refuse_limited<R: Files<File = File> + Clock, O: Output>(
+        &self,
+        rt: &R,
+        words: &HandleWords<'_>,
+        archive: &str,
+        output: &mut O,
+    ) -> Result<(), Failure>
+        ensures told { IsToldAs (O.taken output.old) (O.taken output.new) (O.failures output.old) (O.failures output.new) (no_reply (codes "Limit")) }
+        ensures refused { IfOk result (λ done. ⊥) }
+    {
+        let meaning = words_of(self.teller.alloc, None, b"Limit", None);
+        self.tell_lost(rt, words, archive, b"Limit", meaning.text());
+        let mut reply = Reply::new(output);
+        reply.tell(b"no Limit\n");
+        reply.finish()?;
+        Err(Failure::Told)
+    }
+
+    // What is stored, and by what. Nothing if the core is lost for the limit of its process.
+    fn wanted<R: Files<File = File> + Clock>(
+        &self,
+        rt: &R,
+        words: &HandleWords<'_>,
+    ) -> Result<Option<StoreRequest>, Refusal>
+        ensures asked { IfOk result (IsWanted self.now.config words.now) }
+        ensures refused { IfErr result (λ refusal. refusal ≡ OutOfMemory) }
+    {
+        if is_limited(&self.config, words.core_limit) {
+            return Ok(None);
+        }
+        Ok(Some(self.request(rt, words)?))
     }
 
     // What is stored, and by what. A template or a label that is faulty is told and left out, and so is a name.

@@ -4,6 +4,7 @@
 mod checking;
 mod config_file;
 mod examine;
+mod file_limit;
 mod fronts;
 mod handling;
 mod labels;
@@ -12,6 +13,7 @@ mod outcome_lines;
 mod requesting;
 mod teller;
 
+pub use file_limit::write_trouble;
 pub use handling::{HandleWords, handle, tell_lost_words};
 pub use labels::label_in;
 pub use log::Log;

@@ -1,4 +1,5 @@
 // The log of a handler: one line for each outcome.
+use crate::file_limit::may_grow;
 use archive_files::{Collected, is_same, open_looked};
 use script_streams::Reply;
 use std::alloc::Global;
@@ -58,7 +59,7 @@ fn mark_of(level: Level) -> &'static [u8] {
 }
 
 impl<'a> Log<'a> {
-    // Tells a line, in one write. A log that can't be written changes nothing else.
+    // Tells a line, in one write. A log that can't be written, or may not grow so large, changes nothing else.
     pub(crate) fn tell<R: Files<File = File>>(
         &self,
         rt: &R,
@@ -70,7 +71,10 @@ impl<'a> Log<'a> {
             return;
         }
         let line = self.line(alloc, level, text);
-        if let Ok(mut file) = self.open(rt) {
+        let Ok(mut file) = self.open(rt) else {
+            return;
+        };
+        if may_grow(rt, alloc, &file, line.text().len()) {
             let _ = file.write(line.text());
         }
     }

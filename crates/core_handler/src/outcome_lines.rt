@@ -124,6 +124,16 @@ pub(crate) fn lack_words(
     words
 }
 
+// The dump mode of a process that changed its user or group, or that others may not read (`suid_dumpable`, proc(5)).
+const SAFE_MODE: u64 = 2;
+
+// Adds to a line that the process had this dump mode, if that is told.
+fn tell_mode(reply: &mut Reply<'_, Collected>, mode: Option<u64>) {
+    if mode == Some(SAFE_MODE) {
+        reply.tell(b", mode 2");
+    }
+}
+
 // Adds the numbers of the cases that were dropped to a line, as far as they fit.
 fn tell_dropped(reply: &mut Reply<'_, Collected>, replies: &[u8]) {
     let mut mark: &[u8] = b", dropped ";
@@ -143,6 +153,7 @@ pub(crate) fn stored_line(
     number: &[u8],
     details: &[u8],
     archive: &str,
+    mode: Option<u64>,
 ) -> Collected {
     let mut line = Collected::new(alloc);
     let mut reply = Reply::new(&mut line);
@@ -161,6 +172,7 @@ pub(crate) fn stored_line(
     reply.tell(details);
     reply.tell(b" in ");
     reply.tell_text(archive.as_bytes());
+    tell_mode(&mut reply, mode);
     tell_dropped(&mut reply, replies);
     let _ = reply.finish();
     line
@@ -205,6 +217,7 @@ pub(crate) fn lost_line(
     archive: &str,
     reason: &[u8],
     words: &[u8],
+    mode: Option<u64>,
 ) -> Collected {
     let mut line = Collected::new(alloc);
     let mut reply = Reply::new(&mut line);
@@ -218,6 +231,7 @@ pub(crate) fn lost_line(
         reply.tell(b": ");
         reply.tell(words);
     }
+    tell_mode(&mut reply, mode);
     tell_dropped(&mut reply, replies);
     let _ = reply.finish();
     line

@@ -51,6 +51,19 @@ pub(crate) fn request_of(
     Ok(StoreRequest::of(words, &naming, limit_of(config)))
 }
 
+// The least bytes that a process may allow its core: a page. Linux writes no smaller core into a file.
+const LEAST_CORE: u64 = 4096;
+
+// Whether a core is lost whose process allows it so many bytes, if that is stated.
+pub(crate) fn is_limited(config: &Config<'_>, core_limit: Option<u64>) -> bool
+    ensures { result ≡ spec.is_limited config.now core_limit }
+{
+    match core_limit {
+        Some(bytes) => config.obeys_limit && bytes < LEAST_CORE,
+        None => false,
+    }
+}
+
 // The most bytes of an image.
 fn limit_of(config: &Config<'_>) -> u64
     ensures { result ≡ spec.limit_of config.now }

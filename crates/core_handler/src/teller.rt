@@ -1,8 +1,11 @@
 // What becomes of a case that is stored, told to a log.
 use crate::examine::{Seen, look_at_case};
+use crate::file_limit::write_trouble;
 use crate::log::{Level, Log};
 use crate::outcome_lines::{lack_words, lacks_of, lost_line, outcome_of, stored_line, words_of};
-use archive_files::{ArchivePath, Collected, Failure, Held, StoreRequest, reason_of, store_file};
+use archive_files::{
+    ArchivePath, Collected, Failure, Held, Refusal, StoreRequest, reason_of, store_file,
+};
 use diagnostics::{Onlooker, Trouble};
 use disk_model::FileDisk;
 use script_streams::{Output, Reply, write_whole};
@@ -20,6 +23,8 @@ pub struct Teller<'a> {
     pub alloc: Global,
     /// Where it is told.
     pub log: Log<'a>,
+    /// The dump mode of the process, if it is stated.
+    pub mode: Option<u64>,
 }
 
 /// Stores a file, or the standard input, and tells what became of it. What can't be read of the case goes to a note, too. An onlooker is
@@ -27,7 +32,8 @@ pub struct Teller<'a> {
 ///
 /// # Errors
 ///
-/// Those of `store_file` of `archive_files`, and `WriteFailed` if the replies could not be written.
+/// Those of `store_file` of `archive_files`, and `WriteFailed` if the replies could not be written. `Disk`, before anything is read, if the
+/// process may not write as far as the archive's file goes.
 pub fn store_told<R: AllocGlobal + Files<File = File>, I: Read, O: Output, W: Onlooker>(
     rt: &R,
     teller: Teller<'_>,
@@ -40,6 +46,10 @@ pub fn store_told<R: AllocGlobal + Files<File = File>, I: Read, O: Output, W: On
     onlooker: &mut W,
 ) -> Result<(), Failure> {
     let name = request.printed_name(teller.alloc);
+    if let Some(trouble) = write_trouble(rt, place.path) {
+        onlooker.fail(trouble);
+        return Err(teller.refuse_unwritten(rt, place.path, name.text(), trouble));
+    }
     let has_label = request.has_label();
     let mut reply = Held::new(teller.alloc, output);
     let (ended, disk) = store_file(rt, place, file, request, input, &mut reply, onlooker);
@@ -63,7 +73,8 @@ impl<'a> Teller<'a> {
         self.log.tell(rt, self.alloc, level, text);
     }
 
-    fn tell_lost<R: Files<File = File>>(
+    // Tells that a case is lost, for this reason, which means this.
+    pub(crate) fn tell_lost<R: Files<File = File>>(
         &self,
         rt: &R,
         archive: &str,
@@ -72,8 +83,21 @@ impl<'a> Teller<'a> {
         reason: &[u8],
         words: &[u8],
     ) {
-        let line = lost_line(self.alloc, replies, name, archive, reason, words);
+        let line = lost_line(self.alloc, replies, name, archive, reason, words, self.mode);
         self.tell(rt, Level::Error, line.text());
+    }
+
+    // Tells that a case is lost since a write of the archive would meet this, and what it is refused for: as if it had been made.
+    fn refuse_unwritten<R: Files<File = File>>(
+        &self,
+        rt: &R,
+        archive: &str,
+        name: &[u8],
+        trouble: Trouble,
+    ) -> Failure {
+        let words = words_of(self.alloc, None, b"Disk", Some(trouble));
+        self.tell_lost(rt, archive, b"", name, b"Disk", words.text());
+        Failure::Refused(Refusal::Disk)
     }
 
     // Tells why a case is not stored: as its replies say, or why there are none.
@@ -117,7 +141,14 @@ impl<'a> Teller<'a> {
         let trouble = disk.trouble();
         let (seen, _) = look_at_case(self.alloc, disk, seq);
         let details = details_of(self.alloc, &seen);
-        let line = stored_line(self.alloc, replies, number, details.text(), archive);
+        let line = stored_line(
+            self.alloc,
+            replies,
+            number,
+            details.text(),
+            archive,
+            self.mode,
+        );
         self.tell(rt, Level::Info, line.text());
         self.tell_lacks(rt, replies, has_label, number, trouble, note);
         if let Some(seen) = &seen {

@@ -1,2 +1,3 @@
 mod Replays
+mod Rewriting
 mod Steps

@@ -11,6 +11,7 @@ pub mod Gathering
 pub mod GatheringLaws
 pub mod Gatherings
 pub mod Gathers
+pub mod Holding
 pub mod Keeping
 pub mod MemDisk
 pub mod MomentLaws
@@ -21,4 +22,5 @@ pub mod OverLaws
 pub mod PartLaws
 pub mod PlaceLaws
 pub mod Places
+pub mod RawFiles
 pub mod Anew

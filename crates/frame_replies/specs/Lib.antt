@@ -1,6 +1,7 @@
 pub mod Processes
 pub mod ProcessWords
 pub mod Known
+pub mod FrameValues
 pub mod FrameLines
 pub mod FrameRegisters
 pub mod Shown

@@ -1,8 +1,9 @@
 -- What a walk through the frames of a thread has found is what is told of them.
-use Rattle.std.proofs.Common.{◌≡◌, ℕ, ◌+◌, Bool, cond, List, [], ◌∷◌, ◌++◌, map, Option, None, Ok, Err, refl, sym, ap, subst, ◌∙◌}
+use Rattle.std.proofs.Common.{◌≡◌, ℕ, ◌+◌, Bool, List, [], ◌∷◌, ◌++◌, map, Option, None, Some, Ok, Err, refl, sym, ap, subst, ◌∙◌}
 use Rattle.std.proofs.lemmas.List.{append-nil}
-use Rattle.std.specs.Prelude.{codes, decimal, slice_get}
+use Rattle.std.specs.Prelude.{codes, slice_get}
 use Rattle.std.specs.List.{filter}
+use Rattle.std.specs.Option.{option_map}
 use Rattle.address_space.specs.Source.{ExecutableView, Space}
 use Rattle.address_space.specs.SpaceWords.{attached_view, space_of}
 use Rattle.address_space.specs.Whole.{space_in}
@@ -12,57 +13,73 @@ use Rattle.elf_view.specs.Header.{SegmentView, segments_of}
 use Rattle.image_replies.specs.Lines.{numbered_lines}
 use Rattle.memory_replies.specs.Memory.{is_attached, mapped_files, memory_of}
 use Rattle.memory_replies.specs.NamedList.{named_in}
-use Rattle.memory_replies.specs.Places.{known_among, where_words}
-use Rattle.memory_replies.specs.Words.{hex_word}
-use Rattle.unwind.specs.ByTrampoline.{is_trampoline}
-use Rattle.unwind.specs.Code.{ProcessView, looked_up}
-use Rattle.unwind.specs.Registers.{known, sp}
-use Rattle.unwind.specs.Unwinding.{unwound}
+use Rattle.memory_replies.specs.Places.{known_among}
+use Rattle.unwind.specs.Code.{ProcessView}
+use Rattle.unwind.specs.Unwinding.{unwound, stop_of}
 use Rattle.unwind.specs.declared.faults.Stop.{Stop}
 use Rattle.unwind.specs.declared.frame.Frame.{Frame}
-use Rattle.frame_replies.specs.FrameLines.{frame_line, return_words, stop_line, unwind_answer, unwound_answer, unwound_lines}
+use Rattle.frame_replies.specs.FrameLines.{printed, stop_line, unwind_answer, unwound_answer, unwound_lines, value_line}
 use Rattle.frame_replies.specs.FrameRegisters.{frame_answer, one_frame_answer, registers_of}
-use Rattle.frame_replies.specs.Known.{known_words}
+use Rattle.frame_replies.specs.FrameValues.{FrameValue, ThreadFrames, frame_value, frames_of, thread_frames, value_with}
 use Rattle.frame_replies.specs.ProcessWords.{described_view}
 use Rattle.frame_replies.specs.Processes.{of_thread, process_in, start_of, state_of}
-use Rattle.frame_replies.specs.Walking.{AreMarked, BeginsAt, HasFound, IsProcessOf, IsWalkOf, IsWalked, WalksOn, found, process_by, walked_line}
+use Rattle.frame_replies.specs.Walking.{AreMarked, BeginsAt, HasFound, IsProcessOf, IsWalkOf, IsWalked, WalksOn, found, process_by, walked_line, walked_value}
 use Rattle.frame_replies.specs.declared.process.UnwoundProcess.{UnwoundProcess}
 use Rattle.frame_replies.specs.declared.walk.Walk.{Walk}
 use Rattle.frame_replies.specs.declared.walk.WalkedFrame.{WalkedFrame}
 
--- the line of a frame that was found
-line_same : (space : Space) (named : List ExecutableView) (i : ℕ) (w : WalkedFrame) → w.signal ≡ is_trampoline space w.frame.pc → walked_line space.files named i w ≡ frame_line space named i w.frame
-unfolding walked_line frame_line
-line_same space named i w marked =
-    ap
-    (λ (t : Bool). decimal i ++ (32 ∷ [] ++ (hex_word w.frame.pc ++ (cond t (codes "signal") (where_words space.files named w.frame.pc (looked_up w.frame))
-    ++ (codes " sp " ++ (known_words (known w.frame.registers sp) ++ (return_words i w.frame ++ 10 ∷ [])))))))
-    marked
+-- lines that are printed from values
+numbered_map : {A B : Type 0} → (line : ℕ → B → List ℕ) (value : A → B) (i : ℕ) (xs : List A) → numbered_lines (λ k x. line k (value x)) i xs ≡ numbered_lines line i (map value xs)
+numbered_map line value i [] = refl
+numbered_map line value i (x ∷ xs) = ap (λ (t : List ℕ). line i (value x) ++ t) (numbered_map line value (i + 1) xs)
 
-lines_same : (p : ProcessView) (named : List ExecutableView) (i : ℕ) (ws : List WalkedFrame) → AreMarked p ws → numbered_lines (walked_line p.space.files named) i ws ≡ numbered_lines (frame_line p.space named) i (found ws)
-lines_same p named i [] marked = refl
-lines_same p named i (w ∷ ws) marked =
-    ap (λ (t : List ℕ). t ++ numbered_lines (walked_line p.space.files named) (i + 1) ws) (line_same p.space named i w marked.0)
-    ∙ ap (λ (t : List ℕ). frame_line p.space named i w.frame ++ t) (lines_same p named (i + 1) ws marked.1)
+-- the values of the frames that were found
+values_same : (p : ProcessView) (named : List ExecutableView) (ws : List WalkedFrame) → AreMarked p ws → map (walked_value p.space.files named) ws ≡ map (frame_value p.space named) (found ws)
+values_same p named [] marked = refl
+values_same p named (w ∷ ws) marked =
+    ap (λ (at_signal : Bool). value_with p.space.files named at_signal w.frame ∷ map (walked_value p.space.files named) ws) marked.0
+    ∙ ap (λ (vs : List FrameValue). frame_value p.space named w.frame ∷ vs) (values_same p named ws marked.1)
+
+printed_of : (b : List ℕ) (choice : Choice) (o : Option (List ℕ)) → of_thread (unwound_answer b choice) o ≡ printed (option_map (thread_frames (process_in b choice) (known_among choice.used)) o)
+unfolding unwound_lines
+printed_of b choice None = refl
+printed_of b choice (Some desc) =
+    let p = process_in b choice in
+    ap (λ (ls : List ℕ). Ok (ls ++ stop_line (stop_of p desc))) (numbered_map value_line (frame_value p.space (known_among choice.used)) 0 (unwound p desc))
+
+-- the lines of `unwind` are those of the values
+pub unwind_printed : (b : List ℕ) (xs : List ExecutableView) (t : ℕ) → unwind_answer b xs t ≡ printed (frames_of b xs t)
+unfolding unwind_answer frames_of
+unwind_printed b xs t = printed_of b (choice_for b xs) (state_of b t)
+
+abbrev made : List FrameValue → Stop → Option ThreadFrames
+made frames stop = Some (record { frames = frames; stop = stop })
 
 -- all were found
 all_found : (p : ProcessView) (desc : List ℕ) (w : Walk) (stop : Stop) → IsWalked p desc w → HasFound w stop → unwound p desc ≡ found w.frames.items
 all_found p desc w stop walked ended = walked.frames ∙ ap (λ (fs : List Frame). found w.frames.items ++ fs) (ended p).frames ∙ append-nil (found w.frames.items)
 
 module _ (image : List ℕ) (xs : List ExecutableView) (t : ℕ) (p : UnwoundProcess) (w : Walk) (stop : Stop) (is : IsWalkOf image xs t p w) (ended : HasFound w stop) where
-  -- the lines of the frames that were found are those of the answer
-  pub unwind_told : Ok (numbered_lines (walked_line (space_of p.space).files (named_in p.images)) 0 w.frames.items ++ stop_line stop) ≡ unwind_answer image xs t
-  unfolding unwind_answer unwound_lines
-  unwind_told =
+  -- the values of the frames that were found are those of the thread
+  pub walk_values : made (map (walked_value (space_of p.space).files (named_in p.images)) w.frames.items) stop ≡ frames_of image xs t
+  unfolding frames_of
+  walk_values =
       let choice = choice_for image xs in
       let q = process_in image choice in
       let files : (space_of p.space).files ≡ q.space.files = ap (λ (r : ProcessView). r.space.files) is.process in
-      ap (λ (fs : List FileView). Ok (numbered_lines (walked_line fs (named_in p.images)) 0 w.frames.items ++ stop_line stop)) files
-      ∙ ap (λ (named : List ExecutableView). Ok (numbered_lines (walked_line q.space.files named) 0 w.frames.items ++ stop_line stop)) is.named
-      ∙ ap (λ (ls : List ℕ). Ok (ls ++ stop_line stop)) (lines_same q (known_among choice.used) 0 w.frames.items is.walked.marked)
-      ∙ ap (λ (fs : List Frame). Ok (numbered_lines (frame_line q.space (known_among choice.used)) 0 fs ++ stop_line stop)) (sym (all_found q is.desc w stop is.walked ended))
-      ∙ ap (λ s. Ok (numbered_lines (frame_line q.space (known_among choice.used)) 0 (unwound q is.desc) ++ stop_line s)) (sym (is.walked.stops ∙ (ended q).stop))
-      ∙ sym (ap (of_thread (unwound_answer image choice)) is.state)
+      ap (λ (fs : List FileView). made (map (walked_value fs (named_in p.images)) w.frames.items) stop) files
+      ∙ ap (λ (named : List ExecutableView). made (map (walked_value q.space.files named) w.frames.items) stop) is.named
+      ∙ ap (λ (vs : List FrameValue). made vs stop) (values_same q (known_among choice.used) w.frames.items is.walked.marked)
+      ∙ ap (λ (fs : List Frame). made (map (frame_value q.space (known_among choice.used)) fs) stop) (sym (all_found q is.desc w stop is.walked ended))
+      ∙ ap (λ s. made (map (frame_value q.space (known_among choice.used)) (unwound q is.desc)) s) (sym (is.walked.stops ∙ (ended q).stop))
+      ∙ sym (ap (option_map (thread_frames q (known_among choice.used))) is.state)
+
+  -- and their lines are those of the answer
+  pub unwind_told : Ok (numbered_lines (walked_line (space_of p.space).files (named_in p.images)) 0 w.frames.items ++ stop_line stop) ≡ unwind_answer image xs t
+  unwind_told =
+      ap (λ (ls : List ℕ). Ok (ls ++ stop_line stop)) (numbered_map value_line (walked_value (space_of p.space).files (named_in p.images)) 0 w.frames.items)
+      ∙ ap printed walk_values
+      ∙ sym (unwind_printed image xs t)
 
   -- so are the registers of one of them
   pub frame_told : (i : ℕ) (o : Option Frame) → o ≡ slice_get (found w.frames.items) i → registers_of o ≡ frame_answer image xs t i

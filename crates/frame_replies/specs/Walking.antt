@@ -1,5 +1,5 @@
 -- A walk through the frames of a thread of which not all bytes are at hand.
-use Rattle.std.specs.Prelude.{◌≡◌, ◌<◌, ⊤, ℕ, List, ◌++◌, map, filter, Option, None, Some, Result, Ok, Err, if◌then◌else◌, codes, [], ◌∷◌, decimal}
+use Rattle.std.specs.Prelude.{◌≡◌, ◌<◌, ⊤, ℕ, List, ◌++◌, map, filter, Option, None, Some, Result, Ok, Err}
 use Rattle.std.specs.List.{AllByRecursion}
 use Rattle.address_space.specs.Source.{ExecutableView}
 use Rattle.build_replies.specs.Choosing.{Choice, choice_for}
@@ -8,19 +8,17 @@ use Rattle.address_space.specs.Whole.{space_in}
 use Rattle.core_notes.specs.FileList.{FileView}
 use Rattle.memory_replies.specs.Memory.{is_attached, memory_of}
 use Rattle.memory_replies.specs.NamedList.{named_in}
-use Rattle.memory_replies.specs.Places.{known_among, where_words}
-use Rattle.memory_replies.specs.Words.{hex_word}
+use Rattle.memory_replies.specs.Places.{known_among}
 use Rattle.seen_memory.specs.Seen.{IsWantedBy}
 use Rattle.seen_memory.specs.declared.part.Part.{Part}
 use Rattle.unwind.specs.ByTrampoline.{is_trampoline}
-use Rattle.unwind.specs.Code.{ProcessView, looked_up}
+use Rattle.unwind.specs.Code.{ProcessView}
 use Rattle.unwind.specs.FrameWords.{HaveEnded, frames_left, most_left, stop_left}
-use Rattle.unwind.specs.Registers.{sp, known}
 use Rattle.unwind.specs.Unwinding.{unwound, stop_of}
 use Rattle.unwind.specs.declared.faults.Stop.{Stop}
 use Rattle.unwind.specs.declared.frame.Frame.{Frame}
-use Rattle.frame_replies.specs.FrameLines.{return_words}
-use Rattle.frame_replies.specs.Known.{known_words}
+use Rattle.frame_replies.specs.FrameLines.{value_line}
+use Rattle.frame_replies.specs.FrameValues.{FrameValue, value_with}
 use Rattle.frame_replies.specs.ProcessWords.{described_view}
 use Rattle.frame_replies.specs.Processes.{process_in, start_of, state_of}
 use Rattle.frame_replies.specs.declared.process.UnwoundProcess.{UnwoundProcess}
@@ -95,12 +93,10 @@ StepsOn front size parts old (Ok (Some stop)) new = HasFound new stop
 StepsOn front size parts old (Err (Unread u)) new = IsWantedBy front size parts u
 StepsOn front size parts old (Err OutOfMemory) new = ⊤
 
--- WHERE of a frame that was found
-abbrev pub walked_where : List FileView → List ExecutableView → WalkedFrame → List ℕ
-walked_where files named w = if w.signal then codes "signal" else where_words files named w.frame.pc (looked_up w.frame)
+-- a frame that was found as a value
+abbrev pub walked_value : List FileView → List ExecutableView → WalkedFrame → FrameValue
+walked_value files named w = value_with files named w.signal w.frame
 
 -- `I PC WHERE sp h` of it
-unfoldable pub walked_line : List FileView → List ExecutableView → ℕ → WalkedFrame → List ℕ
-walked_line files named i w =
-    decimal i ++ (32 ∷ [] ++ (hex_word w.frame.pc ++ (walked_where files named w
-    ++ (codes " sp " ++ (known_words (known w.frame.registers sp) ++ (return_words i w.frame ++ 10 ∷ []))))))
+abbrev pub walked_line : List FileView → List ExecutableView → ℕ → WalkedFrame → List ℕ
+walked_line files named i w = value_line i (walked_value files named w)

@@ -8,85 +8,57 @@ ghost use Rattle.image_replies.specs.Lines.{numbered_lines};
 ghost use Rattle.memory_replies.specs.Answers.{AnswersWith};
 ghost use Rattle.memory_replies.specs.Memory.{attached_view};
 ghost use Rattle.memory_replies.specs.NamedList.{named_in};
-ghost use Rattle.unwind.specs.Code.{looked_up as looked_up_in};
 ghost use Rattle.frame_replies.specs.FrameLines as spec;
+ghost use Rattle.frame_replies.specs.FrameValues.{frame_view};
 ghost use Rattle.frame_replies.specs.Walking as walks;
 
 use crate::known::tell_known;
 use crate::process::UnwoundProcess;
 use crate::refused::tell_no_memory;
 use crate::stops::tell_stop;
+use crate::values::FrameAnswer;
 use crate::walk::{Walk, WalkedFrame};
-use address_space::{AddressSpace, Attached};
+use address_space::Attached;
 use image_replies::CoreImage;
-use memory_replies::{Outcome, SymbolizedExecutables, tell_hex_word, tell_where};
+use memory_replies::{Outcome, tell_hex_word, tell_place};
 use script_streams::{Output, Reply, tell_no, tell_ok};
 use std::alloc::Global;
-use unwind::columns::{RA, SP};
-use unwind::{Frame, Stop};
+use unwind::Stop;
 
-/// The address that is looked up for a frame: its pc if execution was there, else the one before it.
-fn looked_up(frame: &Frame) -> Option<u64>
-    ensures { result ≡ looked_up_in frame.now }
+/// Tells where a frame is: `signal` at the code to which a signal handler returns, else `NAME+h` by the symbols of the executable that is
+/// attached for the mapped file, or `?`.
+pub fn tell_frame_place<O: Output>(reply: &mut Reply<'_, O>, frame: &FrameAnswer<'_>)
+    ensures { TellsText (telling O.Output reply.old reply.new) (spec.place_text (frame_view frame.now)) }
 {
-    if frame.exact {
-        Some(frame.pc)
-    } else {
-        frame.pc.checked_sub(1)
-    }
-}
-
-/// Tells where a frame is.
-fn tell_frame_where<O: Output>(
-    reply: &mut Reply<'_, O>,
-    space: &AddressSpace<'_>,
-    images: &SymbolizedExecutables<'_>,
-    walked: &WalkedFrame,
-)
-    ensures { TellsText (telling O.Output reply.old reply.new)
-        (walks.walked_where (space_of space.now).files (named_in images.now) walked.now) }
-{
-    if walked.signal {
+    if frame.signal {
         reply.tell(b"signal");
     } else {
-        tell_where(
-            reply,
-            space,
-            images,
-            walked.frame.pc,
-            looked_up(&walked.frame),
-        );
+        tell_place(reply, frame.function);
     }
 }
 
 /// Tells what is known of the return address register, after frame 0.
-fn tell_return<O: Output>(reply: &mut Reply<'_, O>, index: u64, frame: &Frame)
-    ensures { TellsText (telling O.Output reply.old reply.new) (spec.return_words index frame.now) }
+fn tell_return<O: Output>(reply: &mut Reply<'_, O>, index: u64, frame: &FrameAnswer<'_>)
+    ensures { TellsText (telling O.Output reply.old reply.new) (spec.return_words index (frame_view frame.now)) }
 {
     if index == 0 {
         reply.tell(b" ra ");
-        tell_known(reply, frame.register(RA));
+        tell_known(reply, frame.returns);
     }
 }
 
 /// Tells the line of a frame.
-#[tactic(auto, unfolding(crate::specs::Walking::walked_line))]
-fn tell_line<O: Output>(
-    reply: &mut Reply<'_, O>,
-    process: &UnwoundProcess<'_>,
-    index: u64,
-    walked: &WalkedFrame,
-)
-    ensures { TellsText (telling O.Output reply.old reply.new)
-        (walks.walked_line (space_of process.now.space).files (named_in process.now.images) index walked.now) }
+#[tactic(auto, unfolding(crate::specs::FrameLines::value_line))]
+fn tell_line<O: Output>(reply: &mut Reply<'_, O>, index: u64, frame: &FrameAnswer<'_>)
+    ensures { TellsText (telling O.Output reply.old reply.new) (spec.value_line index (frame_view frame.now)) }
 {
     reply.tell_decimal(u128::from(index));
     reply.tell(b" ");
-    tell_hex_word(reply, walked.frame.pc);
-    tell_frame_where(reply, &process.space, &process.images, walked);
+    tell_hex_word(reply, frame.pc);
+    tell_frame_place(reply, frame);
     reply.tell(b" sp ");
-    tell_known(reply, walked.frame.register(SP));
-    tell_return(reply, index, &walked.frame);
+    tell_known(reply, frame.stack);
+    tell_return(reply, index, frame);
     reply.tell(b"\n");
 }
 
@@ -100,7 +72,7 @@ fn tell_lines<O: Output>(
         (numbered_lines (walks.walked_line (space_of process.now.space).files (named_in process.now.images)) 0 frames.now) }
 {
     for (index, walked) in frames.iter().enumerate() {
-        tell_line(reply, process, index as u64, walked);
+        tell_line(reply, index as u64, &process.frame(walked));
     }
 }
 

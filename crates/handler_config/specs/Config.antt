@@ -5,7 +5,7 @@ use Rattle.toml.specs.Data.{Data}
 use Rattle.handler_config.specs.Keys.{key_word}
 use Rattle.handler_config.specs.Values.{text_at, natural_at, age_at, burst_at, flag_at}
 use Rattle.handler_config.specs.declared.config.Config.{Config}
-use Rattle.handler_config.specs.declared.keys.Key.TheVariants.{Archive, Keep, Bytes, Before, Limit, Fit, Cut, Burst, Template, UsesPid, NoWait, Label, Log}
+use Rattle.handler_config.specs.declared.keys.Key.TheVariants.{Archive, Keep, Bytes, Before, Limit, Fit, Cut, Burst, ObeyLimit, Template, UsesPid, NoWait, Label, Log}
 
 pub record Says (document : Data) (c : Config) : Type 0 where
   pub archive : option_copied c.archive ≡ text_at (key_word Archive) document
@@ -16,6 +16,7 @@ pub record Says (document : Data) (c : Config) : Type 0 where
   pub fit : c.fit ≡ flag_at (key_word Fit) document
   pub cut : c.cut ≡ flag_at (key_word Cut) document
   pub burst : c.burst ≡ burst_at (key_word Burst) document
+  pub obeys_limit : c.obeys_limit ≡ flag_at (key_word ObeyLimit) document
   pub template : option_copied c.template ≡ text_at (key_word Template) document
   pub uses_pid : c.uses_pid ≡ flag_at (key_word UsesPid) document
   pub no_wait : c.no_wait ≡ flag_at (key_word NoWait) document

@@ -4,7 +4,7 @@ use Rattle.std.specs.Str.{bytes_eq}
 use Rattle.toml.specs.Data.{Data, as_str, as_bool}
 use Rattle.handler_config.specs.Values.{natural_in, age_in, burst_in}
 use Rattle.handler_config.specs.declared.keys.Key.{Key}
-use Rattle.handler_config.specs.declared.keys.Key.TheVariants.{Archive, Keep, Bytes, Before, Limit, Fit, Cut, Burst, Template, UsesPid, NoWait, Label, Log}
+use Rattle.handler_config.specs.declared.keys.Key.TheVariants.{Archive, Keep, Bytes, Before, Limit, Fit, Cut, Burst, ObeyLimit, Template, UsesPid, NoWait, Label, Log}
 use Rattle.handler_config.specs.declared.keys.Fault.{Fault}
 use Rattle.handler_config.specs.declared.keys.Fault.TheVariants.{Unknown, NotText, NotNumber, NotFlag, NotAge, NotBurst}
 
@@ -18,6 +18,7 @@ key_word Limit = codes "limit"
 key_word Fit = codes "fit"
 key_word Cut = codes "cut"
 key_word Burst = codes "burst"
+key_word ObeyLimit = codes "obey-limit"
 key_word Template = codes "template"
 key_word UsesPid = codes "uses-pid"
 key_word NoWait = codes "no-wait"
@@ -38,12 +39,13 @@ key_of word =
     else (if is_word_of word Fit then Some Fit
     else (if is_word_of word Cut then Some Cut
     else (if is_word_of word Burst then Some Burst
+    else (if is_word_of word ObeyLimit then Some ObeyLimit
     else (if is_word_of word Template then Some Template
     else (if is_word_of word UsesPid then Some UsesPid
     else (if is_word_of word NoWait then Some NoWait
     else (if is_word_of word Label then Some Label
     else (if is_word_of word Log then Some Log
-    else None))))))))))))
+    else None)))))))))))))
 
 -- a value that is missing is this fault
 abbrev pub unless : Fault → Bool → Option Fault
@@ -62,6 +64,7 @@ value_fault Limit d = unless_there NotNumber (natural_in d)
 value_fault Fit d = unless_there NotFlag (as_bool d)
 value_fault Cut d = unless_there NotFlag (as_bool d)
 value_fault Burst d = unless_there NotBurst (burst_in d)
+value_fault ObeyLimit d = unless_there NotFlag (as_bool d)
 value_fault Template d = unless_there NotText (as_str d)
 value_fault UsesPid d = unless_there NotFlag (as_bool d)
 value_fault NoWait d = unless_there NotFlag (as_bool d)

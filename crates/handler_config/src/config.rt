@@ -33,6 +33,8 @@ pub struct Config<'t> {
     pub cut: bool,
     /// How many cores of one program are stored in how many seconds.
     pub burst: Option<Burst>,
+    /// A core whose process allows it less than a page is lost.
+    pub obeys_limit: bool,
     /// How cores are named, a template of core(5).
     pub template: Option<&'t str>,
     /// Names get a dot and the process if their template has no `%p`.
@@ -59,6 +61,7 @@ impl<'t> Config<'t> {
             fit: flag_at(document, "fit"),
             cut: flag_at(document, "cut"),
             burst: burst_at(document, "burst"),
+            obeys_limit: flag_at(document, "obey-limit"),
             template: text_at(document, "template"),
             uses_pid: flag_at(document, "uses-pid"),
             no_wait: flag_at(document, "no-wait"),

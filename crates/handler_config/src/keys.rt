@@ -25,6 +25,8 @@ pub enum Key {
     Cut,
     /// How many cores of one program are stored in how many seconds: a table of two numbers.
     Burst,
+    /// A core whose process allows it less than a page is lost: true or false.
+    ObeyLimit,
     /// How cores are named, a template of core(5): a text.
     Template,
     /// Names get a dot and the process if their template has no `%p`: true or false.
@@ -67,6 +69,7 @@ fn key_of(word: &str) -> Option<Key>
         "fit" => Some(Key::Fit),
         "cut" => Some(Key::Cut),
         "burst" => Some(Key::Burst),
+        "obey-limit" => Some(Key::ObeyLimit),
         "template" => Some(Key::Template),
         "uses-pid" => Some(Key::UsesPid),
         "no-wait" => Some(Key::NoWait),
@@ -99,7 +102,7 @@ pub fn entry_fault(word: &str, value: &Value) -> Option<Fault>
         }
         Key::Before => unless_there(Fault::NotAge, age_in(value).is_some()),
         Key::Burst => unless_there(Fault::NotBurst, burst_in(value).is_some()),
-        Key::Fit | Key::Cut | Key::UsesPid | Key::NoWait => {
+        Key::Fit | Key::Cut | Key::ObeyLimit | Key::UsesPid | Key::NoWait => {
             unless_there(Fault::NotFlag, value.as_bool().is_some())
         }
     }

@@ -115,7 +115,7 @@ pub fn what_is_closed_is_found<D: Disk>()
 
 /// A process that ends without a stop of the machine, after a disk fault too, leaves nothing that a stop could not have left:
 /// what the next one reads is one of the lists that a crash then could leave, since what it builds on is made durable first
-/// (`FileDisk::write_again`). So what the laws say of stops holds of it.
+/// (`RawFile::write_again`). So what the laws say of stops holds of it.
 pub fn a_reopening_is_a_stop<D: Disk>()
     ensures { AReopeningIsAStop D.Disk }
 {}

@@ -27,7 +27,7 @@ pub use file_names::FileNames;
 pub use frames::tell_bt;
 pub use laws::{a_sound_front_names_the_files, a_sound_front_shows_the_mappings};
 pub use maps::tell_maps;
-pub use named::tell_where;
+pub use named::{Location, place_of, tell_place};
 pub use outcome::Outcome;
 pub use search::tell_find;
 pub use stack::{has_frames, stack_range};

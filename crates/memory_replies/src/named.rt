@@ -16,7 +16,7 @@ use symbols::vaddr_of_offset;
 
 /// A place in a function.
 #[derive(Clone, Copy, Debug)]
-pub(crate) struct Location<'a> {
+pub struct Location<'a> {
     /// The function's name.
     pub name: &'a [u8],
     /// How many bytes it is after the function's value.
@@ -51,7 +51,7 @@ fn place_at<'a>(
 
 /// The function at the address that is looked up for a pc, if one is.
 #[tactic(auto, unfolding(crate::specs::Places::place_of))]
-fn place_of<'a>(
+pub fn place_of<'a>(
     space: &AddressSpace<'_>,
     images: &SymbolizedExecutables<'a>,
     pc: u64,
@@ -66,7 +66,7 @@ fn place_of<'a>(
 }
 
 /// Tells a place in a function, `NAME+h`, or `?` where it is not known.
-fn tell_place<O: Output>(reply: &mut Reply<'_, O>, place: Option<Location<'_>>)
+pub fn tell_place<O: Output>(reply: &mut Reply<'_, O>, place: Option<Location<'_>>)
     ensures { TellsText (telling O.Output reply.old reply.new)
         (spec.place_words (option_map place_view place.entry)) }
 {
@@ -82,7 +82,7 @@ fn tell_place<O: Output>(reply: &mut Reply<'_, O>, place: Option<Location<'_>>)
 
 /// Tells where a pc is: `NAME+h`, how far it is after the value of the function at the address that is looked up for it; or `?`, if
 /// no address is looked up or its function is not known.
-pub fn tell_where<O: Output>(
+pub(crate) fn tell_where<O: Output>(
     reply: &mut Reply<'_, O>,
     space: &AddressSpace<'_>,
     images: &SymbolizedExecutables<'_>,

@@ -1,39 +1,36 @@
 // A file of the operating system that other processes change. Nothing is proved of its bytes: no contract can say what a file holds.
-ghost use Rattle.std.specs.Prelude.{◌≡◌, ◌^◌, ◌<◌, [], false, IfOk};
+ghost use Rattle.std.specs.Prelude.{◌≡◌, ◌^◌, ◌<◌, [], true, false, is_ok, None, Some, OnOk, IsOkUnless};
 ghost use Rattle.std.proofs.lemmas.Bool.{false≢true};
+ghost use Rattle.disk_model.specs.Calls.{read};
+ghost use Rattle.disk_model.specs.declared.held_facts.Hold.TheVariants.{Shared};
 
 use crate::lockless::look_lockless;
 use crate::shared::{LookFault, SharedDisk};
-use disk_model::{DiskFault, FileFault};
+use disk_model::{DiskFault, FileFault, HeldFile, Hold};
 use journal_looks::WatchedDisk;
 use std::alloc::Global;
-use std::fs::{File, TryLockError};
-use std::os::unix::fs::FileExt;
 
-/// A file that other processes change under its advisory lock (flock(2)), of the length that it had when it was opened. A look shares
-/// the lock with others that look, as long as one read takes. If another has it alone, the look takes none (`look_lockless`). Only if
-/// that one changes the journal all the time does the look wait. What else is proved over a shared disk holds of it where the file
+/// A regular file that other processes change under its advisory lock (flock(2)), of the length that it had when it was looked at. A look
+/// shares the lock with others that look, as long as one read takes. If another has it alone, the look takes none (`look_lockless`). Only
+/// if that one changes the journal all the time does the look wait. What else is proved over a shared disk holds of it where the file
 /// system gives by each read bytes that the file had meanwhile, and where whoever changes the file has its lock.
 #[derive(Drop)]
-pub struct SharedFile {
-    file: File,
+pub struct SharedFile<F: HeldFile> {
+    file: F,
     length: u64,
     waits: bool,
     ghost small: { length < 2 ^ 64 },
+    ghost free: { (F.facts file).lock ≡ None },
 }
 
-impl SharedFile {
-    /// A file that is open for reading. Looks that have to wait for its lock do, or answer `Busy`. A folder is refused as `Folder`, and what is no
-    /// regular file as `Special`.
-    pub fn new(file: File, waits: bool) -> Result<SharedFile, FileFault> {
-        let metadata = file.metadata().map_err(|_| FileFault::Length)?;
-        if metadata.is_dir() {
-            return Err(FileFault::Folder);
-        }
-        if !metadata.is_file() {
-            return Err(FileFault::Special);
-        }
-        let length = metadata.len();
+impl<F: HeldFile + Drop> SharedFile<F> {
+    /// A file that is open for reading. Looks that have to wait for its lock do, or answer `Busy`. A folder is refused as `Folder`, and
+    /// what is no regular file as `Special`.
+    pub fn new(file: F, waits: bool) -> Result<SharedFile<F>, FileFault>
+        requires free { (F.facts file).lock ≡ None }
+    {
+        let mut file = file;
+        let length = file.look_at_kind()?;
         Ok(SharedFile {
             file,
             length,
@@ -42,39 +39,35 @@ impl SharedFile {
     }
 
     /// The file.
-    pub fn file(&self) -> &File {
+    pub fn file(&self) -> &F {
         &self.file
-    }
-
-    // Takes the lock that those share who look, unless another has it alone.
-    fn has_locked(&self) -> Result<bool, LookFault> {
-        match self.file.try_lock_shared() {
-            Ok(()) => Ok(true),
-            Err(TryLockError::WouldBlock) => Ok(false),
-            Err(TryLockError::Error(_)) => Err(LookFault::Lock),
-        }
-    }
-
-    // Waits for that lock.
-    fn wait(&self) -> Result<(), LookFault> {
-        if !self.waits {
-            return Err(LookFault::Busy);
-        }
-        self.file.lock_shared().map_err(|_| LookFault::Lock)
-    }
-
-    // Reads the first bytes under the lock, and lets it go.
-    fn read_locked(&self, into: &mut [u8]) -> Result<(), LookFault> {
-        let read = self.file.read_exact_at(into, 0);
-        let freed = self.file.unlock();
-        if read.is_err() {
-            return Err(LookFault::Read);
-        }
-        freed.map_err(|_| LookFault::Lock)
     }
 }
 
-impl WatchedDisk for SharedFile {
+impl<F: HeldFile> SharedFile<F> {
+    // Takes the lock that those share who look, reads the first bytes, and lets the lock go.
+    fn look_locked(&mut self, waits: bool, into: &mut [u8]) -> Result<(), LookFault>
+        ensures size { self.new.length ≡ self.old.length }
+        ensures locked { OnOk result ((held : F) × ((F.facts held).lock ≡ Some Shared) × F.made held (read 0 true into.new) held) }
+    {
+        match self.file.lock(Hold::Shared, waits) {
+            Ok(()) => {}
+            Err(FileFault::Busy) => return Err(LookFault::Busy),
+            Err(_) => return Err(LookFault::Lock),
+        }
+        let read = self.file.peek(into, 0);
+        let freed = self.file.unlock();
+        let Ok(()) = read else {
+            return Err(LookFault::Read);
+        };
+        let Ok(()) = freed else {
+            return Err(LookFault::Lock);
+        };
+        Ok(())
+    }
+}
+
+impl<F: HeldFile> WatchedDisk for SharedFile<F> {
     ghost size = { λ f. f.length };
 
     ghost is_honest = { λ f. false };
@@ -100,7 +93,7 @@ impl WatchedDisk for SharedFile {
     }
 }
 
-impl SharedDisk for SharedFile {
+impl<F: HeldFile> SharedDisk for SharedFile<F> {
     ghost size = { λ f. f.length };
 
     ghost is_honest = { λ f. false };
@@ -121,20 +114,24 @@ impl SharedDisk for SharedFile {
         self.length
     }
 
-    fn read_between(&self, at: u64, into: &mut [u8]) -> Result<(), DiskFault> {
-        match self.file.read_exact_at(into, at) {
+    fn read_between(&self, at: u64, into: &mut [u8]) -> Result<(), DiskFault>
+        ensures kind { IsOkUnless result DiskFault.Read }
+        ensures made { F.made self.now.file (read at (is_ok result) into.new) self.now.file }
+    {
+        match self.file.peek(into, at) {
             Ok(()) => Ok(()),
             Err(_) => Err(DiskFault::Read),
         }
     }
 
     fn look(&mut self, alloc: Global, into: &mut [u8]) -> Result<(), LookFault> {
-        if !self.has_locked()? {
-            if look_lockless(alloc, self, into)? {
-                return Ok(());
-            }
-            self.wait()?;
+        match self.look_locked(false, into) {
+            Err(LookFault::Busy) => {}
+            ended => return ended,
         }
-        self.read_locked(into)
+        if look_lockless(alloc, self, into)? {
+            return Ok(());
+        }
+        self.look_locked(self.waits, into)
     }
 }

@@ -1,6 +1,6 @@
 -- A file that did not take another's place, and was let go.
 use Rattle.std.proofs.Common.{◌≡◌, true, Err, rules}
-use Rattle.disk_model.specs.declared.file_disk.FileFault.{FileFault}
+use Rattle.disk_model.specs.declared.file_fault.FileFault.{FileFault}
 use Rattle.whole_files.specs.declared.facts.FileFacts.{FileFacts}
 use Rattle.whole_files.specs.declared.faults.NameFault.{NameFault}
 use Rattle.whole_files.specs.declared.faults.NameFault.TheVariants.{Unnamed, Exchanged, Named}

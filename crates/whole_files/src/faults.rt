@@ -1,6 +1,6 @@
 // Why a file has not got its name.
 ghost use Rattle.std.specs.Prelude.{◌≡◌};
-ghost use Rattle.disk_model.specs.declared.file_disk.FileFault.{FileFault};
+ghost use Rattle.disk_model.specs.declared.file_fault.FileFault.{FileFault};
 ghost use Rattle.whole_files.specs.declared.faults.NameFault.TheVariants as name_faults;
 
 use disk_model::FileFault;

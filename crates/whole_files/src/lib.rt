@@ -11,7 +11,7 @@ mod part_file;
 
 pub use facts::{FileFacts, Looks};
 pub use faults::NameFault;
-pub use making::{begin, clear, clear_part, make, take_lock};
+pub use making::{begin, clear, clear_part, make};
 pub use names::{folder_of, is_named, is_same, open_looked};
 pub use naming::{give_name, remove, take_place};
 pub use new_file::{Linked, NewFile};

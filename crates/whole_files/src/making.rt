@@ -1,11 +1,10 @@
 // A file is made under PATH.part.
-ghost use Rattle.std.specs.Prelude.{◌≡◌, false, is_ok, OnOk};
-ghost use Rattle.whole_files.specs.Calls.{just_made, locked_if};
+ghost use Rattle.std.specs.Prelude.{◌≡◌, false, OnOk};
+ghost use Rattle.whole_files.specs.Calls.{just_made};
 ghost use Rattle.whole_files.specs.Whole.{IsMade};
 
 use crate::new_file::NewFile;
 use disk_model::FileFault;
-use std::fs::TryLockError;
 use std::io;
 use std::io::ErrorKind;
 
@@ -47,22 +46,11 @@ fn if_there<T>(asked: io::Result<T>) -> Result<Option<T>, FileFault> {
 
 // Removes the file that is open, unless another process has it, or has removed it and made another one.
 fn remove_left<P: NewFile>(file: &mut P) -> Result<(), FileFault> {
-    take_lock(file)?;
+    file.try_lock()?;
     if file.is_at_part() {
         file.remove_part()?;
     }
     Ok(())
-}
-
-/// Takes the lock of the file that is open, and never waits.
-pub fn take_lock<P: NewFile>(file: &mut P) -> Result<(), FileFault>
-    ensures facts { P.facts file.new ≡ locked_if (is_ok result) (P.facts file.old) }
-{
-    match file.try_lock() {
-        Ok(()) => Ok(()),
-        Err(TryLockError::WouldBlock) => Err(FileFault::Busy),
-        Err(TryLockError::Error(_)) => Err(FileFault::Lock),
-    }
 }
 
 /// Makes an empty file under PATH.part, for its owner alone. Nothing that is there is opened, and no link followed.

@@ -6,7 +6,7 @@ ghost use Rattle.whole_files.specs.declared.facts.FileFacts.{FileFacts};
 use crate::facts::FileFacts;
 use disk_model::{DiskFault, FileDisk, FileFault};
 use std::alloc::Global;
-use std::fs::{File, Metadata, TryLockError};
+use std::fs::{File, Metadata};
 use std::io;
 
 /// What came of giving a file a second name.
@@ -45,8 +45,8 @@ pub trait NewFile {
     fn own_alone(&mut self) -> io::Result<()>
         ensures facts { facts self.new ≡ written (facts self.old) };
 
-    /// Takes its lock, unless another process has it.
-    fn try_lock(&mut self) -> Result<(), TryLockError>
+    /// Takes its lock alone, and never waits. Answers `Busy` if another process has it, and `Lock` if files have no locks there.
+    fn try_lock(&mut self) -> Result<(), FileFault>
         ensures facts { facts self.new ≡ locked_if (is_ok result) (facts self.old) };
 
     /// Gives it this length.

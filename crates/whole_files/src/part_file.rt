@@ -1,13 +1,14 @@
 // A file of the operating system that is made. No clause says what a call of the system does: so this file has to be read. Each method
 // makes one call, or looks at one name, and notes what is known then.
 ghost use Rattle.std.specs.Prelude.{◌≡◌, ◌++◌, IfOk, codes, string_bytes};
+ghost use Rattle.whole_files.specs.Part.{lock_of, alone_if};
 
 use crate::facts::{FileFacts, Looks};
 use crate::names::{folder_of, is_same, open_looked};
 use crate::new_file::{Linked, NewFile};
-use disk_model::{Disk, DiskFault, FileDisk, FileFault};
+use disk_model::{Disk, DiskFault, FileDisk, FileFault, HeldFile, Hold, OpenFile, RawFile};
 use std::alloc::{AllocError, Global};
-use std::fs::{File, Metadata, Permissions, TryLockError};
+use std::fs::{File, Metadata, Permissions};
 use std::io::ErrorKind;
 use std::os::unix::fs::{MetadataExt, OpenOptionsExt, PermissionsExt, fchown};
 use std::rt::Files;
@@ -49,8 +50,9 @@ pub struct PartFile<'a, R: Files<File = File>> {
     rt: &'a R,
     path: String,
     part: String,
-    file: Option<File>,
+    file: Option<OpenFile>,
     facts: FileFacts,
+    ghost held: { lock_of file ≡ alone_if facts.is_locked },
 }
 
 impl<'a, R: Files<File = File>> PartFile<'a, R> {
@@ -72,7 +74,7 @@ impl<'a, R: Files<File = File>> PartFile<'a, R> {
 
     fn file(&self) -> io::Result<&File> {
         match &self.file {
-            Some(file) => Ok(file),
+            Some(file) => Ok(file.file()),
             None => Err(io::Error::from(ErrorKind::NotFound)),
         }
     }
@@ -80,7 +82,7 @@ impl<'a, R: Files<File = File>> PartFile<'a, R> {
     // Whether a path names the file.
     fn is_at(&self, path: &str) -> bool {
         match &self.file {
-            Some(file) => names(self.rt, path, file),
+            Some(file) => names(self.rt, path, file.file()),
             None => false,
         }
     }
@@ -110,7 +112,7 @@ impl<'a, R: Files<File = File>> NewFile for PartFile<'a, R> {
 
     fn open_left(&mut self, looked: &Metadata) -> io::Result<()> {
         let file = open_looked(self.rt, self.part.as_str(), looked)?;
-        self.file = Some(file);
+        self.file = Some(OpenFile::new(file));
         self.facts = OPENED;
         Ok(())
     }
@@ -122,7 +124,7 @@ impl<'a, R: Files<File = File>> NewFile for PartFile<'a, R> {
             .create_new(true)
             .mode(OWNER_ALONE)
             .open(self.rt, self.part.as_str())?;
-        self.file = Some(file);
+        self.file = Some(OpenFile::new(file));
         self.facts = OPENED;
         self.facts.is_made = true;
         Ok(())
@@ -135,12 +137,15 @@ impl<'a, R: Files<File = File>> NewFile for PartFile<'a, R> {
             .set_permissions(Permissions::from_mode(OWNER_ALONE))
     }
 
-    fn try_lock(&mut self) -> Result<(), TryLockError> {
-        let locked = match &self.file {
-            Some(file) => file.try_lock(),
-            None => Err(TryLockError::WouldBlock),
-        };
+    fn try_lock(&mut self) -> Result<(), FileFault> {
         self.facts.looks = NO_LOOKS;
+        if self.facts.is_locked {
+            return Ok(());
+        }
+        let Some(file) = &mut self.file else {
+            return Err(FileFault::Busy);
+        };
+        let locked = file.lock(Hold::Alone, false);
         self.facts.is_locked = locked.is_ok();
         locked
     }
@@ -165,7 +170,11 @@ impl<'a, R: Files<File = File>> NewFile for PartFile<'a, R> {
     fn disk(&mut self, alloc: Global) -> Result<FileDisk, FileFault> {
         self.facts.looks = NO_LOOKS;
         self.facts.is_synced = false;
-        FileDisk::from_locked(alloc, self.file()?.try_clone()?)
+        let Some(file) = &self.file else {
+            return Err(FileFault::Missing);
+        };
+        let raw = RawFile::settled(file.try_clone()?)?;
+        Ok(FileDisk::from_locked(alloc, raw)?)
     }
 
     fn sync(&mut self) -> io::Result<()> {

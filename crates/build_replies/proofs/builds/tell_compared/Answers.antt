@@ -1,8 +1,10 @@
+use Rattle.std.proofs.Common.{ap, sym, ◌∙◌}
 use Rattle.script_streams.specs.TellLaws.{tells_then}
-use Rattle.build_replies.specs.ComparedLaws.{found_answer}
+use Rattle.build_replies.specs.Builds.{printed}
+use Rattle.build_replies.specs.ComparedLaws.{builds_printed}
 use Rattle.build_replies.proofs.AnswerLemmas.{shown}
 use Rattle.build_replies.proofs.builds.tell_compared.Goals as goal
 
 pub returns : goal.returns
-returns g c front image size xs begins notes found are =
-    (_, shown _ _ (found_answer front image size xs c.args.compared.now c.args.ids.now begins notes found are), tells_then c.tell_lines.ensures c.tell_ok.ensures)
+returns g c image xs is =
+    (_, shown _ _ (sym (builds_printed image xs ∙ ap printed is)), tells_then c.tell_lines.ensures c.tell_ok.ensures)

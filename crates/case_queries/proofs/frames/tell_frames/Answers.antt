@@ -4,11 +4,11 @@ use Rattle.case_queries.specs.Asking.{frames_answer}
 use Rattle.case_queries.proofs.frames.tell_frames.Goals as goal
 
 pub returns-in-Some : goal.returns-in-Some
-returns-in-Some g c image xs thread is ended =
-    let told = c.tell_walked_frame.ensures image xs thread c.args.process.now c.args.stop is ended in
+returns-in-Some g c image xs thread is =
+    let told = c.tell_walked_frame.ensures image xs thread c.args.unwound.now.process c.args.unwound.now.stop is.0 is.1 in
     (told.0, subst (λ o. AnswersWith c.tell_walked_frame.result (frames_answer image xs thread o) told.0) (sym c.in-Some.is) told.1, told.2)
 
 pub returns-in-None : goal.returns-in-None
-returns-in-None g c image xs thread is ended =
-    let told = c.tell_walked.ensures image xs thread is ended in
+returns-in-None g c image xs thread is =
+    let told = c.tell_walked.ensures image xs thread is.0 is.1 in
     (told.0, subst (λ o. AnswersWith c.tell_walked.result (frames_answer image xs thread o) told.0) (sym c.in-None.is) told.1, told.2)

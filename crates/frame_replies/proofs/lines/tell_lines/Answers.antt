@@ -1,6 +1,8 @@
-use Rattle.std.proofs.Common.{arith}
+use Rattle.std.proofs.Common.{ap, arith}
 use Rattle.address_space.specs.SpaceWords.{space_of}
 use Rattle.memory_replies.specs.NamedList.{named_in}
+use Rattle.script_streams.specs.TellLaws.{tells_as}
+use Rattle.frame_replies.specs.FrameLines.{value_line}
 use Rattle.frame_replies.specs.Walking.{walked_line}
 use Rattle.frame_replies.proofs.TellLemmas.{up_to_start, up_to_then, up_to_end}
 use Rattle.frame_replies.proofs.LineLemmas.{line_left, none_left}
@@ -11,7 +13,7 @@ loop-index-init g c = up_to_start
 
 pub loop-index-preserved : goal.loop-index-preserved
 loop-index-preserved g c =
-    up_to_then (line_left (walked_line (space_of c.args.process.now.space).files (named_in c.args.process.now.images)) c.args.frames.now c.loop-index.index _ (omega arith)) c.loop-index.invariant c.tell_line.ensures
+    up_to_then (line_left (walked_line (space_of c.args.process.now.space).files (named_in c.args.process.now.images)) c.args.frames.now c.loop-index.index _ (omega arith)) c.loop-index.invariant (tells_as (ap (value_line c.loop-index.index) c.frame.ensures) c.tell_line.ensures)
 
 pub returns : goal.returns
 returns g c =

@@ -1,0 +1,16 @@
+-- The printed texts that a shell hands over as they are.
+use Rattle.std.specs.Prelude.{ℕ, ◌==◌, List, [], ◌∷◌, ◌++◌, if◌then◌else◌}
+use Rattle.std.specs.List.{flat_map}
+use Rattle.script_words.specs.Printing.{escape}
+
+-- how a byte of a printed text stands between single quotes: the quote itself as its escape
+abbrev pub quoted_byte : ℕ → List ℕ
+quoted_byte c = if c == 39 then escape c else c ∷ []
+
+-- what stands between the quotes: all that a shell hands over, since no quote is among it
+abbrev pub between_quotes : List ℕ → List ℕ
+between_quotes word = flat_map quoted_byte word
+
+-- a printed text in single quotes
+abbrev pub quoted : List ℕ → List ℕ
+quoted word = 39 ∷ (between_quotes word ++ 39 ∷ [])
