@@ -246,7 +246,7 @@ static int sync_pages(int file, int is_lost) {
     return is_lost ? -1 : 0;
 }
 
-/* Whether a file is one of /proc, which has no length: the limits of the process, without which none is known. */
+/* Whether a file is one of /proc, which has no length: that of the limits of the process. Its reads are counted by themselves. */
 static int is_of_proc(int file) {
     struct stat about;
     return fstat(file, &about) == 0 && S_ISREG(about.st_mode) && about.st_size == 0;
@@ -254,7 +254,7 @@ static int is_of_proc(int file) {
 
 ssize_t read(int file, void *into, size_t size) {
     REAL(read_type, "read");
-    int met = !is_of_proc(file) && is_met("read");
+    int met = is_met(is_of_proc(file) ? "limits" : "read");
     if (file == 0 && most_read && size > most_read)
         size = most_read;
     if (!met)

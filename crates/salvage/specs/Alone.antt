@@ -80,17 +80,17 @@ between bytes start end = part bytes start (end - start)
 abbrev pub ReadsAt : ℕ → List ℕ → ℕ → ℕ → ℕ → Type 0
 ReadsAt blocks bytes end place size = Reads blocks (between bytes place end) size
 
--- this place is right behind the header of a half, or right behind a record that reads
+-- this place follows the header of a half, or a record that reads
 abbrev pub IsBegin : ℕ → List ℕ → ℕ → ℕ → ℕ → Type 0
 IsBegin blocks bytes start end place = (place ≡ start + 32) ⊎ ((r : ℕ) × (size : ℕ) × ReadsAt blocks bytes end r size × (place ≡ r + size))
 
--- this place is right behind the header of a half, or right behind a record that reads and begins at such a place
+-- this place follows the header of a half, or a record that reads and begins at such a place
 abbrev pub IsRowEnd : ℕ → List ℕ → ℕ → ℕ → ℕ → Type 0
 IsRowEnd blocks bytes start end place =
     (place ≡ start + 32) ⊎ ((r : ℕ) × (size : ℕ) × ReadsAt blocks bytes end r size × (place ≡ r + size) × IsBegin blocks bytes start end r)
 
--- The records of a half end at this place or before it: right behind its header, or behind two records in a row that read, or behind one that
--- is the first of the half, is a gate that is closed.
+-- The records of a half end at this place or before it: there is a closed gate that follows the header, the first record, or two records in a
+-- row that read.
 pub record IsPast (blocks : ℕ) (bytes : List ℕ) (start end place : ℕ) : Type 0 where
   pub gate : ℕ
   pub before : gate ≤ place

@@ -470,9 +470,9 @@ impl Scan {
         }
     }
 
-    /// Reads the records of a half, unless its gate is closed. The first begins behind the header, and the next one behind each that
-    /// reads. If none reads there, it may begin 16 bytes on. The end of the half ends them. So does a closed gate right behind the header,
-    /// the first record, or two in a row: within a faulty record, one of 16 bytes may seem to stand.
+    /// Reads the records of a half if its gate is not closed. The first begins behind the header, and the next one behind each that
+    /// reads. If none reads there, it may begin 16 bytes on. The end of the half ends them. A closed gate does too, if it follows the
+    /// header, the first record or two in a row: within a faulty record, one of 16 bytes may seem to stand.
     pub(crate) fn read_half(
         &mut self,
         alloc: Global,
