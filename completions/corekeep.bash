@@ -33,8 +33,8 @@ _corekeep() {
     case ${COMP_WORDS[1]} in
     format) options="--half --data --sparse --layout --quiet --help" ;;
     run) options="--no-wait $session --help" ;;
-    store) options="--exec --pin --label --escape --keep --bytes --before --fit --cut --length --log --no-wait --quiet $session --help" ;;
-    handle) options="--check --archive --length --help" ;;
+    store) options="--exec --pin --label --escape --keep --bytes --before --fit --fair --cut --length --log --no-wait --quiet $session --help" ;;
+    handle) options="--check --flush --archive --length --help" ;;
     list) options="--json --kind --name --pid --signal --since --until --label --pinned --last --no-wait --help" ;;
     info) options="--threads --json --no-wait --help" ;;
     ask) options="--text --plain --json --no-wait --help" ;;

@@ -1,3 +1,4 @@
 pub mod MakeLemmas
+pub mod MadeLemmas
 pub mod HeldLemmas
 pub mod AskLemmas

@@ -1,6 +1,7 @@
 pub mod Asking
 pub mod Checks
 pub mod Copying
+pub mod FileSystems
 pub mod Holding
 pub mod Locks
 pub mod Look

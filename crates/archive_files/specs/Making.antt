@@ -1,5 +1,5 @@
 -- Archives that are made on a disk.
-use Rattle.std.specs.Prelude.{ℕ, Bool, true, false, List, [], Result, Ok, Err, IsTrue}
+use Rattle.std.specs.Prelude.{◌≡◌, ℕ, Bool, true, false, List, [], Result, Ok, Err, IsTrue}
 use Rattle.disk_model.specs.Moments.{IsSettled}
 use Rattle.disk_model.specs.declared.disk.Disk as disk
 use Rattle.intake.specs.Durable.{Durable, StandsFor}
@@ -22,3 +22,12 @@ IsFresh g shape true after = StandsFor (g.seen after) nothing_yet × ((c : List 
 abbrev pub MakesArchive : {D : Type 0} → disk.Ghosts D → Shape → Bool → D → Result (Unit {0}) Refusal → D → Type 0
 MakesArchive g shape keeps_labels before (Ok u) after = IsTrue (g.is_honest before) → IsFresh g shape keeps_labels after
 MakesArchive g shape keeps_labels before (Err refusal) after = Unit {0}
+
+-- these bytes are an archive with no case
+abbrev pub HaveNoCase : List ℕ → Type 0
+HaveNoCase bytes = (x : Durable) × StandsFor bytes x × (x.cases ≡ [])
+
+-- Where it is told that an archive is made, all that a stop may leave from then on opens as an archive with no case, if the disk is honest.
+abbrev pub WhatIsMadeLasts : {D : Type 0} → disk.Ghosts D → Type 0
+WhatIsMadeLasts {D} g =
+    (shape : Shape) (keeps_labels : Bool) (before after : D) → IsTrue (g.is_honest before) → MakesArchive g shape keeps_labels before (Ok tt) after → (c : List ℕ) → g.may_leave after c → HaveNoCase c

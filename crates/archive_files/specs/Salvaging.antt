@@ -1,5 +1,5 @@
 -- The cases of an archive whose opening is refused, copied onto a new disk, and how that is told.
-use Rattle.std.specs.Prelude.{◌≡◌, ◌⊎◌, ℕ, Bool, true, false, List, Option, Some, Result, Ok, Err, IsTrue}
+use Rattle.std.specs.Prelude.{◌≡◌, ◌⊎◌, ℕ, Bool, true, false, List, Some, Result, Ok, Err, IsTrue}
 use Rattle.archive_care.specs.declared.copying.CopyWish.{CopyWish}
 use Rattle.archive_care.specs.declared.faults.CopyFault.{CopyFault}
 use Rattle.disk_model.specs.declared.disk.Disk as disk

@@ -1,5 +1,5 @@
 // Archives, made, and taken from their files.
-ghost use Rattle.std.specs.Prelude.{◌≡◌, ◌+◌, ◌*◌, ◌≤◌, true, false, Ok, IfOk, IsTrue, OnErr, OnOk};
+ghost use Rattle.std.specs.Prelude.{◌≡◌, ◌+◌, ◌*◌, ◌≤◌, true, false, is_ok, Ok, IfOk, IsTrue, OnErr, OnOk};
 ghost use Rattle.case_journal.specs.Settling.{SettlesGates};
 ghost use Rattle.case_journal.specs.Viewing.{OnlyReads};
 ghost use Rattle.journal_layout.specs.Standing.{Standing};
@@ -19,10 +19,11 @@ use diagnostics::Onlooker;
 use disk_model::{Disk, FileDisk, FileFault, HeldFile, Hold, OpenFile, RawFile};
 use journal_layout::{OpenFault, Shape};
 use std::alloc::Global;
-use std::fs;
 use std::fs::{File, Metadata};
 use std::os::unix::fs::FileExt;
 use std::rt::Files;
+use std::time::{Clock, Duration};
+use std::{fs, thread};
 use whole_files::{
     NameFault, NewFile, PartFile, clear, give_name, is_named, is_same, make, remove,
 };
@@ -36,6 +37,14 @@ pub enum Access {
 
 // How often a file is opened anew that is no longer the one of its path.
 pub(crate) const MOST_TRIES: u32 = 1_000_000;
+
+/// What a command does while another process has the archive's lock, as an onlooker is told it.
+pub const WAITING: &str = "waits for the archive's lock";
+
+// How often a lock is asked for before it is waited for, and the milliseconds between.
+const LOCK_TRIES: u32 = 110;
+
+const TRY_MILLIS: u64 = 10;
 
 // The bytes of a block, and the most blocks of a half of a journal.
 const BLOCK: u64 = 4096;
@@ -213,22 +222,24 @@ pub fn tell_trouble<W: Onlooker>(disk: &FileDisk, onlooker: &mut W) {
 }
 
 /// Takes the disk of an archive in a file. This alone waits: for the file's lock, as long as another process has it, or, of
-/// what only looks, as long as another changes the archive.
-pub fn take_disk<R: AllocGlobal + Files<File = File>>(
+/// what only looks, as long as another changes the archive. An onlooker is told that it waits.
+pub fn take_disk<R: AllocGlobal + Files<File = File> + Clock, W: Onlooker>(
     rt: &R,
     place: ArchivePath<'_>,
     access: Access,
+    onlooker: &mut W,
 ) -> Result<FileDisk, Refusal> {
-    let taken = disk_of(rt, place, access);
+    let taken = disk_of(rt, place, access, onlooker);
     taken.map_err(|fault| Refusal::File(FileWord::Archive, fault))
 }
 
-fn disk_of<R: AllocGlobal + Files<File = File>>(
+fn disk_of<R: AllocGlobal + Files<File = File> + Clock, W: Onlooker>(
     rt: &R,
     place: ArchivePath<'_>,
     access: Access,
+    onlooker: &mut W,
 ) -> Result<FileDisk, FileFault> {
-    let file = take_file(rt, place, access)?;
+    let file = take_file(rt, place, access, onlooker)?;
     match access {
         Access::Looking => Ok(FileDisk::from_shared(RawFile::settled(file)?)),
         Access::Changing => disk_to_change(rt.alloc(), file),
@@ -296,22 +307,66 @@ fn front_of<D: Disk>(disk: &mut D) -> Result<u64, FileFault>
 
 // Opens the file and takes its lock. Opening a pipe could wait for ever, so what is no regular file is refused before. While
 // it waited, another file may have been put in its place: then it begins again.
-pub(crate) fn take_file<R: Files<File = File>>(
+pub(crate) fn take_file<R: Files<File = File> + Clock, W: Onlooker>(
     rt: &R,
     place: ArchivePath<'_>,
     access: Access,
+    onlooker: &mut W,
 ) -> Result<OpenFile, FileFault>
     ensures locked { IfOk result (λ f. ⟦<OpenFile as HeldFile>⟧.facts f ≡ locked_if true (hold_of access) just_opened) }
 {
     for _ in 0..MOST_TRIES {
         look_at_file(rt, place.path)?;
         let mut file = OpenFile::new(open_file(rt, place.path, access)?);
-        file.lock(hold_of(access), place.waits)?;
+        take_lock(rt, &mut file, hold_of(access), place.waits, onlooker)?;
         if is_named(rt, place.path, file.file())? {
             return Ok(file);
         }
     }
     Err(FileFault::Busy)
+}
+
+// Takes the lock of a file. If another process has it, it is asked for again for a second, so that whoever looks on is told of the wait, and
+// then it is waited for.
+fn take_lock<R: Clock, W: Onlooker>(
+    rt: &R,
+    file: &mut OpenFile,
+    hold: Hold,
+    waits: bool,
+    onlooker: &mut W,
+) -> Result<(), FileFault>
+    requires opened { ⟦<OpenFile as HeldFile>⟧.facts file.old ≡ just_opened }
+    ensures facts { ⟦<OpenFile as HeldFile>⟧.facts file.new ≡ locked_if (is_ok result) hold just_opened }
+{
+    match file.lock(hold, false) {
+        Err(FileFault::Busy) if waits => {
+            onlooker.begin(WAITING, None);
+            let taken = await_lock(rt, file, hold, onlooker);
+            onlooker.end();
+            taken
+        }
+        answered => answered,
+    }
+}
+
+fn await_lock<R: Clock, W: Onlooker>(
+    rt: &R,
+    file: &mut OpenFile,
+    hold: Hold,
+    onlooker: &mut W,
+) -> Result<(), FileFault>
+    requires opened { ⟦<OpenFile as HeldFile>⟧.facts file.old ≡ just_opened }
+    ensures facts { ⟦<OpenFile as HeldFile>⟧.facts file.new ≡ locked_if (is_ok result) hold just_opened }
+{
+    for _ in 0..LOCK_TRIES {
+        thread::sleep(rt, Duration::from_millis(TRY_MILLIS));
+        onlooker.advance(0);
+        match file.lock(hold, false) {
+            Err(FileFault::Busy) => {}
+            answered => return answered,
+        }
+    }
+    file.lock(hold, true)
 }
 
 // Refuses a path that names neither a regular file nor a folder, which is refused once it is open.

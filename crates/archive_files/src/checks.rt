@@ -16,24 +16,25 @@ use script_streams::{Output, Reply};
 use std::alloc::Global;
 use std::fs::File;
 use std::rt::Files;
+use std::time::Clock;
 
 /// Tells what the archive in a file holds and that it is sound, or where it is damaged. An archive that opens, but with a damaged gate
 /// that may hide records, is not sound. The file's lock is shared meanwhile with others that only look. With `sees_images` each image is
 /// read too.
-pub fn check<R: AllocGlobal + Files<File = File>, O: Output, W: Onlooker>(
+pub fn check<R: AllocGlobal + Files<File = File> + Clock, O: Output, W: Onlooker>(
     rt: &R,
     place: ArchivePath<'_>,
     sees_images: bool,
     output: &mut O,
     onlooker: &mut W,
 ) -> Result<(), Failure> {
-    let taken = take_disk(rt, place, Access::Looking);
+    let taken = take_disk(rt, place, Access::Looking, onlooker);
     let mut reply = Held::new(rt.alloc(), output);
     let (checked, disk) = check_taken(rt.alloc(), taken, sees_images, &mut reply);
     if let Some(disk) = &disk {
         tell_trouble(disk, onlooker);
     }
-    if let (Ok(()), Some(fault)) = (&checked, fault_found(rt, place)) {
+    if let (Ok(()), Some(fault)) = (&checked, fault_found(rt, place, onlooker)) {
         drop(reply);
         return Err(tell_hidden(fault, output));
     }

@@ -23,6 +23,7 @@ use std::fs;
 use std::fs::File;
 use std::os::unix::fs::MetadataExt;
 use std::rt::Files;
+use std::time::Clock;
 use whole_files::{NewFile, PartFile, clear, clear_part, folder_of, give_name, take_place};
 
 /// What is asked of a copy of an archive.
@@ -52,14 +53,14 @@ struct Copied {
 
 /// Copies the archive in a file into a new file, which has its name only once it is whole and durable: until then it is called
 /// NEW.part. The archive's lock is shared meanwhile with others that only look.
-pub fn copy_archive_file<R: AllocGlobal + Files<File = File>, W: Onlooker>(
+pub fn copy_archive_file<R: AllocGlobal + Files<File = File> + Clock, W: Onlooker>(
     rt: &R,
     place: ArchivePath<'_>,
     new: &str,
     wanted: CopyWords,
     onlooker: &mut W,
 ) -> Result<(), Refusal> {
-    let from = take_disk(rt, place, Access::Looking)?;
+    let from = take_disk(rt, place, Access::Looking, onlooker)?;
     let mut file = PartFile::new(rt.alloc(), rt, new)?;
     copy_named(rt.alloc(), from, &mut file, wanted, onlooker)
 }
@@ -85,7 +86,7 @@ fn copy_named<'a, R: Files<File = File>, W: Onlooker>(
 /// Copies the archive in a file into a file in the same folder, which takes its place once it is whole and durable. The archive's lock is held
 /// alone meanwhile: whoever waits for it finds the new file. The new file has the owner of the old one, and what rights that owner has. A link
 /// stays, and what it names is resized.
-pub fn resize_archive_file<R: AllocGlobal + Files<File = File>, W: Onlooker>(
+pub fn resize_archive_file<R: AllocGlobal + Files<File = File> + Clock, W: Onlooker>(
     rt: &R,
     place: ArchivePath<'_>,
     wanted: CopyWords,
@@ -97,7 +98,9 @@ pub fn resize_archive_file<R: AllocGlobal + Files<File = File>, W: Onlooker>(
         return Err(Refusal::Unsafe(FileWord::Archive, Danger::SharedFolder));
     }
     let waits = place.waits;
-    let old = take_file(rt, ArchivePath { path, waits }, Access::Changing).map_err(refused)?;
+    let old = take_file(rt, ArchivePath { path, waits }, Access::Changing, onlooker).map_err(
+        refused,
+    )?;
     refuse_rights(old.file(), wanted.drops_rights)?;
     let mut file = PartFile::new(rt.alloc(), rt, path)?;
     copy_in_place(rt.alloc(), &old, &mut file, wanted, onlooker)

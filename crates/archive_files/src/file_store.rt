@@ -6,6 +6,7 @@ use crate::archive_path::ArchivePath;
 use crate::archives::{Access, take_disk, tell_trouble};
 use crate::failures::{Failure, FileWord, Refusal};
 use crate::over_disk::look_over;
+use crate::patient_input::PatientInput;
 use crate::storing::{StoreRequest, store_from};
 use archive_checks::shape_on;
 use diagnostics::Onlooker;
@@ -17,11 +18,12 @@ use std::alloc::Global;
 use std::fs::File;
 use std::io::Read;
 use std::rt::Files;
+use std::time::Clock;
 
 /// Stores a file, or the standard input, and hands the archive's disk on, if it was taken. The file is opened before the archive's
 /// lock is taken, so that a pipe that nobody writes to keeps no other process waiting; yet what is wrong with the archive is told
 /// first.
-pub fn store_file<R: AllocGlobal + Files<File = File>, I: Read, O: Output, W: Onlooker>(
+pub fn store_file<R: AllocGlobal + Files<File = File> + Clock, I: Read, O: Output, W: Onlooker>(
     rt: &R,
     place: ArchivePath<'_>,
     file: &str,
@@ -31,13 +33,22 @@ pub fn store_file<R: AllocGlobal + Files<File = File>, I: Read, O: Output, W: On
     onlooker: &mut W,
 ) -> (Result<(), Failure>, Option<FileDisk>) {
     if file == "-" {
-        let mut taken = take_disk(rt, place, Access::Changing);
+        let mut taken = take_disk(rt, place, Access::Changing, onlooker);
         let length = request.stated_length();
         let request = request.of_length(length, room_in(&mut taken));
-        return store_counted(rt.alloc(), taken, request, length, input, output, onlooker);
+        let mut patient = PatientInput::new(rt, input);
+        return store_counted(
+            rt.alloc(),
+            taken,
+            request,
+            length,
+            &mut patient,
+            output,
+            onlooker,
+        );
     }
     let opened = File::open(rt, file);
-    let taken = take_disk(rt, place, Access::Changing);
+    let taken = take_disk(rt, place, Access::Changing, onlooker);
     match opened {
         Ok(mut file) => {
             let mut taken = taken;

@@ -10,6 +10,7 @@ mod copies;
 mod copy_over;
 mod failures;
 mod file_store;
+mod file_systems;
 mod folders;
 mod gaps;
 mod held;
@@ -18,6 +19,7 @@ mod looking;
 mod making;
 mod outcomes;
 mod over_disk;
+mod patient_input;
 mod salvaging;
 mod single;
 mod storing;
@@ -25,7 +27,9 @@ mod unsent;
 
 pub use archive_checks::shape_on;
 pub use archive_path::ArchivePath;
-pub use archives::{Access, NewArchive, make_archive, names_output, take_disk, tell_trouble};
+pub use archives::{
+    Access, NewArchive, WAITING, make_archive, names_output, take_disk, tell_trouble,
+};
 pub use asking::{ask_looked, unasked};
 pub use checks::check;
 pub use collected::Collected;
@@ -35,11 +39,13 @@ pub use failures::{
     Danger, Failure, FileWord, Refusal, WordPart, reason_of, tell_failure, tell_unwritten,
 };
 pub use file_store::{refuse_taken, store_file, store_taken};
+pub use file_systems::note_file_system;
 pub use folders::{note_shared, shared_folder};
 pub use gaps::note_gap;
 pub use held::Held;
 pub use look_session::look;
 pub use looking::take_look;
+pub use making::what_is_made_lasts;
 pub use over_disk::{ask_over, run_over};
 pub use salvage::ShapeWish;
 pub use salvaging::{Salvaged, fault_found, salvage, salvage_onto};

@@ -2,7 +2,7 @@
 ghost use Rattle.std.specs.Prelude.{true};
 ghost use Rattle.journal_layout.specs.Standing.{fresh};
 ghost use Rattle.journal_layout.specs.Stands.{Stands};
-ghost use Rattle.archive_files.specs.Making.{MakesArchive};
+ghost use Rattle.archive_files.specs.Making.{MakesArchive, WhatIsMadeLasts};
 
 use crate::archives::NewArchive;
 use crate::failures::Refusal;
@@ -11,6 +11,11 @@ use disk_model::Disk;
 use intake::{Archive, Settings, a_state_tells_what_lasts};
 use journal_layout::{Half, Shape};
 use std::alloc::Global;
+
+/// An archive that is told as made is there: whatever a stop leaves from then on opens as an archive with no case, on an honest disk.
+pub fn what_is_made_lasts<D: Disk>()
+    ensures { WhatIsMadeLasts D.Disk }
+{}
 
 /// Makes an archive with no case on a disk, and hands the disk back. One that keeps labels is made as any other, and brought to
 /// version 2 of the layout then.

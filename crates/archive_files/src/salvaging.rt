@@ -22,6 +22,7 @@ use script_streams::Output;
 use std::alloc::Global;
 use std::fs::File;
 use std::rt::Files;
+use std::time::Clock;
 use whole_files::{NewFile, PartFile, clear, give_name};
 
 // A regular file that is open for reading, of the length that it had when it was looked at. Nothing is proved of its bytes.
@@ -81,7 +82,7 @@ pub struct Salvaged<'a> {
 /// new file has its name only once it is whole and durable: until then it is called NEW.part. If the superblock is damaged, the header of
 /// a half or the length of the file, a shape is found for it (see `find_shape`). Answers `Told` if all that is done and a case is lost, or the
 /// version of a half is unknown.
-pub fn salvage<R: AllocGlobal + Files<File = File>, O: Output, W: Onlooker>(
+pub fn salvage<R: AllocGlobal + Files<File = File> + Clock, O: Output, W: Onlooker>(
     rt: &R,
     place: ArchivePath<'_>,
     new: Salvaged<'_>,
@@ -90,7 +91,7 @@ pub fn salvage<R: AllocGlobal + Files<File = File>, O: Output, W: Onlooker>(
 ) -> Result<(), Failure>
     ensures told { TellsSalvage O.Output output.old output.new result }
 {
-    match open_source(rt, place) {
+    match open_source(rt, place, onlooker) {
         Ok(source) => salvage_source(rt, &source, new, output, onlooker),
         Err(refusal) => Err(Failure::Refused(refusal)),
     }
@@ -176,20 +177,22 @@ fn tell_found<'a, R: Files<File = File>, O: Output>(
 
 /// The first fault of an archive that `salvage` finds, if there is one: also that of a gate by which the archive opens without the
 /// records after it.
-pub fn fault_found<R: AllocGlobal + Files<File = File>>(
+pub fn fault_found<R: AllocGlobal + Files<File = File> + Clock, W: Onlooker>(
     rt: &R,
     place: ArchivePath<'_>,
+    onlooker: &mut W,
 ) -> Option<OpenFault> {
-    let source = open_source(rt, place).ok()?;
+    let source = open_source(rt, place, onlooker).ok()?;
     let found = find_cases(rt.alloc(), &source).ok()?;
     found.fault()
 }
 
-fn open_source<R: AllocGlobal + Files<File = File>>(
+fn open_source<R: AllocGlobal + Files<File = File> + Clock, W: Onlooker>(
     rt: &R,
     place: ArchivePath<'_>,
+    onlooker: &mut W,
 ) -> Result<ReadFile<OpenFile>, Refusal> {
-    let taken = take_file(rt, place, Access::Looking).and_then(ReadFile::new);
+    let taken = take_file(rt, place, Access::Looking, onlooker).and_then(ReadFile::new);
     taken.map_err(|fault| Refusal::File(FileWord::Archive, fault))
 }
 

@@ -20,6 +20,7 @@ use shown_progress::CountedOutput;
 use std::fs::File;
 use std::io::ErrorKind;
 use std::rt::Files;
+use std::time::Clock;
 use whole_files::{NewFile, PartFile, begin, give_name, remove};
 
 /// Writes the image of a case to the output, or to a new file, which is durable then.
@@ -120,7 +121,7 @@ fn told_why(failure: Failure, why: Option<ErrorKind>) -> Failure {
 }
 
 /// Answers one question. If it only looks, others may change the archive while its images are read and its reply is written.
-pub fn ask<R: AllocGlobal + Files<File = File>, O: Output, W: Onlooker>(
+pub fn ask<R: AllocGlobal + Files<File = File> + Clock, O: Output, W: Onlooker>(
     rt: &R,
     place: ArchivePath<'_>,
     question: Question,
@@ -134,14 +135,14 @@ pub fn ask<R: AllocGlobal + Files<File = File>, O: Output, W: Onlooker>(
 }
 
 // Answers one question with the archive's lock, and writes its reply once the archive is let go.
-fn ask_locked<R: AllocGlobal + Files<File = File>, O: Output, W: Onlooker>(
+fn ask_locked<R: AllocGlobal + Files<File = File> + Clock, O: Output, W: Onlooker>(
     rt: &R,
     place: ArchivePath<'_>,
     question: Question,
     output: &mut O,
     onlooker: &mut W,
 ) -> Result<(), Failure> {
-    let disk = take_disk(rt, place, Access::Changing)?;
+    let disk = take_disk(rt, place, Access::Changing, onlooker)?;
     let mut reply = Held::new(rt.alloc(), output);
     let (asked, disk) = ask_over(rt.alloc(), disk, question, &mut reply);
     tell_trouble(&disk, onlooker);

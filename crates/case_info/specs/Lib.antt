@@ -1,4 +1,3 @@
 pub mod Archives
-pub mod Inquiries
 pub mod Fronts
 pub mod Screens

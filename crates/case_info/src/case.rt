@@ -6,18 +6,19 @@ ghost use Rattle.case_screens.specs.declared.answer.CoreAnswers.{CoreAnswers};
 ghost use Rattle.intake.specs.Parts.{state_of};
 ghost use Rattle.intake.specs.Step.{HasCase};
 ghost use Rattle.journal_layout.specs.Case.{Case, case_of};
-ghost use Rattle.case_info.specs.Inquiries.{held};
 ghost use Rattle.case_info.specs.Fronts.{SaysCore};
-ghost use Rattle.case_info.specs.Screens.{AreTold, IsScreenBy, ShowsCase, ShowsCore, ShowsExec, ShowsOn};
+ghost use Rattle.case_info.specs.Screens.{IsScreenBy, ShowsCase, ShowsCore, ShowsExec, ShowsOn, held};
 
-use crate::front::{CoreFront, core_in, front_of, header_in};
-use crate::gathered::{CoreReplies, answers_of, ask_core, lines_of_each, shown_count};
+use crate::front::{CoreFront, core_in, front_of, header_in, size_of};
+use crate::gathered::{builds_in, executables_of, facts_of};
 use crate::telling::{shown, write_text};
 use archive_files::{ArchivePath, Collected, Failure, Refusal, take_look, unasked};
+use build_replies::BuildAnswer;
 use case_listing::find_case;
 use case_screens::{CaseAnswers, CoreAnswers, case_json, tell_case_screen};
 use disk_model::Disk;
 use elf_view::Want;
+use frame_replies::FramesAnswer;
 use intake::{Archive, Settings};
 use journal_layout::{Entry, Kind};
 use script_streams::{Output, Reply};
@@ -138,36 +139,58 @@ fn core_screen<D: Disk>(
 ) -> Result<Collected, Refusal>
     ensures { IfOk result (λ text. words.is_json ≡ false → ShowsCore D.Disk archive.old seq words.all_threads text archive.new) }
 {
-    let front = front_of(alloc, seq, Want::Core, archive)?;
+    let size = size_of(seq, archive)?;
+    let front = front_of(alloc, seq, size, Want::Core, archive)?;
     let said = core_in(&front);
-    let count = shown_count(&said.core, words.all_threads);
-    let replies = ask_core(alloc, seq, count, archive)?;
-    Ok(put_core(alloc, archive, seq, said, &replies, words.is_json)?)
+    let Ok(core) = said.core else {
+        return Ok(put_core(alloc, archive, seq, said, no_frames(), None, words.is_json)?);
+    };
+    let executables = executables_of(alloc, &core, archive)?;
+    let facts = facts_of(
+        alloc,
+        seq,
+        size,
+        &core,
+        &executables,
+        words.all_threads,
+        archive,
+    )?;
+    Ok(put_core(
+        alloc,
+        archive,
+        seq,
+        said,
+        &facts.unwound,
+        builds_in(&facts),
+        words.is_json,
+    )?)
 }
 
-// Puts what a core says, and what it was asked, into a text.
+// The frames of no thread.
+fn no_frames<'a>() -> &'a [Option<FramesAnswer<'a>>] {
+    &[]
+}
+
+// Puts what a core says, and what is found in its memory, into a text.
 fn put_core<D: Disk>(
     alloc: Global,
     archive: &Archive<D>,
     seq: u32,
     said: CoreFront<'_>,
-    replies: &CoreReplies,
+    unwound: &[Option<FramesAnswer<'_>>],
+    builds: Option<&[BuildAnswer<'_>]>,
     is_json: bool,
 ) -> Result<Collected, Refusal>
-    ensures { IfOk result (λ text. (image : List ℕ) → SaysCore image said.entry.core said.entry.whole said.entry.unread → is_json ≡ false
-        → (a : CoreAnswers) × SaysCore image a.core a.whole a.unread × AreTold replies.now a × IsScreenBy archive.now seq (Core a) text) }
+    ensures { IfOk result (λ text. is_json ≡ false → IsScreenBy archive.now seq (Core (record { core = said.entry.core; unwound = unwound.entry; builds = builds.entry; whole = said.entry.whole; unread = said.entry.unread })) text) }
 {
-    let builds = replies.builds.lines(alloc)?;
-    let unwound = lines_of_each(alloc, &replies.unwound)?;
-    let shown = answers_of(alloc, &unwound)?;
     let answers = CaseAnswers::Core(CoreAnswers {
         core: said.core,
-        unwound: &shown,
-        builds: builds.answer(),
+        unwound,
+        builds,
         whole: said.whole,
         unread: said.unread,
     });
-    Ok(put_text(alloc, archive, seq, &answers, is_json)?)
+    put_text(alloc, archive, seq, &answers, is_json)
 }
 
 fn exec_screen<D: Disk>(
@@ -178,7 +201,8 @@ fn exec_screen<D: Disk>(
 ) -> Result<Collected, Refusal>
     ensures { IfOk result (λ text. words.is_json ≡ false → ShowsExec D.Disk archive.old seq text archive.new) }
 {
-    let front = front_of(alloc, seq, Want::Exec, archive)?;
+    let size = size_of(seq, archive)?;
+    let front = front_of(alloc, seq, size, Want::Exec, archive)?;
     let answers = CaseAnswers::Exec(header_in(&front));
     Ok(put_text(alloc, archive, seq, &answers, words.is_json)?)
 }

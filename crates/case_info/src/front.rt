@@ -1,7 +1,10 @@
 // What the first bytes of a case's image say.
 ghost use Rattle.std.specs.Prelude.{◌≡◌, ℕ, List, IfOk};
 ghost use Rattle.elf_view.specs.declared.faults.Want.{Want};
+ghost use Rattle.case_queries.specs.Fronts.{HasSize};
 ghost use Rattle.case_screens.specs.Core.{header_in};
+ghost use Rattle.image_replies.specs.CoreWords.{core_bytes};
+ghost use Rattle.intake.specs.Parts.{state_of};
 ghost use Rattle.case_info.specs.Fronts.{IsFront, SaysCore, SeesFront};
 
 use archive_files::Refusal;
@@ -28,20 +31,28 @@ pub(crate) struct CoreFront<'a> {
     pub(crate) unread: Option<UnreadNotes>,
 }
 
-// The first bytes of a case's image, as many as its headers and notes want.
+// The size of a case's image.
+pub(crate) fn size_of<D: Disk>(seq: u32, archive: &Archive<D>) -> Result<usize, Refusal>
+    ensures { IfOk result (λ size. HasSize (state_of archive.now) seq size) }
+{
+    match archive.case(seq) {
+        Ok(entry) => Ok(entry.length as usize),
+        Err(fault) => Err(Refusal::Call(fault)),
+    }
+}
+
+// The first bytes of a case's image, which has that size: as many as its headers and notes want.
 pub(crate) fn front_of<D: Disk>(
     alloc: Global,
     seq: u32,
+    size: usize,
     want: Want,
     archive: &mut Archive<D>,
 ) -> Result<Vec<u8>, Refusal>
+    requires { HasSize (state_of archive.old) seq size }
     ensures { IfOk result (λ front. SeesFront D.Disk archive.old seq want front.items archive.new) }
 {
-    let length = match archive.case(seq) {
-        Ok(entry) => entry.length,
-        Err(fault) => return Err(Refusal::Call(fault)),
-    };
-    match read_front(alloc, seq, want, length as usize, archive) {
+    match read_front(alloc, seq, want, size, archive) {
         Ok(front) => Ok(front),
         Err(fault) => Err(Refusal::Call(fault)),
     }
@@ -49,7 +60,8 @@ pub(crate) fn front_of<D: Disk>(
 
 // What a core says by its first bytes.
 pub(crate) fn core_in(front: &[u8]) -> CoreFront<'_>
-    ensures { (image : List ℕ) → IsFront Want.Core front.now image → SaysCore image result.core result.whole result.unread }
+    ensures says { (image : List ℕ) → IsFront Want.Core front.now image → SaysCore image result.core result.whole result.unread }
+    ensures bytes { IfOk result.core (λ core. core_bytes core ≡ front.now) }
 {
     a_sound_front_answers();
     a_sound_front_is_enough();

@@ -5,7 +5,6 @@ mod archive;
 mod case;
 mod front;
 mod gathered;
-mod inquiry;
 mod rows;
 mod telling;
 

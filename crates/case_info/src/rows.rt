@@ -2,7 +2,7 @@
 use crate::telling::{shown, write_json};
 use archive_files::{ArchivePath, Collected, Failure, ask};
 use case_listing::ask_case;
-use case_screens::{Answer, refusal_json, reply_lines, rows_json};
+use case_screens::{refusal_json, rows_json};
 use diagnostics::Onlooker;
 use line_help::rows_of;
 use script_lines::Question;
@@ -10,6 +10,7 @@ use script_streams::Output;
 use std::alloc::Global;
 use std::fs::File;
 use std::rt::Files;
+use std::time::Clock;
 
 /// Answers the line of these words, which asks an image, and tells its rows as JSON: an array of objects. If it is refused an object
 /// says why.
@@ -17,7 +18,7 @@ use std::rt::Files;
 /// # Errors
 ///
 /// `Refused` with `NoLine` if it is no such line. Those of `ask` of `archive_files`.
-pub fn ask_rows<R: AllocGlobal + Files<File = File>, O: Output, W: Onlooker>(
+pub fn ask_rows<R: AllocGlobal + Files<File = File> + Clock, O: Output, W: Onlooker>(
     rt: &R,
     place: ArchivePath<'_>,
     words: &[&str],
@@ -45,13 +46,9 @@ fn tell_rows<O: Output>(
     text: &[u8],
     output: &mut O,
 ) -> Result<(), Failure> {
-    let lines = reply_lines(alloc, text)?;
-    let answer = Answer {
-        is_done: true,
-        lines: &lines,
-    };
+    let rows = text.strip_suffix(b"ok\n".as_slice()).unwrap_or(text);
     let name = words.first().copied().unwrap_or("");
-    write_json(&rows_json(alloc, &answer, rows_of(name))?, output)
+    write_json(&rows_json(alloc, rows, rows_of(name))?, output)
 }
 
 // Tells why a line is refused, whose reply is `no` and the reason.

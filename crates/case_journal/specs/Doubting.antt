@@ -9,8 +9,8 @@ use Rattle.journal_layout.specs.Stands.{Stands}
 use Rattle.journal_layout.specs.Rewriting.{other_start}
 use Rattle.case_journal.specs.Settling.{SameBut, HasLastGate, gate_behind, gates_of}
 
--- No opening of these bytes, which encode the archive, reads this place. It is behind the gate behind the records of the taken half, or
--- behind the gate of the other half, which is not open.
+-- These bytes encode the archive, and no opening of them reads this place. It is after the gate that ends the records of the taken half,
+-- or after the gate of the other half, which is not open.
 abbrev pub IsUnread : List ℕ → Standing → ℕ → Type 0
 IsUnread b s p =
     ((gate_behind s < p) × (p < half_start s.shape s.half + half_length s.shape))

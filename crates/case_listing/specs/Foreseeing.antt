@@ -1,9 +1,10 @@
 -- What is told of the cases that would go.
-use Rattle.std.specs.Prelude.{◌≡◌, ℕ, List, map, Option, Result, Ok, Err}
+use Rattle.std.specs.Prelude.{◌≡◌, ℕ, List, ◌∷◌, map, Option, None, Some, Result, Ok, Err, codes}
 use Rattle.archive_files.specs.declared.failures.Failure.{Failure}
 use Rattle.archive_files.specs.declared.failures.Failure.TheVariants.{Refused, Faulted}
 use Rattle.archive_files.specs.declared.failures.Refusal.TheVariants.{Open}
 use Rattle.archive_replies.specs.Texts.{retire_reply}
+use Rattle.command_words.specs.Lines.{joined}
 use Rattle.disk_model.specs.declared.disk.Disk as disk
 use Rattle.inspector_cli.specs.declared.session.SessionFault.TheVariants.{WriteFailed}
 use Rattle.intake.specs.Calls.{OpenCall}
@@ -14,8 +15,14 @@ use Rattle.journal_layout.specs.declared.faults.OpenFault.{OpenFault}
 use Rattle.retention.specs.Rule.{IsDecision}
 use Rattle.retention.specs.declared.Decision.{Decision}
 use Rattle.retention.specs.declared.Policy.{Policy}
+use Rattle.script_lines.specs.Said.{retire_by, said}
 use Rattle.script_streams.specs.Telling.{IsDelivered}
 use Rattle.script_streams.specs.declared.streams.StreamFault.{StreamFault}
+
+-- The policy is that of the line `retire` with the words behind `would-retire`. If there is none, the first word is another.
+abbrev pub IsPolicyOf : List (List ℕ) → Option Policy → Type 0
+IsPolicyOf words None = (others : List (List ℕ)) → words ≡ codes "would-retire" ∷ others → ⊥
+IsPolicyOf words (Some policy) = (others : List (List ℕ)) × (words ≡ codes "would-retire" ∷ others) × (said (joined (codes "retire" ∷ others)) ≡ retire_by policy)
 
 -- the answer, by whether all of the reply was written
 abbrev pub sent_told : Result (Unit {0}) StreamFault → Result (Unit {0}) Failure

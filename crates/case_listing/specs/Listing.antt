@@ -1,21 +1,28 @@
 -- What is listed of the cases of an archive.
-use Rattle.std.specs.Prelude.{◌≡◌, ◌==◌, ℕ, Bool, false, not, List, length, Option, Result, Ok, Err, IfOk}
+use Rattle.std.specs.Prelude.{◌≡◌, ◌==◌, ℕ, Bool, true, false, not, List, [], ◌∷◌, ◌++◌, length, Option, Some, Result, Ok, Err, IfOk}
 use Rattle.std.specs.Io.KnownBytes.{Appends}
 use Rattle.archive_files.specs.declared.failures.Failure.{Failure}
 use Rattle.archive_files.specs.declared.failures.Failure.TheVariants.{Refused}
 use Rattle.archive_files.specs.declared.failures.Refusal.TheVariants.{Open}
+use Rattle.case_tables.specs.Json.{cases_json}
 use Rattle.case_tables.specs.Table.{list_table}
 use Rattle.case_tables.specs.Wanted.{chosen}
 use Rattle.case_tables.specs.declared.wanted.Wanted.{Wanted}
+use Rattle.serde_json.specs.Read.{read}
 use Rattle.disk_model.specs.declared.disk.Disk as disk
 use Rattle.intake.specs.Calls.{OpenCall}
 use Rattle.intake.specs.Parts.{Parts, state_of}
 use Rattle.journal_layout.specs.Case.{Case}
 use Rattle.journal_layout.specs.declared.faults.OpenFault.{OpenFault}
 
--- Those of the cases that are wanted are told as a table, if not as JSON, to an output that had taken `before`; and whether there are any.
+-- a line whose text reads back as JSON of these cases
+abbrev pub TellsCases : List Case → Option (List ℕ) → Option (List ℕ) → Type 0
+TellsCases cases before after = (text : List ℕ) × (read text ≡ Some (cases_json cases)) × Appends before after (text ++ 10 ∷ [])
+
+-- Those of the cases that are wanted are told, as a table or as JSON, to an output that had taken `before`; and whether there are any.
 pub record Lists (is_json : Bool) (wanted : Wanted) (cases : List Case) (before after : Option (List ℕ)) (some : Bool) : Type 0 where
   pub told : is_json ≡ false → Appends before after (list_table (chosen wanted cases))
+  pub told_json : is_json ≡ true → TellsCases (chosen wanted cases) before after
   pub some_is : some ≡ not (length (chosen wanted cases) == 0)
 
 -- by the archive that was opened, or why it was not

@@ -18,6 +18,7 @@ use std::alloc::{AllocError, Global};
 use std::fs::File;
 use std::rt::Files;
 use std::str;
+use std::time::Clock;
 
 // The most bytes of a word of a line.
 const LONGEST: usize = 1_024;
@@ -27,15 +28,16 @@ fn is_number(word: &str) -> bool {
     parse_number(word.as_bytes()).is_some()
 }
 
-/// Whether these words are a line that asks for a case by what is no number.
+/// What a line asks whose second word names a case instead of giving its number, as if the number were 1. `None` if that word is a number, or
+/// these words are no such line.
 ///
 /// # Errors
 ///
 /// `AllocError` if there is no memory for the line.
-pub fn names_a_case(alloc: Global, words: &[&str]) -> Result<bool, AllocError> {
+pub fn named_question(alloc: Global, words: &[&str]) -> Result<Option<Question>, AllocError> {
     match words.get(1) {
-        Some(word) if !is_number(word) => Ok(numbered(alloc, words, "1")?.is_some()),
-        _ => Ok(false),
+        Some(word) if !is_number(word) => numbered(alloc, words, "1"),
+        _ => Ok(None),
     }
 }
 
@@ -142,7 +144,7 @@ pub fn extract_case<R: AllocGlobal + Files<File = File>, O: Output, W: Onlooker>
 /// # Errors
 ///
 /// Those of `ask` of `archive_files`. Before, what the look at the archive is refused for, and `NoCase` if no case has this name.
-pub fn ask_case<R: AllocGlobal + Files<File = File>, O: Output, W: Onlooker>(
+pub fn ask_case<R: AllocGlobal + Files<File = File> + Clock, O: Output, W: Onlooker>(
     rt: &R,
     place: ArchivePath<'_>,
     words: &[&str],

@@ -1,7 +1,9 @@
 // What would go if cases were retired.
-ghost use Rattle.std.specs.Prelude.{◌≡◌, ◌+◌, IfOk, IfSome, OnOk, Option, None, Some, Result, Ok, Err, false, map, true};
+ghost use Rattle.std.specs.Prelude.{◌≡◌, ◌+◌, ◌∷◌, codes, IfOk, IfSome, OnOk, Option, None, Some, Result, Ok, Err, false, map, true};
 ghost use Rattle.std.specs.List.Sorted.{IsStrictlyIncreasing};
-ghost use Rattle.case_listing.specs.Foreseeing.{Foresees, ForeseenIn, ForeseenTold, sent_told};
+ghost use Rattle.command_words.specs.Lines.{joined};
+ghost use Rattle.script_lines.specs.Said.{retire_by, said};
+ghost use Rattle.case_listing.specs.Foreseeing.{IsPolicyOf, Foresees, ForeseenIn, ForeseenTold, sent_told};
 ghost use Rattle.intake.specs.Parts.{state_of};
 ghost use Rattle.intake.specs.Retiring.{brief_of_entry};
 ghost use Rattle.retention.specs.Rule.{IsDecision, seq_of};
@@ -26,15 +28,22 @@ use std::rt::Files;
 /// # Errors
 ///
 /// `NoLine` if the words of `retire` are wrong. `OutOfMemory` if there is no memory for the line.
-pub fn foreseen_by(alloc: Global, words: &[&str]) -> Result<Option<Policy>, Refusal> {
-    match words.first() {
-        Some(word) if *word == "would-retire" => Ok(Some(retired_by(alloc, words)?)),
-        _ => Ok(None),
+pub fn foreseen_by(alloc: Global, words: &[&str]) -> Result<Option<Policy>, Refusal>
+    ensures asked { IfOk result (IsPolicyOf (map (λ word. word.now) words.now)) }
+{
+    let Some((first, others)) = words.split_first() else {
+        return Ok(None);
+    };
+    if *first != "would-retire" {
+        return Ok(None);
     }
+    Ok(Some(retired_by(alloc, others)?))
 }
 
-// By what `retire` with the words after the first would go.
-fn retired_by(alloc: Global, words: &[&str]) -> Result<Policy, Refusal> {
+// By what `retire` with these words would go.
+fn retired_by(alloc: Global, words: &[&str]) -> Result<Policy, Refusal>
+    ensures { IfOk result (λ policy. said (joined (codes "retire" ∷ map (λ word. word.now) words.now)) ≡ retire_by policy) }
+{
     match parse_question(&retire_line(alloc, words)?) {
         Some(Question::Call(Call::Retire { policy })) => Ok(policy),
         _ => Err(Refusal::NoLine(
@@ -43,11 +52,14 @@ fn retired_by(alloc: Global, words: &[&str]) -> Result<Policy, Refusal> {
     }
 }
 
-// The line of `retire` with these words, but for the first.
-fn retire_line(alloc: Global, words: &[&str]) -> Result<Vec<u8>, AllocError> {
+// The line of `retire` with these words.
+fn retire_line(alloc: Global, words: &[&str]) -> Result<Vec<u8>, AllocError>
+    ensures { IfOk result (λ line. line.items ≡ joined (codes "retire" ∷ map (λ word. word.now) words.now)) }
+{
     let mut line = Vec::new(alloc);
-    for (index, word) in words.iter().enumerate() {
-        line.push(if index == 0 { "retire" } else { *word })?;
+    line.push("retire")?;
+    for word in words {
+        line.push(*word)?;
     }
     line_of(alloc, &line)
 }

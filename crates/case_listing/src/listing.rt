@@ -1,13 +1,12 @@
 // `list`: the cases of an archive, for people or as JSON.
-ghost use Rattle.std.specs.Prelude.{◌≡◌, ◌==◌, IfOk, false, length, map, not, true};
+ghost use Rattle.std.specs.Prelude.{◌≡◌, ◌==◌, ◌++◌, ◌∷◌, [], IfOk, OnOk, false, length, map, not, true};
 ghost use Rattle.std.specs.Io.KnownBytes.{Appends};
 ghost use Rattle.case_tables.specs.Table.{list_table};
 ghost use Rattle.case_tables.specs.Wanted.{chosen};
 ghost use Rattle.intake.specs.Parts.{state_of};
 ghost use Rattle.journal_layout.specs.Case.{case_of};
-ghost use Rattle.case_listing.specs.Listing.{Lists, ListsOn};
+ghost use Rattle.case_listing.specs.Listing.{Lists, ListsOn, TellsCases};
 
-use crate::foreseen::sent_told;
 use archive_files::{ArchivePath, Failure, Refusal, take_look};
 use case_tables::{Wanted, list_json, read_time, tell_list};
 use disk_model::Disk;
@@ -152,12 +151,22 @@ fn tell_json<O: Output>(
     wanted: &Wanted<'_>,
     output: &mut O,
 ) -> Result<bool, Failure>
-    ensures { IfOk result (λ some. some ≡ not (length (chosen wanted.now (map case_of cases.now)) == 0)) }
+    ensures told { IfOk result (λ some. TellsCases (chosen wanted.now (map case_of cases.now)) (O.taken output.old) (O.taken output.new)) }
+    ensures some { IfOk result (λ some. some ≡ not (length (chosen wanted.now (map case_of cases.now)) == 0)) }
 {
     let (text, some) = list_json(alloc, cases, wanted)?;
-    let mut reply = Reply::new(output);
-    reply.tell(text.as_bytes());
-    reply.tell(b"\n");
-    sent_told(reply.finish())?;
+    tell_line(text.as_bytes(), output)?;
     Ok(some)
+}
+
+fn tell_line<O: Output>(text: &[u8], output: &mut O) -> Result<(), Failure>
+    ensures { OnOk result (Appends (O.taken output.old) (O.taken output.new) (text.now ++ 10 ∷ [])) }
+{
+    let mut reply = Reply::new(output);
+    reply.tell(text);
+    reply.tell(b"\n");
+    match reply.finish() {
+        Ok(()) => Ok(()),
+        Err(_) => Err(Failure::Faulted(SessionFault::WriteFailed)),
+    }
 }

@@ -11,6 +11,7 @@ use script_lines::Question;
 use script_streams::Output;
 use std::fs::File;
 use std::rt::Files;
+use std::time::Clock;
 
 /// Answers the line of these words, and tells its reply as people read it; that of `dump` has the bytes as text too. Without a question its second word names a case. The reply is
 /// held until the line is done.
@@ -18,7 +19,7 @@ use std::rt::Files;
 /// # Errors
 ///
 /// Those of `ask` and of `ask_case`. `WriteFailed` too if there is no memory to hold the reply: a front of it is told.
-pub fn ask_plain<R: AllocGlobal + Files<File = File>, O: Output, W: Onlooker>(
+pub fn ask_plain<R: AllocGlobal + Files<File = File> + Clock, O: Output, W: Onlooker>(
     rt: &R,
     place: ArchivePath<'_>,
     words: &[&str],

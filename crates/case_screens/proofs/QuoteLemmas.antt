@@ -5,9 +5,12 @@ use Rattle.std.proofs.lemmas.List.Elements.{All-from_recursion}
 use Rattle.std.specs.Prelude.{All, is_some}
 use Rattle.std.specs.List.{AllByRecursion, flat_map}
 use Rattle.std.specs.Char.{is_digit}
-use Rattle.script_words.specs.Printing.{escape}
+use Rattle.script_words.specs.Printing.{escape, shown, shown_byte}
 use Rattle.script_words.specs.Text.{after_escape, escape_of, text_of, text_past, with_byte}
-use Rattle.case_screens.specs.Quotes.{between_quotes, quoted_byte}
+use Rattle.std.proofs.lemmas.Grind.{flat_map-append}
+use Rattle.std.proofs.lemmas.List.{append-nil}
+use Rattle.std.specs.Str.{bytes_eq}
+use Rattle.case_screens.specs.Quotes.{between_quotes, quoted_byte, quoted_shown}
 
 -- the first n bytes are no quotes
 abbrev pub Plain : ℕ → List ℕ → Type 0
@@ -115,3 +118,21 @@ whole_by (c ∷ cs) = byte_then c (c == 39) refl (between_quotes cs) (whole_by c
 
 pub no_quote : (w : List ℕ) → All (λ c. c ≡ 39 → ⊥) (between_quotes w)
 no_quote w = All-from_recursion (λ c. c ≡ 39 → ⊥) (between_quotes w) (whole_by w)
+
+-- a name between quotes, byte by byte
+pub between_names : (name : List ℕ) → between_quotes (flat_map shown_byte name) ≡ flat_map quoted_shown name
+between_names [] = refl
+between_names (c ∷ cs) = flat_map-append quoted_byte (shown_byte c) (flat_map shown_byte cs) ∙ ap (λ l. quoted_shown c ++ l) (between_names cs)
+
+one_shown : (c : ℕ) (b : Bool) → (c == 45) ≡ b → bytes_eq (c ∷ []) (45 ∷ []) ≡ false → shown (c ∷ []) ≡ flat_map shown_byte (c ∷ [])
+one_shown c true e other =
+    let h : c ≡ 45 = eqb-true c 45 e in
+    let same : bytes_eq (45 ∷ []) (45 ∷ []) ≡ false = subst (λ k. bytes_eq (k ∷ []) (45 ∷ []) ≡ false) h other in
+    absurd (false≢true (sym same))
+one_shown c false e other = ap (λ b. cond b (escape c) (shown_byte c)) e ∙ sym (append-nil (shown_byte c))
+
+-- a name prints byte by byte, but for the empty one and a minus
+pub shown_long : (name : List ℕ) → (length name == 0) ≡ false → bytes_eq name (45 ∷ []) ≡ false → shown name ≡ flat_map shown_byte name
+shown_long [] some other = absurd (false≢true (sym some))
+shown_long (c ∷ []) some other = one_shown c (c == 45) refl other
+shown_long (c ∷ d ∷ cs) some other = refl

@@ -1,6 +1,5 @@
 pub mod Reasons
 pub mod ReasonWords
-pub mod Lines
 pub mod Texts
 pub mod Core
 pub mod Process

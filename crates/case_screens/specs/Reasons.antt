@@ -29,6 +29,10 @@ core_reason (Note fault) = note_reason fault
 abbrev pub missing : Reason
 missing = record { name = codes "Missing"; index = None }
 
+-- it has no such thread
+abbrev pub no_thread : Reason
+no_thread = record { name = codes "NoThread"; index = None }
+
 -- how a reason prints: `NAME`, or `NAME INDEX`
 abbrev pub named : List ℕ → Option ℕ → List ℕ
 named name None = name

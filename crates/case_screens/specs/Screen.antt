@@ -1,5 +1,8 @@
 -- What a person is shown of a case: its facts, what its image says, and what the lines of a script answer of it.
 use Rattle.std.specs.Prelude.{ℕ, ◌-◌, Bool, nat_lt, if◌then◌else◌, Option, None, Some, Result, Ok, Err, List, [], ◌∷◌, ◌++◌, length, codes, decimal}
+use Rattle.std.specs.Borrow.{Bor}
+use Rattle.std.specs.Option.{option_map}
+use Rattle.build_replies.specs.declared.ids.BuildAnswer.{BuildAnswer}
 use Rattle.journal_layout.specs.Case.{Case}
 use Rattle.elf_view.specs.declared.faults.ElfFault.{ElfFault}
 use Rattle.elf_view.specs.declared.view.Header.{Header}
@@ -10,7 +13,6 @@ use Rattle.case_tables.specs.Times.{time_text}
 use Rattle.case_screens.specs.Files.{files_text}
 use Rattle.case_screens.specs.Frames.{threads_text}
 use Rattle.case_screens.specs.Core.{desc_in, notes_read}
-use Rattle.case_screens.specs.Lines.{texts}
 use Rattle.case_screens.specs.Process.{process_text}
 use Rattle.case_screens.specs.Signal.{signal_line}
 use Rattle.case_screens.specs.Reasons.{elf_reason}
@@ -55,7 +57,7 @@ abbrev pub core_text : Case → List Case → CoreAnswers → List ℕ
 core_text c cases a =
     when_text c.origin.time ++ (cut_line c.len a.whole ++ (notes_line a.unread ++ (process_text (desc_in 3 (notes_read a.core))
     ++ (signal_line c.origin.signal (desc_in 0x53494749 (notes_read a.core)) ++ (threads_text (notes_read a.core) a.unwound.now
-    ++ files_text cases a.builds.is_done (texts a.builds.lines.now))))))
+    ++ files_text cases (notes_read a.core) (option_map (λ (rows : Bor (List BuildAnswer)). rows.now) a.builds))))))
 
 -- the file header of an executable (System V gABI, "ELF Header")
 abbrev pub header_text : Header → List ℕ

@@ -1,9 +1,8 @@
 -- The small texts of a screen.
-use Rattle.std.specs.Prelude.{ℕ, zero, suc, ◌-◌, ◌==◌, ◌&&◌, ◌||◌, Bool, nat_le, nat_lt, if◌then◌else◌, List, [], ◌∷◌, ◌++◌, length, take, slice_index, Option, None, codes}
+use Rattle.std.specs.Prelude.{ℕ, ◌-◌, ◌==◌, ◌&&◌, ◌||◌, Bool, nat_lt, if◌then◌else◌, List, [], ◌∷◌, ◌++◌, length, take, slice_index, codes}
 use Rattle.std.specs.List.{flat_map}
 use Rattle.std.specs.Str.{bytes_eq}
 use Rattle.script_words.specs.Printing.{shown_byte}
-use Rattle.script_words.specs.Text.{text_of}
 use Rattle.case_screens.specs.Reasons.{Reason, named}
 
 -- what stands before a line that continues the one above it
@@ -14,11 +13,6 @@ margin = codes "          "
 abbrev pub label_at : List ℕ → ℕ → List ℕ
 label_at label k = if k == 0 then label else margin
 
--- rows, one after the other, up to one
-abbrev pub rows_to : (ℕ → List ℕ) → ℕ → List ℕ
-rows_to row zero = []
-rows_to row (suc n) = rows_to row n ++ row n
-
 -- a byte of a text for people: a space is one, all else prints as a script prints it
 abbrev pub plain_byte : ℕ → List ℕ
 plain_byte c = if c == 32 then 32 ∷ [] else shown_byte c
@@ -26,10 +20,6 @@ plain_byte c = if c == 32 then 32 ∷ [] else shown_byte c
 -- a text without the space that may end it
 abbrev pub without_space : List ℕ → List ℕ
 without_space text = if nat_lt 0 (length text) && slice_index text (length text - 1) == 32 then take (length text - 1) text else text
-
--- the text of a word of a reply, if it is not over 1,024 bytes
-abbrev pub text_in : List ℕ → Option (List ℕ)
-text_in word = if nat_le (length word) 1024 then text_of word else None
 
 -- a text for people; `-`, if it is empty
 abbrev pub plain_text : List ℕ → List ℕ

@@ -1,26 +1,19 @@
-// What a screen is made of: what the image says, and the replies to the lines that are asked.
+// What a screen is made of: what the image says, and what is found in the memory of a core.
+use build_replies::BuildAnswer;
 use elf_view::{ElfFault, Header};
+use frame_replies::FramesAnswer;
 use image_replies::{CoreFault, CoreImage};
 use unread_notes::UnreadNotes;
-
-/// The reply to a line.
-#[derive(Clone, Copy)]
-pub struct Answer<'a> {
-    /// It is done; if not, it is refused.
-    pub is_done: bool,
-    /// Its lines: the last one is `ok`. If it is refused it is one line, `no` and the reason.
-    pub lines: &'a [&'a [u8]],
-}
 
 /// What is known of a core.
 #[derive(Clone, Copy)]
 pub struct CoreAnswers<'s, 'a> {
     /// The core, or the first fault of its headers, its notes and its typed notes.
     pub core: Result<CoreImage<'a>, CoreFault>,
-    /// The replies to `unwind`, of the threads that are shown.
-    pub unwound: &'s [Answer<'s>],
-    /// The reply to `builds`.
-    pub builds: Answer<'s>,
+    /// The frames of the threads that are shown. `None` where it has fewer.
+    pub unwound: &'s [Option<FramesAnswer<'a>>],
+    /// The build IDs of its mapped files. `None` where it has no NT_FILE.
+    pub builds: Option<&'s [BuildAnswer<'a>]>,
     /// How many bytes its program headers want, if they can be read.
     pub whole: Option<u64>,
     /// Why notes of it are not read as they are meant, if some are not.

@@ -1,96 +1,107 @@
 // The frames of a thread.
-ghost use Rattle.std.specs.Prelude.{◌≡◌, true, find, min, option_map};
+ghost use Rattle.std.specs.Prelude.{◌≡◌, ◌-◌, find, length, option_map};
 ghost use Rattle.core_notes.specs.FileList.{FileView, is_mapping};
 ghost use Rattle.core_notes.specs.FileWords.{files_bytes, files_left};
+ghost use Rattle.frame_replies.specs.FrameLines.{place_text};
+ghost use Rattle.frame_replies.specs.FrameValues.{frame_view};
+ghost use Rattle.image_replies.specs.Lines.{numbered_lines};
 ghost use Rattle.script_streams.specs.Replies.{TellsText, telling};
 ghost use Rattle.case_screens.specs.Core.{files_in};
 ghost use Rattle.case_screens.specs.Frames as spec;
-ghost use Rattle.case_screens.specs.Lines.{texts};
-ghost use Rattle.case_screens.specs.Texts.{rows_to};
 
-use crate::answer::Answer;
-use crate::lines::{line_at, reason_in, word_at};
-use crate::texts::{MARGIN, tell_label, tell_left, tell_refused};
+use crate::reason::no_thread;
+use crate::texts::{MARGIN, room_after, tell_label, tell_left, tell_refused};
+use case_tables::tell_spaces;
 use core_notes::{FileMaps, Files};
+use frame_replies::{FrameAnswer, FramesAnswer, tell_frame_place, tell_stop};
 use script_streams::{Output, Reply};
-use script_words::parse_number;
+use script_words::{print_decimal, print_hexadecimal};
 
 // How many frames are shown at most.
 const MOST: usize = 20;
 
-// Tells the frames of a thread, at most 20, and why they end, by the reply to `unwind`.
+// Tells the frames of a thread, at most 20, and why they end, if the core has the thread.
 pub(crate) fn tell_frames<O: Output>(
     reply: &mut Reply<'_, O>,
     files: Option<Files<'_>>,
-    answer: &Answer<'_>,
+    frames: &Option<FramesAnswer<'_>>,
 )
-    ensures { TellsText (telling O.Output reply.old reply.new) (spec.frames_text (files_in (option_map files_bytes files.entry)) answer.now.is_done (texts answer.now.lines.now)) }
+    ensures { TellsText (telling O.Output reply.old reply.new) (spec.frames_text (files_in (option_map files_bytes files.entry)) frames.now) }
 {
-    if answer.is_done {
-        tell_known_frames(reply, files, answer.lines);
-    } else {
-        tell_refused(reply, b"frames    ", &reason_in(answer.lines));
+    match frames {
+        Some(answer) => tell_known_frames(reply, files, answer),
+        None => tell_refused(reply, b"frames    ", &no_thread()),
     }
 }
 
-fn tell_known_frames<O: Output>(reply: &mut Reply<'_, O>, files: Option<Files<'_>>, lines: &[&[u8]])
-    ensures { TellsText (telling O.Output reply.old reply.new) (spec.frames_text (files_in (option_map files_bytes files.entry)) true (texts lines.now)) }
+fn tell_known_frames<O: Output>(
+    reply: &mut Reply<'_, O>,
+    files: Option<Files<'_>>,
+    answer: &FramesAnswer<'_>,
+)
+    ensures { TellsText (telling O.Output reply.old reply.new) (spec.known_frames (files_in (option_map files_bytes files.entry)) answer.now) }
 {
-    let count = frame_count(lines);
-    tell_rows(reply, files, lines, count.min(MOST));
+    let count = answer.frames.len();
+    let (shown, _) = answer.frames.split_at(count.min(MOST));
+    tell_rows(reply, files, shown);
     tell_more(reply, count);
     reply.tell(MARGIN);
-    reply.tell(line_at(lines, count));
-    reply.tell(b"\n");
+    tell_stop(reply, answer.stop);
 }
 
-// How many frames there are: the lines before `stop` and `ok`.
-pub(crate) fn frame_count(lines: &[&[u8]]) -> usize
-    ensures { result ≡ spec.frame_count (texts lines.now) }
-{
-    lines.len().saturating_sub(2)
-}
-
-// Tells this many frames.
 fn tell_rows<O: Output>(
     reply: &mut Reply<'_, O>,
     files: Option<Files<'_>>,
-    lines: &[&[u8]],
-    count: usize,
+    frames: &[FrameAnswer<'_>],
 )
-    ensures { TellsText (telling O.Output reply.old reply.new) (rows_to (spec.frame_row (files_in (option_map files_bytes files.entry)) (texts lines.now)) count) }
+    ensures { TellsText (telling O.Output reply.old reply.new) (numbered_lines (spec.frame_row (files_in (option_map files_bytes files.entry))) 0 frames.now) }
 {
-    for row in 0..count {
-        tell_row(reply, files, lines, row);
+    for (row, frame) in frames.iter().enumerate() {
+        tell_row(reply, files, row, frame);
     }
 }
 
 fn tell_row<O: Output>(
     reply: &mut Reply<'_, O>,
     files: Option<Files<'_>>,
-    lines: &[&[u8]],
     row: usize,
+    frame: &FrameAnswer<'_>,
 )
-    ensures { TellsText (telling O.Output reply.old reply.new) (spec.frame_row (files_in (option_map files_bytes files.entry)) (texts lines.now) row) }
+    ensures { TellsText (telling O.Output reply.old reply.new) (spec.frame_row (files_in (option_map files_bytes files.entry)) row frame.now) }
 {
-    let line = line_at(lines, row);
     tell_label(reply, b"frames    ", row);
-    tell_left(reply, 2, word_at(line, 0));
-    tell_left(reply, 14, word_at(line, 1));
-    tell_where(reply, word_at(line, 2), frame_file(files, lines, row));
+    tell_left(reply, 2, print_decimal(row as u128).as_slice());
+    tell_left(
+        reply,
+        14,
+        print_hexadecimal(u128::from(frame.pc)).as_slice(),
+    );
+    tell_where(reply, frame, frame_file(files, frame));
     reply.tell(b"\n");
 }
 
-// Tells a function, and its file, if that is known.
-fn tell_where<O: Output>(reply: &mut Reply<'_, O>, place: &[u8], file: Option<&[u8]>)
-    ensures { TellsText (telling O.Output reply.old reply.new) (spec.where_text place.now (option_map (λ n. n.now) file.entry)) }
+// Tells where a frame is, and its file, if that is known.
+fn tell_where<O: Output>(reply: &mut Reply<'_, O>, frame: &FrameAnswer<'_>, file: Option<&[u8]>)
+    ensures { TellsText (telling O.Output reply.old reply.new) (spec.where_text frame.now (option_map (λ n. n.now) file.entry)) }
 {
-    match file {
-        Some(name) => {
-            tell_left(reply, 24, place);
-            reply.tell_text(name);
-        }
-        None => reply.tell(place),
+    tell_frame_place(reply, frame);
+    if let Some(name) = file {
+        tell_spaces(reply, room_of(frame));
+        reply.tell(b"  ");
+        reply.tell_text(name);
+    }
+}
+
+// How many spaces stand behind the place of a frame, in a column of 24.
+fn room_of(frame: &FrameAnswer<'_>) -> usize
+    ensures { result ≡ 24 - length (place_text (frame_view frame.now)) }
+{
+    if frame.signal {
+        return 18;
+    }
+    match frame.function {
+        Some(place) => room_after(24, place.name, 1 + print_hexadecimal(place.distance).len()),
+        None => 23,
     }
 }
 
@@ -113,42 +124,16 @@ fn tell_rest<O: Output>(reply: &mut Reply<'_, O>, count: usize)
 }
 
 // The file of a frame, if it is known.
-pub(crate) fn frame_file<'a>(
-    files: Option<Files<'a>>,
-    lines: &[&[u8]],
-    row: usize,
-) -> Option<&'a [u8]>
-    ensures { option_map (λ n. n.now) result ≡ spec.frame_file (files_in (option_map files_bytes files.entry)) (texts lines.now) row }
+pub(crate) fn frame_file<'a>(files: Option<Files<'a>>, frame: &FrameAnswer<'_>) -> Option<&'a [u8]>
+    ensures { option_map (λ n. n.now) result ≡ spec.frame_file (files_in (option_map files_bytes files.entry)) frame.now }
 {
-    let pc = parse_number(word_at(line_at(lines, row), 1));
-    file_at(files, looked_up(is_exact(lines, row), pc))
-}
-
-// Whether execution was at the pc of a frame: that of frame 0, and of one that a signal interrupted.
-fn is_exact(lines: &[&[u8]], row: usize) -> bool
-    ensures { result ≡ spec.is_exact (texts lines.now) row }
-{
-    row == 0 || word_at(line_at(lines, row - 1), 2) == b"signal".as_slice()
-}
-
-// The address that is looked up for a pc: it, or the one before it, where the call is.
-fn looked_up(exact: bool, pc: Option<u64>) -> Option<u64>
-    ensures { result ≡ spec.looked_up exact pc }
-{
-    let pc = pc?;
-    if exact { Some(pc) } else { pc.checked_sub(1) }
-}
-
-// The name of the first file that is mapped at an address.
-fn file_at<'a>(files: Option<Files<'a>>, address: Option<u64>) -> Option<&'a [u8]>
-    ensures { option_map (λ n. n.now) result ≡ spec.file_at (files_in (option_map files_bytes files.entry)) address }
-{
-    match (files, address) {
+    match (files, frame.looked_up) {
         (Some(files), Some(address)) => name_at(files.maps(), address),
         _ => None,
     }
 }
 
+// The name of the first file that is mapped at an address.
 fn name_at<'a>(maps: FileMaps<'a>, address: u64) -> Option<&'a [u8]>
     ensures { option_map (λ n. n.now) result ≡ option_map (λ (f : FileView). f.name) (find (is_mapping address) (files_left maps.entry)) }
 {

@@ -1,4 +1,5 @@
-//! What people are shown of a case or an archive: texts and JSON of its facts, of what its image says and of replies, which are handed in.
+//! What people are shown of a case or an archive: texts and JSON of its facts, of what its image says and of what is found in its memory,
+//! which are handed in as values.
 #![tactic(auto)]
 
 mod answer;
@@ -10,7 +11,7 @@ mod codes;
 mod files;
 mod frames;
 mod laws;
-mod lines;
+mod memory_values;
 mod note_values;
 mod process;
 mod quotes;
@@ -24,12 +25,11 @@ mod texts;
 mod threads;
 mod told_notes;
 
-pub use answer::{Answer, CaseAnswers, CoreAnswers};
+pub use answer::{CaseAnswers, CoreAnswers};
 pub use archive::{ArchiveFacts, tell_archive_screen};
 pub use archive_values::archive_json;
 pub use case_values::case_json;
 pub use laws::quoted_names_are_read_again;
-pub use lines::reply_lines;
 pub use rows::{refusal_json, rows_json};
 pub use screen::tell_case_screen;
 pub use tally::{Tally, tally_of};

@@ -119,7 +119,7 @@ pub(crate) fn header_value(
 }
 
 // A number that is printed in hexadecimal.
-fn hex_value(alloc: Global, number: u64) -> Result<Value, AllocError> {
+pub(crate) fn hex_value(alloc: Global, number: u64) -> Result<Value, AllocError> {
     string_value(alloc, print_hexadecimal(u128::from(number)).as_slice())
 }
 

@@ -51,3 +51,13 @@ pub(crate) fn missing() -> Reason<'static>
         index: None,
     }
 }
+
+// It has no such thread.
+pub(crate) fn no_thread() -> Reason<'static>
+    ensures { reason_view result ≡ reasons.no_thread }
+{
+    Reason {
+        name: b"NoThread",
+        index: None,
+    }
+}

@@ -1,11 +1,10 @@
 // The rows of a reply as JSON.
 ghost use Rattle.std.specs.Prelude.{◌<◌, length, IfSome};
 
-use crate::answer::Answer;
 use crate::auxiliary::auxv_name;
-use crate::lines::row_count;
 use crate::shapes::{Field, FieldKind, field_of, form_of};
-use script_words::{Words, parse_number, print_byte};
+use bstr::ByteSlice;
+use script_words::{Words, parse_number, print_byte, print_decimal};
 use serde_json::{Map, Value, put};
 use std::alloc::{AllocError, Global};
 use std::str;
@@ -13,13 +12,20 @@ use std::str;
 // The first number that a JSON number may not be told as.
 const TOO_LARGE: u64 = 9_007_199_254_740_992;
 
-/// The rows of a reply that is done as a JSON array of objects, a field for each word, by the forms that they have.
+/// The rows of a reply as a JSON array of objects, a field for each word, by the forms that they have.
 ///
 /// # Errors
 ///
 /// There is no memory.
-pub fn rows_json(alloc: Global, answer: &Answer<'_>, forms: &[&str]) -> Result<String, AllocError> {
-    rows_value(alloc, answer.lines, row_count(answer.lines), forms)?.to_string(alloc)
+pub fn rows_json(alloc: Global, rows: &[u8], forms: &[&str]) -> Result<String, AllocError> {
+    let mut values = Vec::new(alloc);
+    let mut rest = rows.lines();
+    while let Some(line) = rest.next() {
+        let mut map = Map::new(alloc);
+        put_row(alloc, &mut map, line, forms)?;
+        values.push(Value::Object(map))?;
+    }
+    Value::Array(values).to_string(alloc)
 }
 
 /// Why something is refused, as a JSON object.
@@ -35,22 +41,6 @@ pub(crate) fn refusal_value(alloc: Global, reason: &[u8]) -> Result<Value, Alloc
     let mut map = Map::new(alloc);
     put(&mut map, alloc, "refused", string_value(alloc, reason)?)?;
     Ok(Value::Object(map))
-}
-
-// This many rows, each as an object.
-pub(crate) fn rows_value(
-    alloc: Global,
-    lines: &[&[u8]],
-    count: usize,
-    forms: &[&str],
-) -> Result<Value, AllocError> {
-    let mut values = Vec::new(alloc);
-    for line in lines.iter().take(count) {
-        let mut map = Map::new(alloc);
-        put_row(alloc, &mut map, line, forms)?;
-        values.push(Value::Object(map))?;
-    }
-    Ok(Value::Array(values))
 }
 
 // Puts a text; or null, if it is empty. If it is no UTF-8 it is printed as a script prints it, and `escaped` says so.
@@ -82,7 +72,7 @@ fn printed_value(alloc: Global, text: &[u8]) -> Result<Value, AllocError> {
 }
 
 // Puts the fields of a row into an object. A row of no form is one field.
-pub(crate) fn put_row(
+fn put_row(
     alloc: Global,
     map: &mut Map<String, Value>,
     line: &[u8],
@@ -165,7 +155,7 @@ fn auxv_value(alloc: Global, word: &[u8]) -> Result<Value, AllocError> {
 }
 
 // A decimal number that a JSON number holds, or a string.
-pub(crate) fn word_value(alloc: Global, word: &[u8]) -> Result<Value, AllocError> {
+fn word_value(alloc: Global, word: &[u8]) -> Result<Value, AllocError> {
     let (digits, negative) = match word.split_first() {
         Some((first, digits)) if *first == b'-' => (digits, true),
         _ => (word, false),
@@ -180,6 +170,11 @@ pub(crate) fn word_value(alloc: Global, word: &[u8]) -> Result<Value, AllocError
         }
         _ => string_value(alloc, word),
     }
+}
+
+// A number that a JSON number holds, or a string.
+pub(crate) fn number_value(alloc: Global, number: u64) -> Result<Value, AllocError> {
+    word_value(alloc, print_decimal(u128::from(number)).as_slice())
 }
 
 // A text that is UTF-8 as a string.

@@ -20,8 +20,8 @@ use unread_notes::UnreadNotes;
 // How wide the name of a case is, if it is not longer.
 const NAME_WIDTH: usize = 36;
 
-/// Tells one screen of a case: what is known of it, of the cases of its archive, of its image, and of the replies to the lines that were
-/// asked.
+/// Tells one screen of a case: what is known of it, of the cases of its archive, of its image, and of the frames and the build IDs
+/// that were found.
 pub fn tell_case_screen<O: Output>(
     reply: &mut Reply<'_, O>,
     case: &Entry,
@@ -127,7 +127,7 @@ fn tell_core<O: Output>(
     tell_process(reply, &answers.core);
     tell_signal_line(reply, case.signal, &answers.core);
     tell_threads(reply, &answers.core, answers.unwound);
-    tell_files(reply, cases, &answers.builds);
+    tell_files(reply, cases, &answers.core, answers.builds);
 }
 
 fn tell_exec<O: Output>(reply: &mut Reply<'_, O>, header: &Result<Header, ElfFault>)

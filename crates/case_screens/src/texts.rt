@@ -1,20 +1,17 @@
 // The small texts of a screen.
-ghost use Rattle.std.specs.Prelude.{◌≡◌, ◌++◌, MatchOption, None, Some, length};
+ghost use Rattle.std.specs.Prelude.{◌≡◌, ◌+◌, ◌-◌, ◌≤◌, length};
 ghost use Rattle.std.specs.List.{flat_map};
 ghost use Rattle.case_tables.specs.Table.{left_text};
+ghost use Rattle.script_words.specs.Printing.{shown};
 ghost use Rattle.script_streams.specs.Replies.{TellsText, telling};
 ghost use Rattle.case_screens.specs.Reasons.{named};
 ghost use Rattle.case_screens.specs.ReasonWords.{reason_view};
-ghost use Rattle.case_screens.specs.Texts.{is_of_another_machine, label_at, plain_byte, plain_text, refusal_text, refused_line, text_in, without_space};
+ghost use Rattle.case_screens.specs.Texts.{is_of_another_machine, label_at, plain_byte, plain_text, refusal_text, refused_line, without_space};
 
 use crate::reason::Reason;
-use arrayvec::ArrayVec;
-use case_tables::tell_spaces;
+use case_tables::{shown_length, tell_spaces};
 use script_streams::{Output, Reply};
-use script_words::{decode_text, print_byte};
-
-// The most bytes of a word that is read as a text.
-const MOST: usize = 1_024;
+use script_words::print_byte;
 
 // What stands before a line that continues the one above it.
 pub(crate) const MARGIN: &[u8] = b"          ";
@@ -39,14 +36,17 @@ pub(crate) fn tell_left<O: Output>(reply: &mut Reply<'_, O>, width: usize, text:
     reply.tell(b"  ");
 }
 
-// The text of a word of a reply, if it is not over 1,024 bytes.
-pub(crate) fn text_in(word: &[u8]) -> Option<ArrayVec<u8, 1024>>
-    ensures { MatchOption result (text_in word.now ≡ None) (λ text. text_in word.now ≡ Some text.items) }
+// How many spaces stand in a column of that width behind a text, as a script prints it, and so many bytes more.
+pub(crate) fn room_after(width: usize, text: &[u8], more: usize) -> usize
+    requires { width ≤ 128 }
+    ensures { result ≡ width - (length (shown text.now) + more) }
 {
-    if word.len() > MOST {
-        return None;
+    if text.len() >= width {
+        return 0;
     }
-    decode_text(word)
+    width
+        .saturating_sub(shown_length(text))
+        .saturating_sub(more)
 }
 
 // A text without the space that may end it.

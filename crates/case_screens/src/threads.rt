@@ -8,15 +8,13 @@ ghost use Rattle.script_streams.specs.Replies.{TellsText, telling};
 ghost use Rattle.thread_regs.specs.ThreadWords.{thread_bytes, threads_left};
 ghost use Rattle.case_screens.specs.Core.{files_in, notes_read};
 ghost use Rattle.case_screens.specs.Frames as spec;
-ghost use Rattle.case_screens.specs.Lines.{texts};
 
-use crate::answer::Answer;
 use crate::frames::{frame_file, tell_frames};
-use crate::lines::{line_at, word_at};
 use crate::reason::core_reason;
 use crate::texts::tell_refused;
 use crate::told_notes::{pc_of, thread_count};
 use core_notes::Files;
+use frame_replies::{FrameAnswer, FramesAnswer, tell_frame_place};
 use image_replies::{CoreFault, CoreImage};
 use script_streams::{Output, Reply};
 use thread_regs::{Thread, ThreadList, threads};
@@ -25,7 +23,7 @@ use thread_regs::{Thread, ThreadList, threads};
 pub(crate) fn tell_threads<O: Output>(
     reply: &mut Reply<'_, O>,
     core: &Result<CoreImage<'_>, CoreFault>,
-    unwound: &[Answer<'_>],
+    unwound: &[Option<FramesAnswer<'_>>],
 )
     ensures { TellsText (telling O.Output reply.old reply.new) (spec.threads_text (notes_read core.now) unwound.now) }
 {
@@ -39,7 +37,11 @@ pub(crate) fn tell_threads<O: Output>(
     }
 }
 
-fn tell_shown<O: Output>(reply: &mut Reply<'_, O>, core: &CoreImage<'_>, unwound: &[Answer<'_>])
+fn tell_shown<O: Output>(
+    reply: &mut Reply<'_, O>,
+    core: &CoreImage<'_>,
+    unwound: &[Option<FramesAnswer<'_>>],
+)
     ensures { TellsText (telling O.Output reply.old reply.new) (spec.shown_threads (notes_of Core (core_bytes core.now)) unwound.now) }
 {
     if unwound.is_empty() {
@@ -61,7 +63,7 @@ fn tell_each<O: Output>(
     files: Option<Files<'_>>,
     count: u64,
     threads: ThreadList<'_>,
-    unwound: &[Answer<'_>],
+    unwound: &[Option<FramesAnswer<'_>>],
 )
     ensures { TellsText (telling O.Output reply.old reply.new) (spec.each_thread (files_in (option_map files_bytes files.entry)) count (threads_left threads.entry) unwound.now) }
 {
@@ -79,7 +81,7 @@ fn tell_thread<O: Output>(
     files: Option<Files<'_>>,
     count: u64,
     thread: &Thread<'_>,
-    frames: &Answer<'_>,
+    frames: &Option<FramesAnswer<'_>>,
 )
     ensures { TellsText (telling O.Output reply.old reply.new) (spec.thread_text (files_in (option_map files_bytes files.entry)) count (thread_bytes thread.now) frames.now) }
 {
@@ -95,21 +97,37 @@ fn tell_thread<O: Output>(
 }
 
 // Tells the function and the file of a thread's pc, as far as they are known.
-fn tell_place<O: Output>(reply: &mut Reply<'_, O>, files: Option<Files<'_>>, frames: &Answer<'_>)
-    ensures { TellsText (telling O.Output reply.old reply.new) (spec.pc_place (files_in (option_map files_bytes files.entry)) frames.now.is_done (texts frames.now.lines.now)) }
+fn tell_place<O: Output>(
+    reply: &mut Reply<'_, O>,
+    files: Option<Files<'_>>,
+    frames: &Option<FramesAnswer<'_>>,
+)
+    ensures { TellsText (telling O.Output reply.old reply.new) (spec.pc_place (files_in (option_map files_bytes files.entry)) frames.now) }
 {
-    if frames.is_done {
-        tell_function(reply, word_at(line_at(frames.lines, 0), 2));
-        tell_file(reply, frame_file(files, frames.lines, 0));
+    if let Some(answer) = frames {
+        tell_first(reply, files, &answer.frames);
     }
 }
 
-fn tell_function<O: Output>(reply: &mut Reply<'_, O>, place: &[u8])
-    ensures { TellsText (telling O.Output reply.old reply.new) (spec.in_function place.now) }
+fn tell_first<O: Output>(
+    reply: &mut Reply<'_, O>,
+    files: Option<Files<'_>>,
+    frames: &[FrameAnswer<'_>],
+)
+    ensures { TellsText (telling O.Output reply.old reply.new) (spec.first_place (files_in (option_map files_bytes files.entry)) frames.now) }
 {
-    if place != b"?".as_slice() {
+    if let [frame, ..] = frames {
+        tell_function(reply, frame);
+        tell_file(reply, frame_file(files, frame));
+    }
+}
+
+fn tell_function<O: Output>(reply: &mut Reply<'_, O>, frame: &FrameAnswer<'_>)
+    ensures { TellsText (telling O.Output reply.old reply.new) (spec.in_function frame.now) }
+{
+    if frame.signal || frame.function.is_some() {
         reply.tell(b" in ");
-        reply.tell(place);
+        tell_frame_place(reply, frame);
     }
 }
 

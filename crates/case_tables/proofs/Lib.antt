@@ -1,3 +1,4 @@
 pub mod DayLemmas
 pub mod TableLemmas
 pub mod NamedLemmas
+pub mod JsonLemmas

@@ -5,3 +5,4 @@ pub mod Cells
 pub mod Table
 pub mod Wanted
 pub mod Named
+pub mod Json

@@ -1,7 +1,15 @@
 // The cases of an archive as JSON.
+ghost use Rattle.std.specs.Prelude.{◌≡◌, ◌≢◌, ◌++◌, ◌∷◌, [], true, false, map, Some, IfOk, OnOk, string_bytes};
+ghost use Rattle.std.specs.Str.{is_utf8, IsAscii};
+ghost use Rattle.serde_json.specs.Read.{read};
+ghost use Rattle.serde_json.specs.View.{view};
+ghost use Rattle.journal_layout.specs.Case.{Case, case_of};
+ghost use Rattle.script_words.specs.Printing.{shown};
+ghost use Rattle.case_tables.specs.Json.{case_json, cases_json, is_escaped, kind_word, known_json, number_json, signal_json, text_json};
+
 use crate::signals::name_of;
 use journal_layout::{Entry, Kind};
-use script_words::{print_byte, print_decimal};
+use script_words::print_byte;
 use serde_json::{Value, json};
 use std::alloc::{AllocError, Global};
 use std::str;
@@ -10,12 +18,22 @@ use std::str;
 const FIRST_LARGE: u64 = 1 << 53;
 
 // An array of an object for each case.
-pub(crate) fn json_of(alloc: Global, cases: &[&Entry]) -> Result<String, AllocError> {
+pub(crate) fn json_of(alloc: Global, cases: &[&Entry]) -> Result<String, AllocError>
+    ensures { IfOk result (λ text. read (string_bytes text) ≡ Some (cases_json (map (λ e. case_of e.now) cases.now))) }
+{
     let mut values = Vec::new(alloc);
     for case in cases {
-        values.push(case_value(alloc, case)?)?;
+        push_case(alloc, &mut values, case)?;
     }
     Value::Array(values).to_string(alloc)
+}
+
+// Adds an object for a case.
+fn push_case(alloc: Global, values: &mut Vec<Value>, case: &Entry) -> Result<(), AllocError>
+    ensures { OnOk result (map view values.new.items ≡ map view values.old.items ++ case_json (case_of case.now) ∷ []) }
+{
+    values.push(case_value(alloc, case)?)?;
+    Ok(())
 }
 
 /// An object with what is known of a case. If the name or the label is no UTF-8, both are printed as a script prints them, and
@@ -24,25 +42,44 @@ pub(crate) fn json_of(alloc: Global, cases: &[&Entry]) -> Result<String, AllocEr
 /// # Errors
 ///
 /// There is no memory.
-pub fn case_value(alloc: Global, case: &Entry) -> Result<Value, AllocError> {
-    let name = case.name.as_slice();
-    let label = case.label.as_slice();
-    let escaped = str::from_utf8(name).is_err() || str::from_utf8(label).is_err();
+pub fn case_value(alloc: Global, case: &Entry) -> Result<Value, AllocError>
+    ensures { IfOk result (λ value. view value ≡ case_json (case_of case.now)) }
+{
+    let escaped = is_escaped(case);
+    // Members stand in the order of their names. Given from the last to the first, each comes before all others.
     json!(in alloc; {
-        "case": case.seq,
-        "kind": kind_word(case.kind),
         "time": known_value(alloc, case.time)?,
-        "pid": known_value(alloc, u64::from(case.pid))?,
-        "signal": signal_value(alloc, case.signal)?,
         "size": number_value(alloc, case.length)?,
+        "signal": signal_value(alloc, case.signal)?,
+        "pid": known_value(alloc, u64::from(case.pid))?,
+        "name": text_value(alloc, case.name.as_slice(), escaped)?,
+        "label": text_value(alloc, case.label.as_slice(), escaped)?,
+        "kind": kind_word(case.kind),
         "kept": case.pinned,
-        "name": text_value(alloc, name, escaped)?,
-        "label": text_value(alloc, label, escaped)?,
         "escaped": escaped,
+        "case": case.seq,
     })
 }
 
-fn kind_word(kind: Kind) -> &'static str {
+// Whether the name or the label is no UTF-8.
+fn is_escaped(case: &Entry) -> bool
+    ensures { result ≡ is_escaped (case_of case.now) }
+{
+    !is_text(case.name.as_slice()) || !is_text(case.label.as_slice())
+}
+
+fn is_text(bytes: &[u8]) -> bool
+    ensures { result ≡ is_utf8 bytes.now }
+{
+    match str::from_utf8(bytes) {
+        Ok(_) => true,
+        Err(_) => false,
+    }
+}
+
+fn kind_word(kind: Kind) -> &'static str
+    ensures { result.now ≡ kind_word kind }
+{
     match kind {
         Kind::Core => "core",
         Kind::Exec => "exec",
@@ -50,7 +87,9 @@ fn kind_word(kind: Kind) -> &'static str {
 }
 
 // A number that is known, or null.
-fn known_value(alloc: Global, number: u64) -> Result<Value, AllocError> {
+fn known_value(alloc: Global, number: u64) -> Result<Value, AllocError>
+    ensures { IfOk result (λ value. view value ≡ known_json number) }
+{
     if number == 0 {
         return Ok(Value::Null);
     }
@@ -58,50 +97,65 @@ fn known_value(alloc: Global, number: u64) -> Result<Value, AllocError> {
 }
 
 // A number; from `FIRST_LARGE` on its decimal digits, as a string.
-fn number_value(alloc: Global, number: u64) -> Result<Value, AllocError> {
+fn number_value(alloc: Global, number: u64) -> Result<Value, AllocError>
+    ensures { IfOk result (λ value. view value ≡ number_json number) }
+{
     if number < FIRST_LARGE {
         return Ok(Value::from(number));
     }
-    let mut digits = String::new(alloc);
-    for digit in &print_decimal(u128::from(number)) {
-        digits.push(char::from(*digit))?;
-    }
-    Ok(Value::String(digits))
+    Ok(Value::String(format!(in alloc; "{number}")?))
 }
 
 // A signal's name; or its number if it has no name; or null for 0.
-fn signal_value(alloc: Global, signal: u32) -> Result<Value, AllocError> {
-    let Some(name) = name_of(signal) else {
-        return known_value(alloc, u64::from(signal));
-    };
-    let mut text = String::new(alloc);
-    text.push_str("SIG")?;
-    text.push_str(name)?;
-    Ok(Value::String(text))
+fn signal_value(alloc: Global, signal: u32) -> Result<Value, AllocError>
+    ensures { IfOk result (λ value. view value ≡ signal_json signal) }
+{
+    match name_of(signal) {
+        Some(name) => Ok(Value::String(format!(in alloc; "SIG{name}")?)),
+        None => known_value(alloc, u64::from(signal)),
+    }
 }
 
 // A text, or null if it is empty.
-fn text_value(alloc: Global, text: &[u8], escaped: bool) -> Result<Value, AllocError> {
+fn text_value(alloc: Global, text: &[u8], escaped: bool) -> Result<Value, AllocError>
+    requires { escaped ≡ false → is_utf8 text.now ≡ true }
+    ensures { IfOk result (λ value. view value ≡ text_json escaped text.now) }
+{
     if text.is_empty() {
         return Ok(Value::Null);
     }
-    let mut value = String::new(alloc);
-    match str::from_utf8(text) {
-        Ok(text) if !escaped => value.push_str(text)?,
-        _ => push_printed(&mut value, text)?,
+    if escaped {
+        return Ok(Value::String(printed(alloc, text)?));
     }
-    Ok(Value::String(value))
+    match str::from_utf8(text) {
+        Ok(text) => Ok(Value::String(format!(in alloc; "{text}")?)),
+        Err(_) => Ok(Value::String(printed(alloc, text)?)),
+    }
 }
 
-// Adds how a text prints. A minus alone would stand for an empty text.
-fn push_printed(value: &mut String, text: &[u8]) -> Result<(), AllocError> {
+// How a text prints that is not empty. A minus alone would stand for an empty text.
+fn printed(alloc: Global, text: &[u8]) -> Result<String, AllocError>
+    requires { text.now ≢ [] }
+    ensures { IfOk result (λ value. string_bytes value ≡ shown text.now) }
+{
+    let mut value = String::new(alloc);
     if text == b"-".as_slice() {
-        return value.push_str("\\x2d");
+        value.push_str("\\x2d")?;
+        return Ok(value);
     }
     for byte in text {
-        for letter in &print_byte(*byte) {
-            value.push(char::from(*letter))?;
-        }
+        push_letters(&mut value, &print_byte(*byte))?;
+    }
+    Ok(value)
+}
+
+// Adds letters, each of which is one of ASCII.
+fn push_letters(value: &mut String, letters: &[u8]) -> Result<(), AllocError>
+    requires { IsAscii letters.now }
+    ensures { OnOk result (string_bytes value.new ≡ string_bytes value.old ++ letters.now) }
+{
+    for letter in letters {
+        value.push(char::from(*letter))?;
     }
     Ok(())
 }

@@ -1,7 +1,9 @@
 // A list of the cases that are wanted.
-ghost use Rattle.std.specs.Prelude.{◌≡◌, map, not, length, ◌==◌, IfOk};
+ghost use Rattle.std.specs.Prelude.{◌≡◌, map, not, length, ◌==◌, Some, IfOk, string_bytes};
+ghost use Rattle.serde_json.specs.Read.{read};
 ghost use Rattle.journal_layout.specs.Case.{case_of};
 ghost use Rattle.script_streams.specs.Replies.{TellsText, telling};
+ghost use Rattle.case_tables.specs.Json.{cases_json};
 ghost use Rattle.case_tables.specs.Table.{list_table};
 ghost use Rattle.case_tables.specs.Wanted.{chosen};
 
@@ -42,6 +44,7 @@ pub fn list_json(
     cases: &[Entry],
     wanted: &Wanted<'_>,
 ) -> Result<(String, bool), AllocError>
+    ensures is_json { IfOk result (λ list. read (string_bytes list.0) ≡ Some (cases_json (chosen wanted.now (map case_of cases.now)))) }
     ensures some { IfOk result (λ list. list.1 ≡ not (length (chosen wanted.now (map case_of cases.now)) == 0)) }
 {
     let found = find_wanted(alloc, cases, wanted)?;

@@ -1,16 +1,20 @@
 -- What the words of a command ask for, but for those of `store` and `handle`.
-use Rattle.std.specs.Prelude.{◌≡◌, ℕ, ◌<◌, ◌==◌, Bool, false, not, List, [], ◌∷◌, ◌++◌, length, map, Option, None, Some, String, codes, string_bytes, unwrap_or, if◌then◌else◌}
+use Rattle.std.specs.Prelude.{◌≡◌, ℕ, ◌<◌, ◌==◌, Bool, false, not, List, [], ◌∷◌, ◌++◌, length, map, Option, None, Some, String, codes, option_map, string_bytes, unwrap_or, if◌then◌else◌}
 use Rattle.std.specs.Option.{option_copied, option_map_or}
 use Rattle.archive_files.specs.declared.archive_path.ArchivePath.{ArchivePath}
 use Rattle.archive_files.specs.declared.archives.NewArchive.{NewArchive}
 use Rattle.archive_files.specs.declared.copies.CopyWords.{CopyWords}
 use Rattle.salvage.specs.declared.mending.ShapeWish.{ShapeWish}
 use Rattle.archive_files.specs.declared.failures.Refusal.{Refusal}
+use Rattle.case_listing.specs.Foreseeing.{IsPolicyOf}
+use Rattle.case_listing.specs.declared.listing.ListWords.{ListWords}
 use Rattle.archive_files.specs.declared.failures.Refusal.TheVariants.{LineTooLong, NoLine}
 use Rattle.command_words.specs.Lines.{joined}
 use Rattle.command_words.specs.RawWords.{bytes_meant}
 use Rattle.command_words.specs.Words.{IsRead, flag_in, number_in, small_number_in, text_in, words_in}
 use Rattle.command_words.specs.declared.given.Given.{Given}
+use Rattle.journal_layout.specs.declared.entry.Kind.{Kind}
+use Rattle.journal_layout.specs.declared.entry.Kind.TheVariants.{Core, Exec}
 use Rattle.journal_layout.specs.declared.shape.Shape.{Shape}
 use Rattle.script_lines.specs.Commands.{question_said}
 use Rattle.script_lines.specs.Said.{is_question, said}
@@ -117,6 +121,34 @@ pub record IsLine (given : Given) (line : AskedLine) : Type 0 where
   pub words : words_of line ≡ words_in given ++ digits_meant (text_in given (codes "text"))
   pub form : line.form ≡ form_said given
 
+-- ---- What `list` is to show.
+
+-- `--kind`: the kind that it names, if it is there
+abbrev pub IsKind : Option (List ℕ) → Option Kind → Type 0
+IsKind None kind = kind ≡ None
+IsKind (Some text) None = ⊥
+IsKind (Some text) (Some Core) = text ≡ codes "core"
+IsKind (Some text) (Some Exec) = text ≡ codes "exec"
+
+-- `--signal`: there is a signal exactly if it is there. Which one is what the text says of it.
+abbrev pub IsThereWith : Option (List ℕ) → Option ℕ → Type 0
+IsThereWith None signal = signal ≡ None
+IsThereWith (Some text) None = ⊥
+IsThereWith (Some text) (Some signal) = Unit {0}
+
+-- Which cases `list` is to show, each fact under its own name. The times are read later, once the clock was asked.
+pub record IsListed (given : Given) (words : ListWords) : Type 0 where
+  pub kind : IsKind (text_in given (codes "kind")) words.wanted.kind
+  pub name : option_map (λ (t : _). t.now) words.wanted.name ≡ text_in given (codes "name")
+  pub pid : words.wanted.pid ≡ number_in given (codes "pid")
+  pub signal : IsThereWith (text_in given (codes "signal")) words.wanted.signal
+  pub label : option_map (λ (t : _). t.now) words.wanted.label ≡ text_in given (codes "label")
+  pub pinned : words.wanted.pinned ≡ flag_in given (codes "pinned")
+  pub last : words.wanted.last ≡ number_in given (codes "last")
+  pub since : option_copied words.since ≡ text_in given (codes "since")
+  pub until : option_copied words.until ≡ text_in given (codes "until")
+  pub json : words.is_json ≡ flag_in given (codes "json")
+
 -- ---- What each command asks for.
 
 -- an archive in a new file
@@ -127,7 +159,7 @@ IsFormat given _ = ⊥
 -- One line, or which cases `retire` would drop.
 abbrev pub IsAsk : Given → ArchivePath → Asked → Type 0
 IsAsk given archive (asked.Ask place line question) = (place ≡ archive) × IsLine given line × IsAsked (joined (words_of line)) question
-IsAsk given archive (asked.WouldRetire place policy) = place ≡ archive
+IsAsk given archive (asked.WouldRetire place policy) = (place ≡ archive) × IsPolicyOf (words_in given) (Some policy)
 IsAsk given archive _ = ⊥
 
 -- the commands over the archive in a file
@@ -147,9 +179,9 @@ IsOver given archive (asked.Store place file request log) =
     (given.command.now ≡ codes "store") × (store : GivenStore) × IsGiven found_under given store × (store.pairs.now ≡ given.words.items) × AsksToStore store archive (asked.Store place file request log)
 IsOver given archive (asked.Extract place case file) =
     (given.command.now ≡ codes "extract") × (place ≡ archive) × (case.now ≡ text_said given (codes "case")) × (option_copied file ≡ text_in given (codes "file"))
-IsOver given archive (asked.List place wanted) = (given.command.now ≡ codes "list") × (place ≡ archive)
+IsOver given archive (asked.List place wanted) = (given.command.now ≡ codes "list") × (place ≡ archive) × IsListed given wanted
 IsOver given archive (asked.Ask place line question) = (given.command.now ≡ codes "ask") × IsAsk given archive (asked.Ask place line question)
-IsOver given archive (asked.WouldRetire place policy) = (given.command.now ≡ codes "ask") × (place ≡ archive)
+IsOver given archive (asked.WouldRetire place policy) = (given.command.now ≡ codes "ask") × IsAsk given archive (asked.WouldRetire place policy)
 IsOver given archive (asked.Info place case wanted) =
     (given.command.now ≡ codes "info") × (place ≡ archive) × (option_copied case ≡ text_in given (codes "case"))
     × (wanted.all_threads ≡ flag_in given (codes "threads")) × (wanted.is_json ≡ flag_in given (codes "json"))

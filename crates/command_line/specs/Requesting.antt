@@ -12,7 +12,7 @@ use Rattle.archive_files.specs.declared.storing.StoreRequest.{StoreRequest}
 use Rattle.archive_files.specs.declared.storing.StoreWords.{StoreWords}
 use Rattle.command_words.specs.RawWords.{bytes_meant}
 use Rattle.core_handler.specs.Fronts.{named_by}
-use Rattle.core_handler.specs.Requesting.{policy_within}
+use Rattle.core_handler.specs.Requesting.{order_of, policy_within}
 use Rattle.core_handler.specs.declared.handling.HandleWords.{HandleWords}
 use Rattle.inspector_cli.specs.Storing.{line_stream}
 use Rattle.name_template.specs.Template.{template_fault}
@@ -113,6 +113,8 @@ pub record AsksFor (given : GivenStore) (words : StoreWords) : Type 0 where
   pub pin : words.options.pin ≡ given.pin
   -- cases go while it is stored
   pub fit : words.options.fit ≡ given.fit
+  -- and in which order
+  pub order : words.options.order ≡ order_of given.fair
   -- what has more bytes than the limit, or finds no room, is kept up to there
   pub cut : words.options.cut ≡ (if given.cut then Some given.settings.limit else None)
   -- how many bytes it has
@@ -178,6 +180,7 @@ pub record IsGiven {W : Type 0} (g : named.Ghosts W) (words : W) (given : GivenS
   pub escapes : g.stated words (codes "escape") given.escapes
   pub pin : g.stated words (codes "pin") given.pin
   pub fit : g.stated words (codes "fit") given.fit
+  pub fair : g.stated words (codes "fair") given.fair
   pub cut : g.stated words (codes "cut") given.cut
   pub template : (template : Option (List ℕ)) × g.stands words (codes "template") template × (given.settings.template.now ≡ unwrap_or template [])
   pub uses_pid : g.stated words (codes "uses-pid") given.settings.uses_pid
@@ -265,6 +268,7 @@ pub record IsGivenToHandle {W : Type 0} (g : named.Ghosts W) (words : W) (given 
   pub archive : g.stands words (codes "archive") (option_copied given.archive)
   pub length : g.stands words (codes "length") (option_copied given.length)
   pub is_check : g.stated words (codes "check") given.is_check
+  pub is_flush : g.stated words (codes "flush") given.is_flush
 
 -- What `handle` asks for.
 pub record Handles (given : GivenHandle) (asked : HandleWords) : Type 0 where
@@ -280,3 +284,4 @@ pub record Handles (given : GivenHandle) (asked : HandleWords) : Type 0 where
   pub core_limit : IsNumberAt (codes "limit=") (pairs_beside given.words.now) asked.core_limit
   pub mode : IsNumberAt (codes "mode=") (pairs_beside given.words.now) asked.mode
   pub is_check : asked.is_check ≡ given.is_check
+  pub is_flush : asked.is_flush ≡ given.is_flush

@@ -9,7 +9,7 @@ ghost use Rattle.command_line.specs.Requesting.{IsUnspelled};
 
 use crate::asked::{Asked, checked};
 use archive_files::{ArchivePath, Refusal};
-use case_listing::{foreseen_by, names_a_case};
+use case_listing::{foreseen_by, named_question};
 use command_words::{Given, digits_of, line_of, usage_told};
 use line_help::rows_of;
 use script_lines::{Question, parse_question};
@@ -97,9 +97,9 @@ impl AskedLine<'_> {
         let Ok(words) = self.words(alloc) else {
             return Err(Refusal::OutOfMemory);
         };
-        match names_a_case(alloc, &words) {
-            Ok(true) => Ok(None),
-            Ok(false) => Err(Refusal::NoLine(usage_told(first_of(&self.words)))),
+        match named_question(alloc, &words) {
+            Ok(Some(_)) => Ok(None),
+            Ok(None) => Err(Refusal::NoLine(usage_told(first_of(&self.words)))),
             Err(_) => Err(Refusal::OutOfMemory),
         }
     }

@@ -18,6 +18,7 @@ pub(crate) struct GivenHandle<'g, 'a> {
     archive: Option<&'a str>,
     length: Option<&'a str>,
     is_check: bool,
+    is_flush: bool,
     // The name of the configuration, and what is known of a core.
     words: &'g [&'a str],
 }
@@ -32,6 +33,7 @@ impl<'g, 'a> GivenHandle<'g, 'a> {
             archive: named.word("archive"),
             length: named.word("length"),
             is_check: named.states("check"),
+            is_flush: named.states("flush"),
             words,
         }
     }
@@ -61,6 +63,7 @@ pub(crate) fn handle_words<'a>(
         core_limit: number_at(pairs, "limit="),
         mode: number_at(pairs, "mode="),
         is_check: given.is_check,
+        is_flush: given.is_flush,
     })
 }
 

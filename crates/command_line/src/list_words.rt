@@ -1,4 +1,9 @@
 // What the words of `list` ask for.
+ghost use Rattle.std.specs.Prelude.{◌≡◌, IfOk, option_map};
+ghost use Rattle.std.specs.Option.{option_copied};
+ghost use Rattle.command_words.specs.Words.{text_in};
+ghost use Rattle.command_line.specs.Asking as asking;
+
 use crate::asked::text_if;
 use archive_files::Refusal;
 use case_listing::ListWords;
@@ -7,19 +12,20 @@ use command_words::Given;
 use journal_layout::Kind;
 
 // What these words ask for.
-pub(crate) fn list_words<'a>(given: &Given<'a>) -> Result<ListWords<'a>, Refusal> {
-    let last = given.number("last");
+pub(crate) fn list_words<'a>(given: &Given<'a>) -> Result<ListWords<'a>, Refusal>
+    ensures listed { IfOk result (asking.IsListed given.now) }
+{
     Ok(ListWords {
         wanted: Wanted {
-            kind: given.text("kind").map(kind_said).transpose()?,
+            kind: kind_said(given.text("kind"))?,
             name: text_said(given, "name")?,
-            pid: given.number("pid").map(pid_said).transpose()?,
-            signal: given.text("signal").map(signal_said).transpose()?,
+            pid: pid_said(given.number("pid"))?,
+            signal: signal_said(given.text("signal"))?,
             since: None,
             until: None,
             label: text_said(given, "label")?,
             pinned: given.flag("pinned"),
-            last: last.map(|count| usize::try_from(count).unwrap_or(usize::MAX)),
+            last: count_said(given.number("last")),
         },
         since: given.text("since"),
         until: given.text("until"),
@@ -27,25 +33,59 @@ pub(crate) fn list_words<'a>(given: &Given<'a>) -> Result<ListWords<'a>, Refusal
     })
 }
 
-fn text_said<'a>(given: &Given<'a>, name: &str) -> Result<Option<&'a [u8]>, Refusal> {
+fn text_said<'a>(given: &Given<'a>, name: &str) -> Result<Option<&'a [u8]>, Refusal>
+    ensures { IfOk result (λ text. option_map (λ (t : _). t.now) text ≡ text_in given.now name.now) }
+{
     match text_if(given, name)? {
         Some(text) => Ok(Some(text.as_bytes())),
         None => Ok(None),
     }
 }
 
-fn kind_said(text: &str) -> Result<Kind, Refusal> {
-    match text {
-        "core" => Ok(Kind::Core),
-        "exec" => Ok(Kind::Exec),
-        _ => Err(Refusal::BadLine),
+fn kind_said(text: Option<&str>) -> Result<Option<Kind>, Refusal>
+    ensures { IfOk result (asking.IsKind (option_copied text.entry)) }
+{
+    let Some(text) = text else {
+        return Ok(None);
+    };
+    if text == "core" {
+        return Ok(Some(Kind::Core));
+    }
+    if text == "exec" {
+        return Ok(Some(Kind::Exec));
+    }
+    Err(Refusal::BadLine)
+}
+
+fn pid_said(pid: Option<u64>) -> Result<Option<u32>, Refusal>
+    ensures { IfOk result (λ number. number ≡ pid) }
+{
+    let Some(pid) = pid else {
+        return Ok(None);
+    };
+    match u32::try_from(pid) {
+        Ok(pid) => Ok(Some(pid)),
+        Err(_) => Err(Refusal::BadLine),
     }
 }
 
-fn pid_said(pid: u64) -> Result<u32, Refusal> {
-    u32::try_from(pid).map_err(|_| Refusal::BadLine)
+fn signal_said(text: Option<&str>) -> Result<Option<u32>, Refusal>
+    ensures { IfOk result (asking.IsThereWith (option_copied text.entry)) }
+{
+    let Some(text) = text else {
+        return Ok(None);
+    };
+    match read_signal(text) {
+        Some(signal) => Ok(Some(signal)),
+        None => Err(Refusal::BadLine),
+    }
 }
 
-fn signal_said(text: &str) -> Result<u32, Refusal> {
-    read_signal(text).ok_or(Refusal::BadLine)
+fn count_said(count: Option<u64>) -> Option<usize>
+    ensures { result ≡ count }
+{
+    match count {
+        Some(count) => Some(count as usize),
+        None => None,
+    }
 }

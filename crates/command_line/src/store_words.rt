@@ -9,7 +9,7 @@ use crate::begin_line::{core_line, valued_line};
 use crate::named_words::NamedWords;
 use archive_files::{ArchivePath, Refusal, StoreRequest, StoreWords};
 use arrayvec::ArrayVec;
-use core_handler::policy_within;
+use core_handler::{order_of, policy_within};
 use inspector_cli::StoreOptions;
 use retention::Policy;
 use script_lines::{Call, Question, parse_question};
@@ -34,6 +34,7 @@ pub(crate) struct GivenStore<'g, 'a> {
     escapes: bool,
     pin: bool,
     fit: bool,
+    fair: bool,
     cut: bool,
     settings: SessionWords<'a>,
     // Where the outcome is told.
@@ -58,6 +59,7 @@ impl<'g, 'a> GivenStore<'g, 'a> {
             escapes: words.states("escape"),
             pin: words.states("pin"),
             fit: words.states("fit"),
+            fair: words.states("fair"),
             cut: words.states("cut"),
             settings: SessionWords {
                 template: words.word("template").unwrap_or(""),
@@ -117,6 +119,7 @@ fn wanted_of(alloc: Global, given: &GivenStore<'_, '_>) -> Result<StoreWords, Re
         label,
         pin: given.pin,
         fit: given.fit,
+        order: order_of(given.fair),
         cut: cut_of(given),
         length,
         burst: None,

@@ -1,20 +1,20 @@
 // The program: what its words ask for, and the status that it ends with.
 ghost use Rattle.std.specs.Prelude.{◌≡◌, ◌≤◌, false};
-ghost use Rattle.command_words.specs.Notes.{IsQuietButForANote, IsQuietButForSomeNote, may_note, subject};
+ghost use Rattle.command_words.specs.Notes.{IsQuietButForNotes, IsQuietButForSomeNotes, may_note, notes_file_system, subject};
 
 use crate::ask_words::{AskedLine, Form};
 use crate::asked::{Asked, SessionWords, naming_of, read_words};
 use crate::endings::{Clues, Ending, tell_ending};
 use archive_files::{
-    Access, ArchivePath, Collected, Failure, Refusal, ask, check, copy_archive_file, look,
-    make_archive, names_output, note_gap, note_shared, resize_archive_file, run_over, salvage,
-    take_disk, tell_trouble,
+    Access, ArchivePath, Collected, Failure, NewArchive, Refusal, ask, check, copy_archive_file,
+    look, make_archive, names_output, note_file_system, note_gap, note_shared, resize_archive_file,
+    run_over, salvage, take_disk, tell_trouble,
 };
 use case_info::{ask_rows, info_archive, info_case};
-use case_listing::{ask_case, ask_plain, extract_case, list, would_retire};
+use case_listing::{ask_case, ask_plain, extract_case, list, named_question, would_retire};
 use command_words::{
     Context, Watched, asked_help, context_of, in_order, line_in_place_of_a_command, tell_help,
-    tell_note, words_of,
+    tell_notes, words_of,
 };
 use core_handler::{Log, Teller, handle, store_told, tell_lost_words, write_trouble};
 use diagnostics::{Nobody, Onlooker};
@@ -24,22 +24,32 @@ use journal_layout::Shape;
 use script_lines::Question;
 use script_streams::{Output, ReadInput};
 use shown_progress::Listener;
+use std::alloc::{AllocError, Global};
 use std::fs::File;
 use std::io::Read;
 use std::rt::{Env, Files};
 use std::time::Clock;
 
+// What people are told though a command did what was asked.
+#[derive(Drop)]
+struct Notes {
+    // On the case, the archive or the folder.
+    subject: Collected,
+    // On the file system of the archive.
+    file_system: Collected,
+}
+
 /// The program but for its standard streams, which its `main` hands in. Its words are those of the process, of any bytes.
 /// It answers the status that the program ends with, as `run_words` does. An onlooker is told how far it is.
 pub fn run_program<
-    R: Env + AllocGlobal + Files<File = File> + Clock,
+    R: Env + AllocGlobal + Files<File = File> + Clock + Clone + Drop,
     I: Read,
     O: Output,
     E: Output,
     W: Onlooker,
 >(rt: &R, input: &mut I, output: &mut O, errors: &mut E, onlooker: &mut W) -> u8
     ensures most { result ≤ 2 }
-    ensures quiet { result ≡ 0 → IsQuietButForSomeNote E.Output errors.old errors.new }
+    ensures quiet { result ≡ 0 → IsQuietButForSomeNotes E.Output errors.old errors.new }
 {
     match words_of(rt) {
         Ok(words) => run_watched(rt, words.as_slice(), input, output, errors, onlooker),
@@ -93,18 +103,17 @@ pub fn run_program<
 /// with the reason on `errors`. Help goes to `output`, and the status is 0 then. What is refused is looked for in this
 /// order: the words, the template, the shape, ARCHIVE, FILE.
 ///
-pub fn run_words<R: AllocGlobal + Files<File = File> + Clock, I: Read, O: Output, E: Output>(
-    rt: &R,
-    words: &[String],
-    input: &mut I,
-    output: &mut O,
-    errors: &mut E,
-) -> u8
+pub fn run_words<
+    R: AllocGlobal + Files<File = File> + Clock + Clone + Drop,
+    I: Read,
+    O: Output,
+    E: Output,
+>(rt: &R, words: &[String], input: &mut I, output: &mut O, errors: &mut E) -> u8
     // The status. If it is 0, nothing was written to the errors, but for a note on the case that `store` stored, on the archive that `check`
-    // or `handle` looked at, or on a file that was made.
+    // or `handle` looked at, or on a file that was made; and behind it one on the file system of an archive that was made or checked.
     ensures most { result ≤ 2 }
     ensures quiet { result ≡ 0 → may_note words.now ≡ false → errors.new ≡ errors.old }
-    ensures note { result ≡ 0 → IsQuietButForANote (subject words.now) E.Output errors.old errors.new }
+    ensures notes { result ≡ 0 → IsQuietButForNotes (subject words.now) (notes_file_system words.now) E.Output errors.old errors.new }
 {
     run_watched(rt, words, input, output, errors, &mut Nobody)
 }
@@ -112,7 +121,7 @@ pub fn run_words<R: AllocGlobal + Files<File = File> + Clock, I: Read, O: Output
 /// The same as `run_words`. An onlooker is told how far `format`, `store`, `extract`, `copy`, `resize` and `salvage` are, unless `--quiet` is
 /// there.
 pub fn run_watched<
-    R: AllocGlobal + Files<File = File> + Clock,
+    R: AllocGlobal + Files<File = File> + Clock + Clone + Drop,
     I: Read,
     O: Output,
     E: Output,
@@ -120,15 +129,23 @@ pub fn run_watched<
 >(rt: &R, words: &[String], input: &mut I, output: &mut O, errors: &mut E, onlooker: &mut W) -> u8
     ensures most { result ≤ 2 }
     ensures quiet { result ≡ 0 → may_note words.now ≡ false → errors.new ≡ errors.old }
-    ensures note { result ≡ 0 → IsQuietButForANote (subject words.now) E.Output errors.old errors.new }
+    ensures notes { result ≡ 0 → IsQuietButForNotes (subject words.now) (notes_file_system words.now) E.Output errors.old errors.new }
 {
     let mut watched = Watched::new(output);
-    let mut note = Collected::new(rt.alloc());
+    let mut notes = Notes {
+        subject: Collected::new(rt.alloc()),
+        file_system: Collected::new(rt.alloc()),
+    };
     let mut listener = Listener::new(onlooker);
-    let answered = answer_words(rt, words, input, &mut watched, &mut note, &mut listener);
+    let answered = answer_words(rt, words, input, &mut watched, &mut notes, &mut listener);
     let trouble = listener.trouble();
     let line = watched.into_line();
-    tell_note(words, note.text(), errors);
+    tell_notes(
+        words,
+        notes.subject.text(),
+        notes.file_system.text(),
+        errors,
+    );
     match answered {
         Ok(()) => 0,
         Err(ending) => {
@@ -145,12 +162,17 @@ pub fn run_watched<
 }
 
 // Does what the words ask for, unless what is told of it would overwrite a file that they name.
-fn answer_words<R: AllocGlobal + Files<File = File> + Clock, I: Read, O: Output, W: Onlooker>(
+fn answer_words<
+    R: AllocGlobal + Files<File = File> + Clock + Clone + Drop,
+    I: Read,
+    O: Output,
+    W: Onlooker,
+>(
     rt: &R,
     words: &[String],
     input: &mut I,
     output: &mut O,
-    note: &mut Collected,
+    notes: &mut Notes,
     listener: &mut Listener<'_, W>,
 ) -> Result<(), Ending> {
     if names_output(rt, words) {
@@ -170,9 +192,9 @@ fn answer_words<R: AllocGlobal + Files<File = File> + Clock, I: Read, O: Output,
                 listener.hush();
             }
             if let Some(path) = asked.made() {
-                note_shared(rt, path, note);
+                note_shared(rt, path, &mut notes.subject);
             }
-            Ok(answer_asked(rt, asked, input, output, note, listener)?)
+            Ok(answer_asked(rt, asked, input, output, notes, listener)?)
         }
         Err(ending) => {
             if ordered.is_some() && !matches!(ending, Ending::Help(_)) {
@@ -184,16 +206,21 @@ fn answer_words<R: AllocGlobal + Files<File = File> + Clock, I: Read, O: Output,
 }
 
 // Does what is asked for.
-fn answer_asked<R: AllocGlobal + Files<File = File> + Clock, I: Read, O: Output, W: Onlooker>(
+fn answer_asked<
+    R: AllocGlobal + Files<File = File> + Clock + Clone + Drop,
+    I: Read,
+    O: Output,
+    W: Onlooker,
+>(
     rt: &R,
     asked: Asked<'_>,
     input: &mut I,
     output: &mut O,
-    note: &mut Collected,
+    notes: &mut Notes,
     onlooker: &mut W,
 ) -> Result<(), Failure> {
     match asked {
-        Asked::Format { archive, wanted } => Ok(make_archive(rt, archive, wanted, onlooker)?),
+        Asked::Format { archive, wanted } => make_noting(rt, archive, wanted, notes, onlooker),
         Asked::Run { archive, settings } => run_file(
             rt, archive, settings, input, output, onlooker,
         ),
@@ -211,17 +238,27 @@ fn answer_asked<R: AllocGlobal + Files<File = File> + Clock, I: Read, O: Output,
                     archive: Some(archive.path),
                 },
                 mode: None,
+                spooling: None,
             };
-            store_told(
-                rt, teller, archive, file, request, input, output, note, onlooker,
-            )
+            let (ended, _) = store_told(
+                rt,
+                teller,
+                archive,
+                file,
+                request,
+                input,
+                output,
+                &mut notes.subject,
+                onlooker,
+            );
+            ended
         }
         Asked::Extract {
             archive,
             case,
             file,
         } => extract_case(rt, archive, case, file, output, onlooker),
-        Asked::Handle(words) => handle(rt, words, input, output, note, onlooker),
+        Asked::Handle(words) => handle(rt, words, input, output, &mut notes.subject, onlooker),
         Asked::List { archive, wanted } => list(rt, archive, wanted, output),
         Asked::Ask {
             archive,
@@ -243,7 +280,7 @@ fn answer_asked<R: AllocGlobal + Files<File = File> + Clock, I: Read, O: Output,
         Asked::Check {
             archive,
             sees_images,
-        } => check_noting(rt, archive, sees_images, output, note, onlooker),
+        } => check_noting(rt, archive, sees_images, output, notes, onlooker),
         Asked::Copy {
             archive,
             new,
@@ -257,22 +294,36 @@ fn answer_asked<R: AllocGlobal + Files<File = File> + Clock, I: Read, O: Output,
     }
 }
 
-// Tells whether the archive in a file is sound, and notes what its halves say of one another.
-fn check_noting<R: AllocGlobal + Files<File = File>, O: Output, W: Onlooker>(
+// Makes an archive, and notes what is to be known of the file system that it lies on.
+fn make_noting<R: AllocGlobal + Files<File = File>, W: Onlooker>(
+    rt: &R,
+    path: &str,
+    wanted: NewArchive,
+    notes: &mut Notes,
+    onlooker: &mut W,
+) -> Result<(), Failure> {
+    make_archive(rt, path, wanted, onlooker)?;
+    note_file_system(rt, path, &mut notes.file_system);
+    Ok(())
+}
+
+// Tells whether the archive in a file is sound, and notes what its halves say of one another, and what is to be known of its file system.
+fn check_noting<R: AllocGlobal + Files<File = File> + Clock, O: Output, W: Onlooker>(
     rt: &R,
     place: ArchivePath<'_>,
     sees_images: bool,
     output: &mut O,
-    note: &mut Collected,
+    notes: &mut Notes,
     onlooker: &mut W,
 ) -> Result<(), Failure> {
     let checked = check(rt, place, sees_images, output, onlooker);
-    note_gap(rt, place, note);
+    note_gap(rt, place, &mut notes.subject);
+    note_file_system(rt, place.path, &mut notes.file_system);
     checked
 }
 
 // Answers one line. Without a question its second word names a case.
-fn answer_line<R: AllocGlobal + Files<File = File>, O: Output, W: Onlooker>(
+fn answer_line<R: AllocGlobal + Files<File = File> + Clock, O: Output, W: Onlooker>(
     rt: &R,
     place: ArchivePath<'_>,
     line: &AskedLine<'_>,
@@ -280,18 +331,26 @@ fn answer_line<R: AllocGlobal + Files<File = File>, O: Output, W: Onlooker>(
     output: &mut O,
     onlooker: &mut W,
 ) -> Result<(), Failure> {
-    if question
-        .as_ref()
-        .is_some_and(|question| !question.only_looks())
-    {
+    let words = line.words(rt.alloc())?;
+    if changes(rt.alloc(), &question, &words)? {
         refuse_unwritten(rt, place.path, onlooker)?;
     }
-    let words = line.words(rt.alloc())?;
     match (line.form, question) {
         (Form::Rows, question) => ask_rows(rt, place, &words, question, output, onlooker),
         (Form::Plain, question) => ask_plain(rt, place, &words, question, output, onlooker),
         (Form::Reply, Some(question)) => ask(rt, place, question, output, onlooker),
         (Form::Reply, None) => ask_case(rt, place, &words, output, onlooker),
+    }
+}
+
+// Whether a line changes the archive. Without a question its second word names a case.
+fn changes(alloc: Global, question: &Option<Question>, words: &[&str]) -> Result<bool, AllocError> {
+    match question {
+        Some(question) => Ok(!question.only_looks()),
+        None => {
+            let named = named_question(alloc, words)?;
+            Ok(named.is_some_and(|question| !question.only_looks()))
+        }
     }
 }
 
@@ -326,7 +385,7 @@ fn asks_for_an_image(words: &[String]) -> bool {
 }
 
 // Runs a script over the archive in a file.
-fn run_file<R: AllocGlobal + Files<File = File>, I: Read, O: Output, W: Onlooker>(
+fn run_file<R: AllocGlobal + Files<File = File> + Clock, I: Read, O: Output, W: Onlooker>(
     rt: &R,
     place: ArchivePath<'_>,
     settings: SessionWords<'_>,
@@ -336,7 +395,7 @@ fn run_file<R: AllocGlobal + Files<File = File>, I: Read, O: Output, W: Onlooker
 ) -> Result<(), Failure> {
     let naming = naming_of(settings)?;
     refuse_unwritten(rt, place.path, onlooker)?;
-    let disk = take_disk(rt, place, Access::Changing)?;
+    let disk = take_disk(rt, place, Access::Changing, onlooker)?;
     let mut script = ReadInput::new(input);
     let (ended, disk) = run_over(
         rt.alloc(),

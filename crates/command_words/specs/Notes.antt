@@ -44,6 +44,14 @@ abbrev pub may_note : {Z : Type 0} → List (String Z) → Bool
 may_note [] = false
 may_note (word ∷ words) = may_note_of (string_bytes word) (word ∷ words)
 
+-- the command may note the file system that its archive lies on, behind its other note: it is asked to make the archive, or to look at it
+abbrev pub notes_file_system_of : List ℕ → Bool
+notes_file_system_of command = if bytes_eq command (codes "format") then true else bytes_eq command (codes "check")
+
+abbrev pub notes_file_system : {Z : Type 0} → List (String Z) → Bool
+notes_file_system [] = false
+notes_file_system (word ∷ words) = notes_file_system_of (string_bytes word)
+
 -- the line of a note
 abbrev pub note_line : List ℕ → List ℕ → List ℕ
 note_line on note = ((codes "corekeep: " ++ on) ++ note) ++ 10 ∷ []
@@ -53,6 +61,11 @@ abbrev pub IsQuietButForANote : List ℕ → {E : Type 0} → output.Ghosts E �
 IsQuietButForANote on {E} g old new =
     (new ≡ old) ⊎ ((note : List ℕ) × (front : List ℕ) × (rest : List ℕ) × (note_line on note ≡ front ++ rest) × Appends (g.taken old) (g.taken new) front)
 
+-- The same, and then the same of a note on a file system, if there may be one.
+abbrev pub IsQuietButForNotes : List ℕ → Bool → {E : Type 0} → output.Ghosts E → E → E → Type 0
+IsQuietButForNotes on has_other {E} g old new =
+    (between : E) × IsQuietButForANote on g old between × IsQuietButForANote (codes "file system ") g between new × (has_other ≡ false → new ≡ between)
+
 -- The same, whatever the words are.
-abbrev pub IsQuietButForSomeNote : {E : Type 0} → output.Ghosts E → E → E → Type 0
-IsQuietButForSomeNote {E} g old new = (command : List ℕ) × IsQuietButForANote (subject_of command) g old new
+abbrev pub IsQuietButForSomeNotes : {E : Type 0} → output.Ghosts E → E → E → Type 0
+IsQuietButForSomeNotes {E} g old new = (command : List ℕ) × IsQuietButForNotes (subject_of command) (notes_file_system_of command) g old new

@@ -102,7 +102,7 @@ fn kind_of_value(word: &str) -> Option<Kind> {
 // The kind of a word that is no option's value.
 fn kind_of(word: &str) -> Kind {
     match word {
-        "--check" | "--help" | "-h" | "--archive" | "--length" => Kind::Known,
+        "--check" | "--flush" | "--help" | "-h" | "--archive" | "--length" => Kind::Known,
         _ if word.starts_with("--archive=") || word.starts_with("--length=") => Kind::Known,
         _ if word.starts_with('-') => Kind::Unknown,
         _ => Kind::Plain,

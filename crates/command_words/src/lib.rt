@@ -29,7 +29,7 @@ pub use helps::{
     asked_help, line_in_place_of_a_command, tell_help, tell_how_it_is_asked, usage_told,
 };
 pub use line_texts::{line_of, push_text};
-pub use notes::tell_note;
+pub use notes::tell_notes;
 pub use raw_words::{is_text, push_escaped, words_of};
 pub use text_digits::digits_of;
 pub use troubles::tell_meaning;

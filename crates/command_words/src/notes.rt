@@ -1,18 +1,34 @@
 // What people are told though a command did what was asked: of a case that was stored, of an archive that was looked at, and of a file that
 // was made.
 ghost use Rattle.std.specs.Prelude.{◌≡◌, false};
-ghost use Rattle.command_words.specs.Notes.{IsQuietButForANote, asks_to_check, checks_archive, makes_file, may_note, subject};
+ghost use Rattle.command_words.specs.Notes.{IsQuietButForANote, IsQuietButForNotes, asks_to_check, checks_archive, makes_file, may_note, notes_file_system, subject};
 
 use script_streams::{Output, Reply};
 
 /// Tells people of a note, if there is one: if the words ask to store a file, what can't be read of the case; if they ask to look at an
 /// archive, that the half of its journal which is taken may be the wrong one; if they ask to make a file, that others may write its folder.
-pub fn tell_note<E: Output>(words: &[String], note: &[u8], errors: &mut E)
+/// Then it tells them what is to be known of the file system, if the words ask to make an archive, or to check one.
+pub fn tell_notes<E: Output>(words: &[String], note: &[u8], file_system: &[u8], errors: &mut E)
     ensures quiet { may_note words.now ≡ false → errors.new ≡ errors.old }
-    ensures note { IsQuietButForANote (subject words.now) E.Output errors.old errors.new }
+    ensures notes { IsQuietButForNotes (subject words.now) (notes_file_system words.now) E.Output errors.old errors.new }
 {
-    if may_note(words) {
-        tell_note_line(subject(words), note, errors);
+    if !may_note(words) {
+        return;
+    }
+    tell_note_line(subject(words), note, errors);
+    if !notes_file_system(words) {
+        return;
+    }
+    tell_note_line(b"file system ", file_system, errors);
+}
+
+// Whether the file system of the archive is noted.
+fn notes_file_system(words: &[String]) -> bool
+    ensures { result ≡ notes_file_system words.now }
+{
+    match words.first() {
+        Some(word) => word.as_str() == "format" || word.as_str() == "check",
+        None => false,
     }
 }
 

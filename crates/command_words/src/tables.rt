@@ -64,8 +64,8 @@ pub(crate) static STORE: CommandWords = CommandWords {
     about: "stores a core file as a case of an archive, named by the template, or an executable",
     after_help: None,
     words: &[
-        ARCHIVE, FILE, PAIRS, EXEC, PIN, LABEL, ESCAPE, KEEP, BYTES, BEFORE, FIT, CUT, NO_WAIT,
-        TEMPLATE, USES_PID, LIMIT, LOG, QUIET, LENGTH,
+        ARCHIVE, FILE, PAIRS, EXEC, PIN, LABEL, ESCAPE, KEEP, BYTES, BEFORE, FIT, FAIR, CUT,
+        NO_WAIT, TEMPLATE, USES_PID, LIMIT, LOG, QUIET, LENGTH,
     ],
 };
 
@@ -73,7 +73,7 @@ pub(crate) static HANDLE: CommandWords = CommandWords {
     name: "handle",
     about: "stores a core from standard input as a configuration says, and tells its outcome to a log: the kernel's handler",
     after_help: None,
-    words: &[HANDLER_PAIRS, HANDLER_ARCHIVE, CHECK, LENGTH],
+    words: &[HANDLER_PAIRS, HANDLER_ARCHIVE, CHECK, FLUSH, LENGTH],
 };
 
 pub(crate) static LOOK: CommandWords = CommandWords {
@@ -243,6 +243,15 @@ const CHECK: Word = Word {
     help: "stores nothing: tells what holds by the configuration, each fault with its line, and whether the archive is large enough",
 };
 
+// Whether the cores of the spool are stored, and none from the input.
+const FLUSH: Word = Word {
+    id: "flush",
+    shown: "",
+    takes: Takes::Flag,
+    default: None,
+    help: "takes no core from standard input: stores the cores that wait in the spool of the configuration (spool), the oldest first",
+};
+
 // The name of an executable.
 const EXEC: Word = Word {
     id: "exec",
@@ -313,6 +322,15 @@ const FIT: Word = Word {
     takes: Takes::Flag,
     default: None,
     help: "deletes the oldest cores while FILE is stored, pinned ones aside, as often as it finds no room; executables go once no core is left",
+};
+
+// Whether they go in the fair order.
+const FAIR: Word = Word {
+    id: "fair",
+    shown: "",
+    takes: Takes::Flag,
+    default: None,
+    help: "where --fit deletes a core, one of the user whose cores have the most blocks, in place of the oldest; nothing without --fit",
 };
 
 // Whether what is too large is cut.

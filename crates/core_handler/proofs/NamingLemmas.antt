@@ -35,14 +35,14 @@ front_faulty front what fault e = ap (λ o. front_unless o front what) e
 is_none_of : (reason : List ℕ) → Some reason ≡ None → ⊥
 is_none_of reason e = cc
 
-plain_if_refused : (found : Result StreamFacts (List ℕ)) (template reason : List ℕ) → Some reason ≡ reason_found found → template_if_found found template ≡ codes "core.%p.%t"
+plain_if_refused : (found : Result StreamFacts (List ℕ)) (template reason : List ℕ) → Some reason ≡ reason_found found → template_if_found found template ≡ codes "core.%u.%p.%t"
 plain_if_refused (Ok stream) template reason e = absurd (is_none_of reason e)
 plain_if_refused (Err why) template reason e = refl
 
 -- a core whose stream is refused is named by the plain template
 pub plain_named : (config : Config) (begin : List ℕ) (length : Option ℕ) (template : List ℕ) (request : StoreRequest) (reason : List ℕ)
     → template ≡ template_of (option_copied config.template) → AsksBy config begin length template request → Some reason ≡ reason_found (stream_found request.found)
-    → naming_template config (said begin) ≡ codes "core.%p.%t"
+    → naming_template config (said begin) ≡ codes "core.%u.%p.%t"
 plain_named config begin length template request reason taken asked e =
     let by : List ℕ → Result StreamFacts (List ℕ) = λ t. line_stream (named_by t config.uses_pid) (said begin) in
     let found : stream_found request.found ≡ by (template_of (option_copied config.template)) = asked.3.found ∙ ap by taken in

@@ -7,6 +7,8 @@ use Rattle.handler_config.specs.declared.config.Config.{Config}
 use Rattle.handler_config.specs.declared.config.Burst as allowed
 use Rattle.inspector_cli.specs.Storing.{line_stream}
 use Rattle.inspector_cli.specs.declared.burst.Burst.{Burst}
+use Rattle.inspector_cli.specs.declared.session.Order.{Order}
+use Rattle.inspector_cli.specs.declared.session.Order.TheVariants.{Oldest, Fair}
 use Rattle.inspector_cli.specs.declared.session.StoreOptions.{StoreOptions}
 use Rattle.intake.specs.State.{StreamFacts}
 use Rattle.name_template.specs.Template.{template_fault}
@@ -40,6 +42,10 @@ limit_of config = unwrap_or config.limit (2 ^ 30)
 abbrev pub cut_of : Config → Option ℕ
 cut_of config = if config.cut then Some (limit_of config) else None
 
+-- in which order cases go: the fair one, if that is asked for
+abbrev pub order_of : Bool → Order
+order_of fair = if fair then Fair else Oldest
+
 -- as many cores of the program whose names begin so, in as many seconds, as the configuration says
 abbrev pub burst_of : Option allowed.Burst → List ℕ → Option Burst
 burst_of None front = None
@@ -47,18 +53,18 @@ burst_of (Some burst) front = Some (record { front = record { items = front }; m
 
 abbrev pub template_unless : Option TemplateFault → List ℕ → List ℕ
 template_unless None template = template
-template_unless (Some fault) template = codes "core.%e.%p.%t"
+template_unless (Some fault) template = codes "core.%u.%h.%e.%p.%t"
 
--- the template of the configuration; `core.%e.%p.%t`, if it has none, or none that is in order
+-- the template of the configuration; `core.%u.%h.%e.%p.%t`, if it has none, or none that is in order
 abbrev pub template_of : Option (List ℕ) → List ℕ
-template_of None = codes "core.%e.%p.%t"
+template_of None = codes "core.%u.%h.%e.%p.%t"
 template_of (Some template) = template_unless (template_fault template) template
 
 abbrev pub template_if_found : Result StreamFacts (List ℕ) → List ℕ → List ℕ
 template_if_found (Ok stream) template = template
-template_if_found (Err reason) template = codes "core.%p.%t"
+template_if_found (Err reason) template = codes "core.%u.%p.%t"
 
--- by which template a core is named: that one; `core.%p.%t`, if it gives no name
+-- by which template a core is named: that one; `core.%u.%p.%t`, if it gives no name
 abbrev pub naming_template : Config → Said → List ℕ
 naming_template config what =
     let template = template_of (option_copied config.template) in
@@ -70,6 +76,7 @@ options_of config begin length template label = record {
   label = label;
   pin = false;
   fit = config.fit;
+  order = order_of config.fair;
   cut = cut_of config;
   length = length;
   burst = burst_of config.burst (program_front template (said begin));

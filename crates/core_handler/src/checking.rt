@@ -4,26 +4,31 @@ use crate::handling::{HANDLER_LIMIT, HANDLER_TEMPLATE, HandleWords, UNNAMED, log
 use crate::labels::escaped_label;
 use crate::log::{KERNEL_LOG, Log, LogFault};
 use crate::outcome_lines::words_of;
+use crate::spool_paths::path_in;
 use archive_files::{
-    Access, ArchivePath, Collected, Failure, Refusal, fault_found, note_gap, reason_of, shape_on,
-    shared_folder, take_disk,
+    Access, ArchivePath, Collected, Failure, Refusal, fault_found, note_file_system, note_gap,
+    reason_of, shape_on, shared_folder, take_disk,
 };
+use diagnostics::Nobody;
 use disk_model::Disk;
 use handler_config::{Burst, Config};
 use intake::{Archive, Settings};
 use journal_layout::Shape;
 use name_template::Template;
 use script_streams::{Output, Reply};
+use spool::{FolderFault, begin_part, folder_fault};
 use std::alloc::Global;
 use std::fs::File;
 use std::rt::Files;
+use std::time::Clock;
+use whole_files::{PartFile, remove};
 
 // The bytes of a block.
 const BLOCK: u128 = 4096;
 
 // Tells what is wrong with the file as a whole, what holds, a line for each key, and then each fault. Last it says whether the archive can
 // keep what is asked. What is not in order is a refusal.
-pub(crate) fn check<R: AllocGlobal + Files<File = File>, O: Output>(
+pub(crate) fn check<R: AllocGlobal + Files<File = File> + Clock, O: Output>(
     rt: &R,
     words: &HandleWords<'_>,
     document: &Document,
@@ -37,7 +42,10 @@ pub(crate) fn check<R: AllocGlobal + Files<File = File>, O: Output>(
     let log = log_of(&config, words.archive);
     tell_path(rt, &mut reply, b"configuration ", Some(words.path()));
     tell_path(rt, &mut reply, b"archive ", log.archive);
+    tell_file_system(rt, &mut reply, log.archive);
     tell_path(rt, &mut reply, b"log ", config.log);
+    tell_path(rt, &mut reply, b"spool ", config.spool);
+    tell_fair(&mut reply, &config);
     let are_known = tell_faults(rt, &mut reply, words, document);
     let are_taken = tell_values(rt, &mut reply, &config, log);
     let is_large = tell_size(rt, &mut reply, &config, words.archive);
@@ -80,6 +88,7 @@ fn tell_config<O: Output>(reply: &mut Reply<'_, O>, config: &Config<'_>, archive
         Some(config.limit.unwrap_or(HANDLER_LIMIT)),
     );
     tell_flag_line(reply, b"fit ", config.fit);
+    tell_flag_line(reply, b"fair ", config.fair);
     tell_flag_line(reply, b"cut ", config.cut);
     tell_burst_line(reply, config.burst);
     tell_flag_line(reply, b"obey-limit ", config.obeys_limit);
@@ -89,6 +98,10 @@ fn tell_config<O: Output>(reply: &mut Reply<'_, O>, config: &Config<'_>, archive
     tell_flag_line(reply, b"no-wait ", config.no_wait);
     tell_text_line(reply, b"label ", config.label);
     tell_text_line(reply, b"log ", Some(config.log.unwrap_or(KERNEL_LOG)));
+    if config.spool.is_some() || config.spool_bytes.is_some() {
+        tell_text_line(reply, b"spool ", config.spool);
+        tell_number_line(reply, b"spool-bytes ", config.spool_bytes);
+    }
 }
 
 fn tell_text_line<O: Output>(reply: &mut Reply<'_, O>, key: &[u8], text: Option<&str>) {
@@ -149,6 +162,42 @@ fn tell_path<R: AllocGlobal + Files<File = File>, O: Output>(
     }
 }
 
+// Tells what is to be known of the file system that the archive lies on.
+fn tell_file_system<R: AllocGlobal + Files<File = File>, O: Output>(
+    rt: &R,
+    reply: &mut Reply<'_, O>,
+    archive: Option<&str>,
+) {
+    let Some(path) = archive else {
+        return;
+    };
+    let mut note = Collected::new(rt.alloc());
+    note_file_system(rt, path, &mut note);
+    if note.text().is_empty() {
+        return;
+    }
+    tell_note(reply, b"archive ", path);
+    reply.tell(b"file system ");
+    reply.tell(note.text());
+    reply.tell(b"\n");
+}
+
+// Tells if `fair` does nothing, or if names have no user.
+fn tell_fair<O: Output>(reply: &mut Reply<'_, O>, config: &Config<'_>) {
+    if !config.fair {
+        return;
+    }
+    if !config.fit {
+        reply.tell(b"note fair: no core goes without fit = true\n");
+    }
+    let template = config.template.unwrap_or(HANDLER_TEMPLATE);
+    if !template.starts_with("core.%u.") {
+        reply.tell(
+            b"note fair: the template does not begin with core.%u., so all cores are of one user\n",
+        );
+    }
+}
+
 // Begins a note on a path.
 fn tell_note<O: Output>(reply: &mut Reply<'_, O>, key: &[u8], path: &str) {
     reply.tell(b"note ");
@@ -206,7 +255,60 @@ fn tell_values<R: AllocGlobal + Files<File = File>, O: Output>(
         reply.tell(b"fault label: it has over 64 bytes\n");
     }
     let is_log = tell_log(rt, reply, log);
-    is_template && is_label && is_log
+    let is_spool = tell_spool(rt, reply, config);
+    is_template && is_label && is_log && is_spool
+}
+
+// Tells if no core can go to the spool, or others may enter it. Says whether neither is so.
+fn tell_spool<R: AllocGlobal + Files<File = File>, O: Output>(
+    rt: &R,
+    reply: &mut Reply<'_, O>,
+    config: &Config<'_>,
+) -> bool {
+    let Some(folder) = config.spool else {
+        return true;
+    };
+    let Some(why) = spool_trouble(rt, folder) else {
+        return true;
+    };
+    reply.tell(b"fault spool: ");
+    reply.tell_text(folder.as_bytes());
+    reply.tell(why);
+    reply.tell(b"\n");
+    false
+}
+
+// Why a folder is no spool, in words, if it is none.
+fn spool_trouble<R: AllocGlobal + Files<File = File>>(
+    rt: &R,
+    folder: &str,
+) -> Option<&'static [u8]> {
+    match folder_fault(rt, folder) {
+        Some(FolderFault::Missing) => Some(b" is not there: make it by mkdir -m 700"),
+        Some(FolderFault::NoFolder) => Some(b" is no folder"),
+        Some(FolderFault::Shared) => Some(
+            b": others may enter it: chmod 700 takes that right away",
+        ),
+        Some(FolderFault::Foreign) => Some(b" belongs to another user"),
+        None if takes_files(rt, folder) => None,
+        None => Some(b" can't be written"),
+    }
+}
+
+// Whether a file can be made in a folder. It is removed then.
+fn takes_files<R: AllocGlobal + Files<File = File>>(rt: &R, folder: &str) -> bool {
+    let Ok(path) = path_in(rt.alloc(), folder, "check") else {
+        return false;
+    };
+    let Ok(file) = PartFile::new(rt.alloc(), rt, path.as_str()) else {
+        return false;
+    };
+    let mut file = file;
+    if begin_part(&mut file).is_err() {
+        return false;
+    }
+    remove(&mut file);
+    true
 }
 
 // Tells if a log takes no line. Says whether it does. It is made if it is not there, as with the first line.
@@ -232,7 +334,7 @@ fn tell_log<R: Files<File = File>, O: Output>(
 }
 
 // Tells whether the archive can keep what is asked. Says whether it can.
-fn tell_size<R: AllocGlobal + Files<File = File>, O: Output>(
+fn tell_size<R: AllocGlobal + Files<File = File> + Clock, O: Output>(
     rt: &R,
     reply: &mut Reply<'_, O>,
     config: &Config<'_>,
@@ -245,7 +347,7 @@ fn tell_size<R: AllocGlobal + Files<File = File>, O: Output>(
         return false;
     };
     let place = ArchivePath { path, waits: true };
-    match take_disk(rt, place, Access::Looking) {
+    match take_disk(rt, place, Access::Looking, &mut Nobody) {
         Ok(disk) => {
             let is_kept = tell_archive(rt.alloc(), reply, config, disk);
             is_kept && !tell_hidden(rt, reply, place)
@@ -258,12 +360,12 @@ fn tell_size<R: AllocGlobal + Files<File = File>, O: Output>(
 }
 
 // Tells the fault of a gate that may hide records of an archive that opens. Says whether there is one.
-fn tell_hidden<R: AllocGlobal + Files<File = File>, O: Output>(
+fn tell_hidden<R: AllocGlobal + Files<File = File> + Clock, O: Output>(
     rt: &R,
     reply: &mut Reply<'_, O>,
     place: ArchivePath<'_>,
 ) -> bool {
-    let Some(fault) = fault_found(rt, place) else {
+    let Some(fault) = fault_found(rt, place, &mut Nobody) else {
         return false;
     };
     tell_refused(rt.alloc(), reply, b"may hide cases", Refusal::Open(fault));

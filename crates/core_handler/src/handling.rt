@@ -9,11 +9,13 @@ ghost use Rattle.core_handler.specs.Requesting.{AsksBy, IsRequested, IsWanted, t
 
 use crate::checking::check;
 use crate::config_file::{DEFAULT_CONFIG, Document, Trouble, read_document};
+use crate::flush::flush;
 use crate::labels::escaped_label;
 use crate::log::{KERNEL_LOG, Level, Log};
-use crate::outcome_lines::{lost_line, words_of};
+use crate::outcome_lines::{Place, lost_line, words_of};
 use crate::requesting::{is_limited, request_of, seconds_of};
-use crate::teller::{Teller, store_told};
+use crate::spool_store::store_by_spool;
+use crate::teller::{Spooling, Teller, store_told};
 use archive_files::{ArchivePath, Collected, Failure, FileWord, Refusal, StoreRequest};
 use arrayvec::ArrayVec;
 use diagnostics::Onlooker;
@@ -21,16 +23,18 @@ use disk_model::FileFault;
 use handler_config::Config;
 use name_template::Template;
 use script_streams::{Output, Reply};
+use spool::Outcome;
+use std::alloc::Global;
 use std::fs::File;
 use std::io::Read;
 use std::rt::Files;
 use std::time::Clock;
 
 // How a handler names cores if its configuration doesn't say.
-pub(crate) const HANDLER_TEMPLATE: &str = "core.%e.%p.%t";
+pub(crate) const HANDLER_TEMPLATE: &str = "core.%u.%h.%e.%p.%t";
 
 // The template whose names are never refused.
-const PLAIN_TEMPLATE: &str = "core.%p.%t";
+const PLAIN_TEMPLATE: &str = "core.%u.%p.%t";
 
 // What is told where neither the configuration nor the pattern names an archive.
 pub(crate) const UNNAMED: &[u8] = b"no archive is named";
@@ -59,13 +63,15 @@ pub struct HandleWords<'a> {
     pub mode: Option<u64>,
     /// Nothing is stored, and what holds by the configuration is told.
     pub is_check: bool,
+    /// No core is taken from the input, and those that wait in the spool are stored.
+    pub is_flush: bool,
 }
 
 // What a handler goes by: a configuration, and where it is told what became of a core.
 #[derive(Clone, Copy)]
-struct Handler<'a> {
-    config: Config<'a>,
-    teller: Teller<'a>,
+pub(crate) struct Handler<'a> {
+    pub(crate) config: Config<'a>,
+    pub(crate) teller: Teller<'a>,
 }
 
 impl<'a> HandleWords<'a> {
@@ -79,13 +85,20 @@ impl<'a> HandleWords<'a> {
 }
 
 /// Stores a core from the input as a configuration says, and tells its outcome to a log. With `--check` nothing is stored, and what
-/// holds is told on the output, but for what the two halves of the archive's journal say of one another: that is noted.
+/// holds is told on the output, but for what the two halves of the archive's journal say of one another: that is noted. With a spool the core goes
+/// there first, and with `--flush` those that wait there are stored.
 ///
 /// # Errors
 ///
 /// Those of `store_told`, and `File` if no archive is named. `Told`, with the reply `no Limit`, if the configuration obeys the limit of the
-/// core's process, and that is less than a page. With `--check` it is `Told` if not all is in order.
-pub fn handle<R: AllocGlobal + Files<File = File> + Clock, I: Read, O: Output, W: Onlooker>(
+/// core's process, and that is less than a page. With `--check` it is `Told` if not all is in order, and with `--flush` if not all that waits
+/// is stored.
+pub fn handle<
+    R: AllocGlobal + Files<File = File> + Clock + Clone + Drop,
+    I: Read,
+    O: Output,
+    W: Onlooker,
+>(
     rt: &R,
     words: HandleWords<'_>,
     input: &mut I,
@@ -95,27 +108,69 @@ pub fn handle<R: AllocGlobal + Files<File = File> + Clock, I: Read, O: Output, W
 ) -> Result<(), Failure> {
     let document = read_document(rt, words.path());
     let config = Config::of(&document.value);
-    let teller = Teller {
-        alloc: rt.alloc(),
-        log: log_of(&config, words.archive),
-        mode: words.mode,
-    };
     if words.is_check {
         return check(rt, &words, &document, output, note);
     }
-    let handler = Handler { config, teller };
+    let handler = handler_of(rt.alloc(), config, words.archive, words.mode);
     tell_faults(rt, &handler, &words, &document);
-    let Some(archive) = config.archive.or(words.archive) else {
-        handler.tell_lost(rt, &words, "", b"File", UNNAMED);
-        return Err(Failure::Refused(Refusal::File(FileWord::Archive, FileFault::Missing)));
+    match handler.teller.log.archive {
+        Some(archive) => handle_in(rt, &handler, &words, archive, input, output, onlooker),
+        None => {
+            handler.tell_lost(rt, &words, "", b"File", UNNAMED);
+            Err(Failure::Refused(Refusal::File(FileWord::Archive, FileFault::Missing)))
+        }
+    }
+}
+
+// The handler that goes by a configuration. The words may name an archive.
+fn handler_of<'a>(
+    alloc: Global,
+    config: Config<'a>,
+    archive: Option<&'a str>,
+    mode: Option<u64>,
+) -> Handler<'a> {
+    let teller = Teller {
+        alloc,
+        log: log_of(&config, archive),
+        mode,
+        spooling: None,
     };
+    Handler { config, teller }
+}
+
+// Stores the core in the archive of this path, or those that wait for it in the spool.
+fn handle_in<
+    R: AllocGlobal + Files<File = File> + Clock + Clone + Drop,
+    I: Read,
+    O: Output,
+    W: Onlooker,
+>(
+    rt: &R,
+    handler: &Handler<'_>,
+    words: &HandleWords<'_>,
+    archive: &str,
+    input: &mut I,
+    output: &mut O,
+    onlooker: &mut W,
+) -> Result<(), Failure> {
     let place = ArchivePath {
         path: archive,
-        waits: !config.no_wait,
+        waits: !handler.config.no_wait,
     };
-    match handler.wanted(rt, &words)? {
-        Some(request) => handler.store(rt, place, request, input, output, onlooker),
-        None => handler.refuse_limited(rt, &words, archive, output),
+    if words.is_flush {
+        return flush(rt, handler, place, output, onlooker);
+    }
+    let Some(request) = handler.wanted(rt, words)? else {
+        return handler.refuse_limited(rt, words, archive, output);
+    };
+    match handler.config.spool {
+        Some(folder) => store_by_spool(
+            rt, handler, folder, words, place, request, input, output, onlooker,
+        ),
+        None => {
+            let (ended, _) = handler.store(rt, place, "-", request, input, output, onlooker);
+            ended
+        }
     }
 }
 
@@ -134,7 +189,15 @@ pub fn tell_lost_words<R: AllocGlobal + Files<File = File>>(rt: &R) {
         archive: None,
     };
     let words = b"the words of handle are refused";
-    let line = lost_line(rt.alloc(), b"", b"", "", b"BadLine", words, None);
+    let line = lost_line(
+        rt.alloc(),
+        b"",
+        b"",
+        Place::Lost(""),
+        b"BadLine",
+        words,
+        None,
+    );
     log.tell(rt, rt.alloc(), Level::Error, line.text());
 }
 
@@ -166,7 +229,36 @@ fn tell_faults<R: AllocGlobal + Files<File = File>>(
 }
 
 impl<'a> Handler<'a> {
-    fn tell<R: Files<File = File>>(&self, rt: &R, level: Level, text: &[u8]) {
+    // The same for a core that stays in the spool if it can't be stored now.
+    pub(crate) fn waiting(&self) -> Handler<'a> {
+        let spooling = match self.config.spool {
+            Some(folder) => Some(Spooling {
+                folder,
+                makes_room: self.config.fit,
+            }),
+            None => None,
+        };
+        Handler {
+            config: self.config,
+            teller: Teller {
+                spooling,
+                ..self.teller
+            },
+        }
+    }
+
+    // The same for a core whose process had this dump mode.
+    pub(crate) fn with_mode(&self, mode: Option<u64>) -> Handler<'a> {
+        Handler {
+            config: self.config,
+            teller: Teller {
+                mode,
+                ..self.teller
+            },
+        }
+    }
+
+    pub(crate) fn tell<R: Files<File = File>>(&self, rt: &R, level: Level, text: &[u8]) {
         self.teller.tell(rt, level, text);
     }
 
@@ -182,7 +274,7 @@ impl<'a> Handler<'a> {
     }
 
     // Tells that a core is lost before its archive is opened, for this reason, which means this.
-    fn tell_lost<R: Files<File = File> + Clock>(
+    pub(crate) fn tell_lost<R: Files<File = File> + Clock>(
         &self,
         rt: &R,
         words: &HandleWords<'_>,
@@ -319,22 +411,53 @@ impl<'a> Handler<'a> {
         seconds_of(rt.since_1970())
     }
 
-    // Stores the core, and tells what became of it.
-    fn store<R: AllocGlobal + Files<File = File>, I: Read, O: Output, W: Onlooker>(
+    // What is stored, and by what, under its name with this end.
+    pub(crate) fn request_ended<R: Files<File = File> + Clock>(
+        &self,
+        rt: &R,
+        words: &HandleWords<'_>,
+        end: &str,
+    ) -> Result<StoreRequest, Refusal> {
+        if end.is_empty() {
+            return self.request(rt, words);
+        }
+        let request = self.named(
+            rt,
+            words,
+            ended(self.teller.alloc, self.template(rt), end)?.as_str(),
+        )?;
+        if request.refusal().is_none() {
+            return Ok(request);
+        }
+        self.named(
+            rt,
+            words,
+            ended(self.teller.alloc, PLAIN_TEMPLATE, end)?.as_str(),
+        )
+    }
+
+    // Stores the core, from the input (-) or from a file, and tells what became of it.
+    pub(crate) fn store<
+        R: AllocGlobal + Files<File = File> + Clock,
+        I: Read,
+        O: Output,
+        W: Onlooker,
+    >(
         &self,
         rt: &R,
         place: ArchivePath<'_>,
+        file: &str,
         request: StoreRequest,
         input: &mut I,
         output: &mut O,
         onlooker: &mut W,
-    ) -> Result<(), Failure> {
+    ) -> (Result<(), Failure>, Outcome) {
         let mut note = Collected::new(self.teller.alloc);
         store_told(
             rt,
             self.teller,
             place,
-            "-",
+            file,
             request,
             input,
             output,
@@ -342,4 +465,11 @@ impl<'a> Handler<'a> {
             onlooker,
         )
     }
+}
+
+// A template with this end.
+fn ended(alloc: Global, template: &str, end: &str) -> Result<String, Refusal> {
+    let mut text = String::from_str(alloc, template)?;
+    text.push_str(end)?;
+    Ok(text)
 }

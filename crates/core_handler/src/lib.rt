@@ -1,21 +1,27 @@
 //! What the kernel's handler of core files does, and what a log is told of a case that is stored.
 #![tactic(auto)]
 
+mod berth;
 mod checking;
 mod config_file;
 mod examine;
 mod file_limit;
+mod flush;
 mod fronts;
 mod handling;
 mod labels;
+mod line_numbers;
 mod log;
 mod outcome_lines;
 mod requesting;
+mod spool_paths;
+mod spool_store;
 mod teller;
+mod twin;
 
 pub use file_limit::write_trouble;
 pub use handling::{HandleWords, handle, tell_lost_words};
 pub use labels::label_in;
 pub use log::Log;
-pub use requesting::policy_within;
-pub use teller::{Teller, store_told};
+pub use requesting::{order_of, policy_within};
+pub use teller::{Spooling, Teller, store_told};

@@ -4,11 +4,13 @@ use command_words::{Context, tell_meaning};
 use diagnostics::Trouble;
 use disk_model::FileFault;
 use script_streams::Reply;
+use spool::{Outcome, outcome_of};
 use std::alloc::Global;
+use std::str;
 
 // The outcome of a store, as its replies tell it.
 #[derive(Clone, Copy)]
-pub(crate) struct Outcome<'a> {
+pub(crate) struct Replied<'a> {
     // The name of the case, printed.
     pub(crate) name: &'a [u8],
     // How many bytes are kept, printed, if the core was cut.
@@ -25,8 +27,8 @@ fn after<'a>(line: &'a [u8], word: &[u8]) -> Option<&'a [u8]> {
 }
 
 // Reads the lines of the replies.
-pub(crate) fn outcome_of(replies: &[u8]) -> Outcome<'_> {
-    let mut outcome = Outcome {
+pub(crate) fn replies_outcome(replies: &[u8]) -> Replied<'_> {
+    let mut outcome = Replied {
         name: b"a core",
         cut: None,
         stored: None,
@@ -38,7 +40,7 @@ pub(crate) fn outcome_of(replies: &[u8]) -> Outcome<'_> {
     outcome
 }
 
-fn with_line<'a>(outcome: Outcome<'a>, line: &'a [u8]) -> Outcome<'a> {
+fn with_line<'a>(outcome: Replied<'a>, line: &'a [u8]) -> Replied<'a> {
     let mut outcome = outcome;
     if let Some(name) = after(line, b"name ") {
         outcome.name = name;
@@ -157,7 +159,7 @@ pub(crate) fn stored_line(
 ) -> Collected {
     let mut line = Collected::new(alloc);
     let mut reply = Reply::new(&mut line);
-    let outcome = outcome_of(replies);
+    let outcome = replies_outcome(replies);
     if let Some(kept) = outcome.cut {
         reply.tell(b"cut ");
         reply.tell(outcome.name);
@@ -208,23 +210,48 @@ fn file_text(alloc: Global, refusal: Refusal) -> Option<String> {
     text.ok()
 }
 
-// What is told of a core that is lost for this reason, which means this, and of the cases that were dropped even so. A name or an archive
-// that isn't known is a minus.
+// Where a core is that is not stored.
+#[derive(Clone, Copy)]
+pub(crate) enum Place<'a> {
+    // Nowhere: this archive has lost it.
+    Lost(&'a str),
+    // In this folder.
+    Kept(&'a str),
+}
+
+// What came of a core that is refused for this reason. Cases may go for it or not.
+pub(crate) fn reason_outcome(reason: &[u8], makes_room: bool) -> Outcome {
+    let word = match reason.split(|byte| *byte == b' ').next() {
+        Some(word) => word,
+        None => reason,
+    };
+    match str::from_utf8(word) {
+        Ok(word) => outcome_of(word, makes_room),
+        Err(_) => Outcome::Unknown,
+    }
+}
+
+// What is told of a core that is lost or kept for this reason, which means this, and of the cases that were dropped even so. A name that
+// isn't known is a minus, and so is an archive.
 pub(crate) fn lost_line(
     alloc: Global,
     replies: &[u8],
     name: &[u8],
-    archive: &str,
+    place: Place<'_>,
     reason: &[u8],
     words: &[u8],
     mode: Option<u64>,
 ) -> Collected {
     let mut line = Collected::new(alloc);
     let mut reply = Reply::new(&mut line);
-    reply.tell(b"lost ");
+    let (what, place) = match place {
+        Place::Lost(archive) => (b"lost ", archive),
+        Place::Kept(folder) => (b"kept ", folder),
+    };
+    reply.tell(what);
     reply.tell(if name.is_empty() { b"-" } else { name });
     reply.tell(b" in ");
-    reply.tell_text(archive.as_bytes());
+    reply.tell_text(place.as_bytes());
     reply.tell(b": no ");
     reply.tell(reason);
     if !words.is_empty() {

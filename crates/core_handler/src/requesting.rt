@@ -11,7 +11,7 @@ use crate::handling::HANDLER_LIMIT;
 use archive_files::{StoreRequest, StoreWords};
 use arrayvec::ArrayVec;
 use handler_config::Config;
-use inspector_cli::{Burst, Naming, StoreOptions};
+use inspector_cli::{Burst, Naming, Order, StoreOptions};
 use name_template::{Template, TemplateFault};
 use retention::Policy;
 use std::io;
@@ -39,6 +39,7 @@ pub(crate) fn request_of(
         label,
         pin: false,
         fit: config.fit,
+        order: order_of(config.fair),
         cut: cut_of(config),
         length,
         burst: burst_of(config, &begin, template),
@@ -69,6 +70,13 @@ fn limit_of(config: &Config<'_>) -> u64
     ensures { result ≡ spec.limit_of config.now }
 {
     config.limit.unwrap_or(HANDLER_LIMIT)
+}
+
+/// In which order cases go: the fair one, if that is asked for.
+pub fn order_of(fair: bool) -> Order
+    ensures { result ≡ spec.order_of fair }
+{
+    if fair { Order::Fair } else { Order::Oldest }
 }
 
 // How many bytes are kept of a core that is to be cut.

@@ -2,7 +2,9 @@
 use crate::examine::{Seen, look_at_case};
 use crate::file_limit::write_trouble;
 use crate::log::{Level, Log};
-use crate::outcome_lines::{lack_words, lacks_of, lost_line, outcome_of, stored_line, words_of};
+use crate::outcome_lines::{
+    Place, lack_words, lacks_of, lost_line, reason_outcome, replies_outcome, stored_line, words_of,
+};
 use archive_files::{
     ArchivePath, Collected, Failure, Held, Refusal, StoreRequest, reason_of, store_file,
 };
@@ -10,10 +12,12 @@ use diagnostics::{Onlooker, Trouble};
 use disk_model::FileDisk;
 use script_streams::{Output, Reply, write_whole};
 use script_words::parse_case_number;
+use spool::{Fate, Outcome, fate_of};
 use std::alloc::Global;
 use std::fs::File;
 use std::io::Read;
 use std::rt::Files;
+use std::time::Clock;
 use thread_regs::signal_name;
 
 /// What tells outcomes.
@@ -25,16 +29,27 @@ pub struct Teller<'a> {
     pub log: Log<'a>,
     /// The dump mode of the process, if it is stated.
     pub mode: Option<u64>,
+    /// Where a core stays that can't be stored now, if it is in the spool.
+    pub spooling: Option<Spooling<'a>>,
 }
 
-/// Stores a file, or the standard input, and tells what became of it. What can't be read of the case goes to a note, too. An onlooker is
+/// The spool that a core is stored from.
+#[derive(Clone, Copy)]
+pub struct Spooling<'a> {
+    /// Its folder.
+    pub folder: &'a str,
+    /// Cases go so that a core finds room.
+    pub makes_room: bool,
+}
+
+/// Stores a file, or the standard input, tells what became of it, and answers that. What can't be read of the case goes to a note, too. An onlooker is
 /// told how far the store is, and which call on the archive's file failed.
 ///
 /// # Errors
 ///
 /// Those of `store_file` of `archive_files`, and `WriteFailed` if the replies could not be written. `Disk`, before anything is read, if the
 /// process may not write as far as the archive's file goes.
-pub fn store_told<R: AllocGlobal + Files<File = File>, I: Read, O: Output, W: Onlooker>(
+pub fn store_told<R: AllocGlobal + Files<File = File> + Clock, I: Read, O: Output, W: Onlooker>(
     rt: &R,
     teller: Teller<'_>,
     place: ArchivePath<'_>,
@@ -44,16 +59,17 @@ pub fn store_told<R: AllocGlobal + Files<File = File>, I: Read, O: Output, W: On
     output: &mut O,
     note: &mut Collected,
     onlooker: &mut W,
-) -> Result<(), Failure> {
+) -> (Result<(), Failure>, Outcome) {
     let name = request.printed_name(teller.alloc);
     if let Some(trouble) = write_trouble(rt, place.path) {
         onlooker.fail(trouble);
-        return Err(teller.refuse_unwritten(rt, place.path, name.text(), trouble));
+        let failure = teller.refuse_unwritten(rt, place.path, name.text(), trouble);
+        return (Err(failure), Outcome::Disk);
     }
     let has_label = request.has_label();
     let mut reply = Held::new(teller.alloc, output);
     let (ended, disk) = store_file(rt, place, file, request, input, &mut reply, onlooker);
-    teller.tell_outcome(
+    let outcome = teller.tell_outcome(
         rt,
         place.path,
         name.text(),
@@ -63,8 +79,10 @@ pub fn store_told<R: AllocGlobal + Files<File = File>, I: Read, O: Output, W: On
         disk,
         note,
     );
-    reply.finish()?;
-    ended
+    match reply.finish() {
+        Ok(()) => (ended, outcome),
+        Err(fault) => (Err(Failure::from(fault)), outcome),
+    }
 }
 
 impl<'a> Teller<'a> {
@@ -73,7 +91,15 @@ impl<'a> Teller<'a> {
         self.log.tell(rt, self.alloc, level, text);
     }
 
-    // Tells that a case is lost, for this reason, which means this.
+    // What came of a core that is refused for this reason.
+    fn outcome_by(&self, reason: &[u8]) -> Outcome {
+        match &self.spooling {
+            Some(spooling) => reason_outcome(reason, spooling.makes_room),
+            None => Outcome::Unknown,
+        }
+    }
+
+    // Tells that a case is lost, or kept in the spool, for this reason, which means this.
     pub(crate) fn tell_lost<R: Files<File = File>>(
         &self,
         rt: &R,
@@ -83,8 +109,18 @@ impl<'a> Teller<'a> {
         reason: &[u8],
         words: &[u8],
     ) {
-        let line = lost_line(self.alloc, replies, name, archive, reason, words, self.mode);
-        self.tell(rt, Level::Error, line.text());
+        let place = match &self.spooling {
+            Some(spooling) if fate_of(self.outcome_by(reason)) == Fate::Stay => {
+                Place::Kept(spooling.folder)
+            }
+            _ => Place::Lost(archive),
+        };
+        let level = match place {
+            Place::Kept(_) => Level::Warning,
+            Place::Lost(_) => Level::Error,
+        };
+        let line = lost_line(self.alloc, replies, name, place, reason, words, self.mode);
+        self.tell(rt, level, line.text());
     }
 
     // Tells that a case is lost since a write of the archive would meet this, and what it is refused for: as if it had been made.
@@ -110,16 +146,18 @@ impl<'a> Teller<'a> {
         refused: &[u8],
         ended: &Result<(), Failure>,
         trouble: Option<Trouble>,
-    ) {
+    ) -> Outcome {
         match ended {
             Err(Failure::Refused(refusal)) => {
                 let reason = reason_of(self.alloc, *refusal);
                 let words = words_of(self.alloc, Some(*refusal), reason.text(), trouble);
                 self.tell_lost(rt, archive, replies, name, reason.text(), words.text());
+                self.outcome_by(reason.text())
             }
             _ => {
                 let words = words_of(self.alloc, None, refused, trouble);
                 self.tell_lost(rt, archive, replies, name, refused, words.text());
+                self.outcome_by(refused)
             }
         }
     }
@@ -157,7 +195,7 @@ impl<'a> Teller<'a> {
         }
     }
 
-    // Tells what became of a case, by the replies of its store. The disk is let go.
+    // Tells what became of a case, by the replies of its store, and answers that. The disk is let go.
     fn tell_outcome<R: Files<File = File>>(
         &self,
         rt: &R,
@@ -168,18 +206,19 @@ impl<'a> Teller<'a> {
         ended: &Result<(), Failure>,
         disk: Option<FileDisk>,
         note: &mut Collected,
-    ) {
-        let outcome = outcome_of(replies);
+    ) -> Outcome {
+        let outcome = replies_outcome(replies);
         match (outcome.stored, disk) {
             (Some(number), Some(disk)) => {
-                self.tell_stored(rt, archive, replies, has_label, number, disk, note)
+                self.tell_stored(rt, archive, replies, has_label, number, disk, note);
+                Outcome::Stored
             }
             (_, disk) => {
                 let trouble = match &disk {
                     Some(disk) => disk.trouble(),
                     None => None,
                 };
-                self.tell_refused(rt, archive, replies, name, outcome.refused, ended, trouble);
+                self.tell_refused(rt, archive, replies, name, outcome.refused, ended, trouble)
             }
         }
     }

@@ -4,7 +4,7 @@ use Rattle.std.specs.Str.{bytes_eq}
 use Rattle.toml.specs.Data.{Data, as_str, as_bool}
 use Rattle.handler_config.specs.Values.{natural_in, age_in, burst_in}
 use Rattle.handler_config.specs.declared.keys.Key.{Key}
-use Rattle.handler_config.specs.declared.keys.Key.TheVariants.{Archive, Keep, Bytes, Before, Limit, Fit, Cut, Burst, ObeyLimit, Template, UsesPid, NoWait, Label, Log}
+use Rattle.handler_config.specs.declared.keys.Key.TheVariants.{Archive, Keep, Bytes, Before, Limit, Fit, Fair, Cut, Burst, ObeyLimit, Template, UsesPid, NoWait, Label, Log, Spool, SpoolBytes}
 use Rattle.handler_config.specs.declared.keys.Fault.{Fault}
 use Rattle.handler_config.specs.declared.keys.Fault.TheVariants.{Unknown, NotText, NotNumber, NotFlag, NotAge, NotBurst}
 
@@ -16,6 +16,7 @@ key_word Bytes = codes "bytes"
 key_word Before = codes "before"
 key_word Limit = codes "limit"
 key_word Fit = codes "fit"
+key_word Fair = codes "fair"
 key_word Cut = codes "cut"
 key_word Burst = codes "burst"
 key_word ObeyLimit = codes "obey-limit"
@@ -24,6 +25,8 @@ key_word UsesPid = codes "uses-pid"
 key_word NoWait = codes "no-wait"
 key_word Label = codes "label"
 key_word Log = codes "log"
+key_word Spool = codes "spool"
+key_word SpoolBytes = codes "spool-bytes"
 
 abbrev pub is_word_of : List ℕ → Key → Bool
 is_word_of word key = bytes_eq word (key_word key)
@@ -37,6 +40,7 @@ key_of word =
     else (if is_word_of word Before then Some Before
     else (if is_word_of word Limit then Some Limit
     else (if is_word_of word Fit then Some Fit
+    else (if is_word_of word Fair then Some Fair
     else (if is_word_of word Cut then Some Cut
     else (if is_word_of word Burst then Some Burst
     else (if is_word_of word ObeyLimit then Some ObeyLimit
@@ -45,7 +49,9 @@ key_of word =
     else (if is_word_of word NoWait then Some NoWait
     else (if is_word_of word Label then Some Label
     else (if is_word_of word Log then Some Log
-    else None)))))))))))))
+    else (if is_word_of word Spool then Some Spool
+    else (if is_word_of word SpoolBytes then Some SpoolBytes
+    else None))))))))))))))))
 
 -- a value that is missing is this fault
 abbrev pub unless : Fault → Bool → Option Fault
@@ -62,6 +68,7 @@ value_fault Bytes d = unless_there NotNumber (natural_in d)
 value_fault Before d = unless_there NotAge (age_in d)
 value_fault Limit d = unless_there NotNumber (natural_in d)
 value_fault Fit d = unless_there NotFlag (as_bool d)
+value_fault Fair d = unless_there NotFlag (as_bool d)
 value_fault Cut d = unless_there NotFlag (as_bool d)
 value_fault Burst d = unless_there NotBurst (burst_in d)
 value_fault ObeyLimit d = unless_there NotFlag (as_bool d)
@@ -70,6 +77,8 @@ value_fault UsesPid d = unless_there NotFlag (as_bool d)
 value_fault NoWait d = unless_there NotFlag (as_bool d)
 value_fault Label d = unless_there NotText (as_str d)
 value_fault Log d = unless_there NotText (as_str d)
+value_fault Spool d = unless_there NotText (as_str d)
+value_fault SpoolBytes d = unless_there NotNumber (natural_in d)
 
 abbrev pub fault_by : Option Key → Data → Option Fault
 fault_by None d = Some Unknown

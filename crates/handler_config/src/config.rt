@@ -27,8 +27,10 @@ pub struct Config<'t> {
     pub before: Option<u64>,
     /// The most bytes of an image.
     pub limit: Option<u64>,
-    /// Cases go so that a core finds room, the oldest cores first.
+    /// Cases go so that a core finds room, the oldest cores first, unless `fair` says otherwise.
     pub fit: bool,
+    /// Where cases go so, it is first a core of the user whose cores have the most blocks.
+    pub fair: bool,
     /// A core that has more bytes than the limit, or finds no room, is cut.
     pub cut: bool,
     /// How many cores of one program are stored in how many seconds.
@@ -45,6 +47,10 @@ pub struct Config<'t> {
     pub label: Option<&'t str>,
     /// The file to which each outcome is told; none if it is empty.
     pub log: Option<&'t str>,
+    /// The folder into which a core goes first.
+    pub spool: Option<&'t str>,
+    /// The most bytes of the cores in that folder.
+    pub spool_bytes: Option<u64>,
 }
 
 impl<'t> Config<'t> {
@@ -59,6 +65,7 @@ impl<'t> Config<'t> {
             before: age_at(document, "before"),
             limit: natural_at(document, "limit"),
             fit: flag_at(document, "fit"),
+            fair: flag_at(document, "fair"),
             cut: flag_at(document, "cut"),
             burst: burst_at(document, "burst"),
             obeys_limit: flag_at(document, "obey-limit"),
@@ -67,6 +74,8 @@ impl<'t> Config<'t> {
             no_wait: flag_at(document, "no-wait"),
             label: text_at(document, "label"),
             log: text_at(document, "log"),
+            spool: text_at(document, "spool"),
+            spool_bytes: natural_at(document, "spool-bytes"),
         }
     }
 }

@@ -21,6 +21,8 @@ pub enum Key {
     Limit,
     /// Cases go so that a core finds room, the oldest cores first: true or false.
     Fit,
+    /// Where cases go so, it is first a core of the user whose cores have the most blocks: true or false.
+    Fair,
     /// A core that is too large, or finds no room, is cut: true or false.
     Cut,
     /// How many cores of one program are stored in how many seconds: a table of two numbers.
@@ -37,6 +39,10 @@ pub enum Key {
     Label,
     /// The file to which each outcome is told: a text.
     Log,
+    /// The folder into which a core goes first: a text.
+    Spool,
+    /// The most bytes of the cores in that folder: a number.
+    SpoolBytes,
 }
 
 /// What is wrong with an entry of a configuration.
@@ -67,6 +73,7 @@ fn key_of(word: &str) -> Option<Key>
         "before" => Some(Key::Before),
         "limit" => Some(Key::Limit),
         "fit" => Some(Key::Fit),
+        "fair" => Some(Key::Fair),
         "cut" => Some(Key::Cut),
         "burst" => Some(Key::Burst),
         "obey-limit" => Some(Key::ObeyLimit),
@@ -75,6 +82,8 @@ fn key_of(word: &str) -> Option<Key>
         "no-wait" => Some(Key::NoWait),
         "label" => Some(Key::Label),
         "log" => Some(Key::Log),
+        "spool" => Some(Key::Spool),
+        "spool-bytes" => Some(Key::SpoolBytes),
         _ => None,
     }
 }
@@ -94,15 +103,15 @@ pub fn entry_fault(word: &str, value: &Value) -> Option<Fault>
         return Some(Fault::Unknown);
     };
     match key {
-        Key::Archive | Key::Template | Key::Label | Key::Log => {
+        Key::Archive | Key::Template | Key::Label | Key::Log | Key::Spool => {
             unless_there(Fault::NotText, value.as_str().is_some())
         }
-        Key::Keep | Key::Bytes | Key::Limit => {
+        Key::Keep | Key::Bytes | Key::Limit | Key::SpoolBytes => {
             unless_there(Fault::NotNumber, natural_in(value).is_some())
         }
         Key::Before => unless_there(Fault::NotAge, age_in(value).is_some()),
         Key::Burst => unless_there(Fault::NotBurst, burst_in(value).is_some()),
-        Key::Fit | Key::Cut | Key::ObeyLimit | Key::UsesPid | Key::NoWait => {
+        Key::Fit | Key::Fair | Key::Cut | Key::ObeyLimit | Key::UsesPid | Key::NoWait => {
             unless_there(Fault::NotFlag, value.as_bool().is_some())
         }
     }

@@ -19,11 +19,13 @@ use Rattle.intake.specs.Step.{longer}
 use Rattle.script_streams.specs.Replies.{TellsText}
 use Rattle.script_streams.specs.Telling.{Sink}
 use Rattle.script_streams.specs.TellLaws.{tells_then, tells_as, tells_nothing}
+use Rattle.inspector_cli.specs.declared.session.Order.{Order}
+use Rattle.inspector_cli.specs.declared.session.Order.TheVariants.{Oldest, Fair}
 use Rattle.inspector_cli.specs.declared.store.TakeStop.{TakeStop}
 use Rattle.inspector_cli.specs.declared.store.TakeStop.TheVariants.{File, Refused, Cut, Length}
 use Rattle.inspector_cli.specs.declared.store.LengthFault.TheVariants.{Short, Long}
 use Rattle.inspector_cli.specs.Reply.{TakeStep, TakeBytes, Takes}
-use Rattle.inspector_cli.specs.Fitting.{Going, IsGoing, IsNext, GoesOn, TakesWhile, going_text, goes, goes_first, may_go, may_go_first, next_to_go, or_else}
+use Rattle.inspector_cli.specs.Fitting.{Going, IsGoing, IsNext, GoesOn, TakesWhile, going_text, goes, goes_first, may_go, may_go_first, next_core, next_to_go, or_else}
 use Rattle.inspector_cli.specs.Storing.{LooksPast, TakesMore, AfterRoom, MakesRoom, GoesNext, TakesNext}
 use Rattle.inspector_cli.proofs.SlotLemmas.{at_set}
 
@@ -32,28 +34,25 @@ pub find_mapped : (p : Case → Bool) (es : List Entry) → find p (map case_of 
 find_mapped p [] = refl
 find_mapped p (e ∷ es) = elim (p (case_of e)) as (λ t. cond t (Some (case_of e)) (find p (map case_of es)) ≡ option_map case_of (cond t (Some e) (find (λ (x : Entry). p (case_of x)) es))) [ true ↦ refl | false ↦ find_mapped p es ]
 
--- the core that goes next
-pub core_goes : (es : List Entry) (e : Entry) → Some e ≡ find goes_first es → IsNext (map case_of es) e.seq
-core_goes es e is = (
-  case_of e,
-  ap (λ (o : Option Case). or_else o (find may_go (map case_of es))) (find_mapped may_go_first es ∙ ap (option_map case_of) (sym is)),
-  refl,
-)
+-- the core that goes next, of the oldest
+mapped_twice : {X : Type 0} (f : X → Entry) (o : Option X) → option_map (λ x. case_of (f x)) o ≡ option_map case_of (option_map f o)
+mapped_twice f None = refl
+mapped_twice f (Some x) = refl
 
--- or the executable
-pub case_goes : (es : List Entry) (e : Entry) → None ≡ find goes_first es → Some e ≡ find goes es → IsNext (map case_of es) e.seq
-case_goes es e none is = (
-  case_of e,
-  ap (λ (o : Option Case). or_else o (find may_go (map case_of es))) (find_mapped may_go_first es ∙ ap (option_map case_of) (sym none))
-      ∙ find_mapped may_go es ∙ ap (option_map case_of) (sym is),
-  refl,
-)
+pub oldest_core : {X : Type 0} (f : X → Entry) (es : List Entry) (o : Option X) → option_map f o ≡ find goes_first es → option_map (λ x. case_of (f x)) o ≡ next_core Oldest (map case_of es)
+oldest_core f es o is = mapped_twice f o ∙ ap (option_map case_of) is ∙ sym (find_mapped may_go_first es)
 
--- or none
-pub none_goes : (es : List Entry) → None ≡ find goes_first es → None ≡ find goes es → next_to_go (map case_of es) ≡ None
-none_goes es first other =
-    ap (λ (o : Option Case). or_else o (find may_go (map case_of es))) (find_mapped may_go_first es ∙ ap (option_map case_of) (sym first))
-    ∙ find_mapped may_go es ∙ ap (option_map case_of) (sym other)
+-- the core that goes next, or the executable, or none
+pub core_goes : (order : Order) (es : List Entry) (e : Entry) → Some (case_of e) ≡ next_core order (map case_of es) → IsNext order (map case_of es) e.seq
+core_goes order es e is = (case_of e, ap (λ (o : Option Case). or_else o (find may_go (map case_of es))) (sym is), refl)
+
+pub case_goes : (order : Order) (es : List Entry) (e : Entry) → None ≡ next_core order (map case_of es) → Some e ≡ find goes es → IsNext order (map case_of es) e.seq
+case_goes order es e none is =
+    (case_of e, ap (λ (o : Option Case). or_else o (find may_go (map case_of es))) (sym none) ∙ find_mapped may_go es ∙ ap (option_map case_of) (sym is), refl)
+
+pub none_goes : (order : Order) (es : List Entry) → None ≡ next_core order (map case_of es) → None ≡ find goes es → next_to_go order (map case_of es) ≡ None
+none_goes order es none other =
+    ap (λ (o : Option Case). or_else o (find may_go (map case_of es))) (sym none) ∙ find_mapped may_go es ∙ ap (option_map case_of) (sym other)
 
 ok_err : (u : Unit {0}) (f : ArchiveFault) → ◌≡◌ {A = Result (Unit {0}) ArchiveFault} (Ok u) (Err f) → ⊥
 ok_err u f is = cc
@@ -93,36 +92,36 @@ pub took_some : (file file' : Option (List ℕ)) (fails fails' : ℕ) (so_far : 
 took_some file file' fails fails' so_far T zero some t = absurd (some refl)
 took_some file file' fails fails' so_far T (suc n) some t = t
 
-module _ {D : Type 0} (g : disk.Ghosts D) where
+module _ {D : Type 0} (g : disk.Ghosts D) (order : Order) where
   -- the last bytes, which were taken since the last case went
-  pub last_takes : (gone : List (Going D)) (old mid : Parts D) (raw : List ℕ) → TakesWhile g old raw gone (Ok tt) mid → (begun : Parts D) × (so_far : List ℕ) × Takes g begun 0 so_far (Ok tt) mid
+  pub last_takes : (gone : List (Going D)) (old mid : Parts D) (raw : List ℕ) → TakesWhile g order old raw gone (Ok tt) mid → (begun : Parts D) × (so_far : List ℕ) × Takes g begun 0 so_far (Ok tt) mid
   last_takes [] old mid raw takes = (old, raw, takes)
-  last_takes (w ∷ ws) old mid raw takes = last_takes ws w.after mid takes.1 (on w.answer ws takes.1 w.after mid (TakesWhile g w.after takes.1 ws (Ok tt) mid) takes.5)
+  last_takes (w ∷ ws) old mid raw takes = last_takes ws w.after mid takes.1 (on w.answer ws takes.1 w.after mid (TakesWhile g order w.after takes.1 ws (Ok tt) mid) takes.5)
 
   -- a step of the stream alone is one while cases go
-  pub lift_more : (file file' : Option (List ℕ)) (fails fails' : ℕ) (gone : List (Going D)) (old mid new : Parts D) (raw : List ℕ) (result : Result ℕ TakeStop) → TakesWhile g old raw gone (Ok tt) mid
+  pub lift_more : (file file' : Option (List ℕ)) (fails fails' : ℕ) (gone : List (Going D)) (old mid new : Parts D) (raw : List ℕ) (result : Result ℕ TakeStop) → TakesWhile g order old raw gone (Ok tt) mid
       → ((begun : Parts D) (so_far : List ℕ) → Takes g begun 0 so_far (Ok tt) mid → TakesMore file file' fails fails' so_far (λ x v. Takes g begun 0 x v new) result)
-      → TakesMore file file' fails fails' raw (λ x v. TakesWhile g old x gone v new) result
+      → TakesMore file file' fails fails' raw (λ x v. TakesWhile g order old x gone v new) result
   lift_more file file' fails fails' [] old mid new raw result takes step = step old raw takes
   lift_more file file' fails fails' (w ∷ ws) old mid new raw result takes step =
-      let tail = on w.answer ws takes.1 w.after mid (TakesWhile g w.after takes.1 ws (Ok tt) mid) takes.5 in
-      subst (λ (x : List ℕ). TakesMore file file' fails fails' x (λ y v. TakesWhile g old y (w ∷ ws) v new) result) (sym takes.2)
-      (map_more file file' fails fails' (λ x v. TakesWhile g w.after x ws v new) (λ y v. TakesWhile g old y (w ∷ ws) v new) takes.0 takes.1
-      (λ x v t. (takes.0, x, refl, takes.3, takes.4, back w.answer v ws ws takes.1 x w.after mid new (TakesWhile g w.after takes.1 ws (Ok tt) mid) (TakesWhile g w.after x ws v new) takes.5 t))
+      let tail = on w.answer ws takes.1 w.after mid (TakesWhile g order w.after takes.1 ws (Ok tt) mid) takes.5 in
+      subst (λ (x : List ℕ). TakesMore file file' fails fails' x (λ y v. TakesWhile g order old y (w ∷ ws) v new) result) (sym takes.2)
+      (map_more file file' fails fails' (λ x v. TakesWhile g order w.after x ws v new) (λ y v. TakesWhile g order old y (w ∷ ws) v new) takes.0 takes.1
+      (λ x v t. (takes.0, x, refl, takes.3, takes.4, back w.answer v ws ws takes.1 x w.after mid new (TakesWhile g order w.after takes.1 ws (Ok tt) mid) (TakesWhile g order w.after x ws v new) takes.5 t))
       result (lift_more file file' fails fails' ws w.after mid new takes.1 result tail step))
 
   -- one case more goes
-  add_gone : (gone : List (Going D)) (old new : Parts D) (raw : List ℕ) (w : Going D) (v : Result (Unit {0}) ArchiveFault) → TakesWhile g old raw gone (Ok tt) w.before → IsGoing g w
-      → GoesOn w.answer [] [] v w.after new (Takes g w.after 0 [] v new) → TakesWhile g old raw (gone ++ w ∷ []) v new
+  add_gone : (gone : List (Going D)) (old new : Parts D) (raw : List ℕ) (w : Going D) (v : Result (Unit {0}) ArchiveFault) → TakesWhile g order old raw gone (Ok tt) w.before → IsGoing g order w
+      → GoesOn w.answer [] [] v w.after new (Takes g w.after 0 [] v new) → TakesWhile g order old raw (gone ++ w ∷ []) v new
   add_gone [] old new raw w v takes going last = (raw, [], sym (append-nil raw), takes, going, last)
   add_gone (x ∷ xs) old new raw w v takes going last =
-      let tail = on x.answer xs takes.1 x.after w.before (TakesWhile g x.after takes.1 xs (Ok tt) w.before) takes.5 in (
+      let tail = on x.answer xs takes.1 x.after w.before (TakesWhile g order x.after takes.1 xs (Ok tt) w.before) takes.5 in (
         takes.0,
         takes.1,
         takes.2,
         takes.3,
         takes.4,
-        back x.answer v xs (xs ++ w ∷ []) takes.1 takes.1 x.after w.before new (TakesWhile g x.after takes.1 xs (Ok tt) w.before) (TakesWhile g x.after takes.1 (xs ++ w ∷ []) v new) takes.5
+        back x.answer v xs (xs ++ w ∷ []) takes.1 takes.1 x.after w.before new (TakesWhile g order x.after takes.1 xs (Ok tt) w.before) (TakesWhile g order x.after takes.1 (xs ++ w ∷ []) v new) takes.5
             (add_gone xs x.after new takes.1 w v tail going last),
       )
 
@@ -197,42 +196,42 @@ texts_more [] ys = refl
 texts_more (x ∷ xs) ys = ap (λ (t : List ℕ). going_text x ++ t) (texts_more xs ys) ∙ sym (append_assoc (going_text x) (flat_map going_text xs) (flat_map going_text ys))
 
 -- nothing was lacking
-pub room_none : {D : Type 0} (g : disk.Ghosts D) (begun : Parts D) (so_far : List ℕ) (gone : List (Going D)) (a : Sink) (mid : Parts D) → TakesWhile g begun so_far gone (Ok tt) mid
-    → MakesRoom g begun so_far gone (record { before = a; after = a }) mid (Ok tt)
-room_none {D} g begun so_far gone a mid takes = ([], tells_nothing, subst (λ (l : List (Going D)). TakesWhile g begun so_far l (Ok tt) mid) (sym (append-nil gone)) takes)
+pub room_none : {D : Type 0} (g : disk.Ghosts D) (order : Order) (begun : Parts D) (so_far : List ℕ) (gone : List (Going D)) (a : Sink) (mid : Parts D) → TakesWhile g order begun so_far gone (Ok tt) mid
+    → MakesRoom g order begun so_far gone (record { before = a; after = a }) mid (Ok tt)
+room_none {D} g order begun so_far gone a mid takes = ([], tells_nothing, subst (λ (l : List (Going D)). TakesWhile g order begun so_far l (Ok tt) mid) (sym (append-nil gone)) takes)
 
-module _ {D : Type 0} (g : disk.Ghosts D) (begun : Parts D) (so_far : List ℕ) (gone : List (Going D)) (a b : Sink) (mid new : Parts D) (seq : ℕ) (takes : TakesWhile g begun so_far gone (Ok tt) mid) where
+module _ {D : Type 0} (g : disk.Ghosts D) (order : Order) (begun : Parts D) (so_far : List ℕ) (gone : List (Going D)) (a b : Sink) (mid new : Parts D) (seq : ℕ) (takes : TakesWhile g order begun so_far gone (Ok tt) mid) where
   -- a case goes
-  pub one_gone : (u : Unit {0}) → IsGoing g (record { before = mid; seq = seq; answer = Ok u; after = new })
-      → TellsText (record { before = a; after = b }) (going_text (record { before = mid; seq = seq; answer = Ok u; after = new })) → GoesNext g begun so_far gone (record { before = a; after = b }) new (Ok true)
+  pub one_gone : (u : Unit {0}) → IsGoing g order (record { before = mid; seq = seq; answer = Ok u; after = new })
+      → TellsText (record { before = a; after = b }) (going_text (record { before = mid; seq = seq; answer = Ok u; after = new })) → GoesNext g order begun so_far gone (record { before = a; after = b }) new (Ok true)
   one_gone u going tells =
-      let l = last_takes g gone begun mid so_far takes in (
+      let l = last_takes g order gone begun mid so_far takes in (
         record { before = mid; seq = seq; answer = Ok u; after = new } ∷ [],
         tells_as (sym (append-nil (going_text (record { before = mid; seq = seq; answer = Ok u; after = new })))) tells,
-        add_gone g gone begun new so_far (record { before = mid; seq = seq; answer = Ok u; after = new }) (Ok tt) takes going
+        add_gone g order gone begun new so_far (record { before = mid; seq = seq; answer = Ok u; after = new }) (Ok tt) takes going
             (still_takes g l.0 mid new l.1 seq u l.2 going.deletes),
       )
 
   -- a case could not be deleted
-  pub one_stuck : (f : ArchiveFault) → IsGoing g (record { before = mid; seq = seq; answer = Err f; after = new })
-      → GoesNext g begun so_far gone (record { before = a; after = a }) new (Err (Refused f))
+  pub one_stuck : (f : ArchiveFault) → IsGoing g order (record { before = mid; seq = seq; answer = Err f; after = new })
+      → GoesNext g order begun so_far gone (record { before = a; after = a }) new (Err (Refused f))
   one_stuck f going = (
     record { before = mid; seq = seq; answer = Err f; after = new } ∷ [],
     tells_nothing,
-    add_gone g gone begun new so_far (record { before = mid; seq = seq; answer = Err f; after = new }) (Err f) takes going (refl, refl, refl, refl),
+    add_gone g order gone begun new so_far (record { before = mid; seq = seq; answer = Err f; after = new }) (Err f) takes going (refl, refl, refl, refl),
   )
 
 -- what is taken next
-module _ {D : Type 0} (g : disk.Ghosts D) (file file' : Option (List ℕ)) (fails fails' : ℕ) (begun old mid new : Parts D) (so_far : List ℕ) (gone : List (Going D)) (fit : Bool) where
-  more_as : (xs ys : List (Going D)) (a : Parts D) → xs ≡ ys → (x : List ℕ) (r : Result ℕ TakeStop) → TakesMore file file' fails fails' x (λ y v. TakesWhile g begun y xs v a) r → TakesMore file file' fails fails' x (λ y v. TakesWhile g begun y ys v a) r
-  more_as xs ys a is x r t = subst (λ (l : List (Going D)). TakesMore file file' fails fails' x (λ y v. TakesWhile g begun y l v a) r) is t
+module _ {D : Type 0} (g : disk.Ghosts D) (order : Order) (file file' : Option (List ℕ)) (fails fails' : ℕ) (begun old mid new : Parts D) (so_far : List ℕ) (gone : List (Going D)) (fit : Bool) where
+  more_as : (xs ys : List (Going D)) (a : Parts D) → xs ≡ ys → (x : List ℕ) (r : Result ℕ TakeStop) → TakesMore file file' fails fails' x (λ y v. TakesWhile g order begun y xs v a) r → TakesMore file file' fails fails' x (λ y v. TakesWhile g order begun y ys v a) r
+  more_as xs ys a is x r t = subst (λ (l : List (Going D)). TakesMore file file' fails fails' x (λ y v. TakesWhile g order begun y l v a) r) is t
 
   -- nothing goes
-  pub next_alone : (a : Sink) (r : Result ℕ TakeStop) → TakesWhile g begun so_far gone (Ok tt) old
+  pub next_alone : (a : Sink) (r : Result ℕ TakeStop) → TakesWhile g order begun so_far gone (Ok tt) old
       → ((b : Parts D) (x : List ℕ) → Takes g b 0 x (Ok tt) old → TakesMore file file' fails fails' x (λ y v. Takes g b 0 y v new) r)
-      → TakesNext g file file' fails fails' begun so_far gone fit (record { before = a; after = a }) new r
+      → TakesNext g order file file' fails fails' begun so_far gone fit (record { before = a; after = a }) new r
   next_alone a r takes step =
-      ([], tells_nothing, more_as gone (gone ++ []) new (sym (append-nil gone)) so_far r (lift_more g file file' fails fails' gone begun old new so_far r takes step), λ no. refl)
+      ([], tells_nothing, more_as gone (gone ++ []) new (sym (append-nil gone)) so_far r (lift_more g order file file' fails fails' gone begun old new so_far r takes step), λ no. refl)
 
   -- a look at whether more follow, and what it may stop a file for
   abbrev pub StopsBehind : TakeStop → Type 0
@@ -242,53 +241,53 @@ module _ {D : Type 0} (g : disk.Ghosts D) (file file' : Option (List ℕ)) (fail
   StopsBehind (Length Short) = ⊥
   StopsBehind (Length Long) = Unit {0}
 
-  went_on : (l : List (Going D)) → TakesWhile g begun so_far l (Ok tt) old → (stop : TakeStop) → StopsBehind stop → (raw : List ℕ) × Consumes file file' raw × (0 < length raw) × (fails' ≡ fails) → TakesMore file file' fails fails' so_far (λ y v. TakesWhile g begun y l v old) (Err stop)
+  went_on : (l : List (Going D)) → TakesWhile g order begun so_far l (Ok tt) old → (stop : TakeStop) → StopsBehind stop → (raw : List ℕ) × Consumes file file' raw × (0 < length raw) × (fails' ≡ fails) → TakesMore file file' fails fails' so_far (λ y v. TakesWhile g order begun y l v old) (Err stop)
   went_on l takes File behind look = absurd behind
   went_on l takes (Refused f) behind look = absurd behind
   went_on l takes (Cut kept) behind (raw, c, some, same) = (raw, c, some, same, takes)
   went_on l takes (Length Short) behind look = absurd behind
   went_on l takes (Length Long) behind (raw, c, some, same) = (raw, c, some, same, takes)
 
-  looked : (stop : TakeStop) → StopsBehind stop → (l : List (Going D)) → TakesWhile g begun so_far l (Ok tt) old → (r : Result ℕ TakeStop) → LooksPast file file' fails fails' stop r → TakesMore file file' fails fails' so_far (λ y v. TakesWhile g begun y l v old) r
+  looked : (stop : TakeStop) → StopsBehind stop → (l : List (Going D)) → TakesWhile g order begun so_far l (Ok tt) old → (r : Result ℕ TakeStop) → LooksPast file file' fails fails' stop r → TakesMore file file' fails fails' so_far (λ y v. TakesWhile g order begun y l v old) r
   looked stop behind l takes (Ok zero) (is, none, ends, same) = (none, ends, same, takes)
   looked stop behind l takes (Ok (suc n)) (is, none, ends, same) = absurd (omega (arith, is))
-  looked stop behind l takes (Err why) (inl (is, none, rose)) = subst (λ (w : TakeStop). TakesMore file file' fails fails' so_far (λ y v. TakesWhile g begun y l v old) (Err w)) (sym is) (none, rose, takes)
-  looked stop behind l takes (Err why) (inr (is, raw, c, some, same)) = subst (λ (w : TakeStop). TakesMore file file' fails fails' so_far (λ y v. TakesWhile g begun y l v old) (Err w)) (sym is) (went_on l takes stop behind (raw, c, some, same))
+  looked stop behind l takes (Err why) (inl (is, none, rose)) = subst (λ (w : TakeStop). TakesMore file file' fails fails' so_far (λ y v. TakesWhile g order begun y l v old) (Err w)) (sym is) (none, rose, takes)
+  looked stop behind l takes (Err why) (inr (is, raw, c, some, same)) = subst (λ (w : TakeStop). TakesMore file file' fails fails' so_far (λ y v. TakesWhile g order begun y l v old) (Err w)) (sym is) (went_on l takes stop behind (raw, c, some, same))
 
-  pub look_next : (stop : TakeStop) → StopsBehind stop → (a : Sink) (r : Result ℕ TakeStop) → TakesWhile g begun so_far gone (Ok tt) old → LooksPast file file' fails fails' stop r
-      → TakesNext g file file' fails fails' begun so_far gone fit (record { before = a; after = a }) old r
-  look_next stop behind a r takes look = ([], tells_nothing, looked stop behind (gone ++ []) (subst (λ (l : List (Going D)). TakesWhile g begun so_far l (Ok tt) old) (sym (append-nil gone)) takes) r look, λ no. refl)
+  pub look_next : (stop : TakeStop) → StopsBehind stop → (a : Sink) (r : Result ℕ TakeStop) → TakesWhile g order begun so_far gone (Ok tt) old → LooksPast file file' fails fails' stop r
+      → TakesNext g order file file' fails fails' begun so_far gone fit (record { before = a; after = a }) old r
+  look_next stop behind a r takes look = ([], tells_nothing, looked stop behind (gone ++ []) (subst (λ (l : List (Going D)). TakesWhile g order begun so_far l (Ok tt) old) (sym (append-nil gone)) takes) r look, λ no. refl)
 
   -- cases may go
-  pub next_as : (a b : Sink) (r : Result ℕ TakeStop) → fit ≡ true → TakesNext g file file' fails fails' begun so_far gone true (record { before = a; after = b }) new r
-      → TakesNext g file file' fails fails' begun so_far gone fit (record { before = a; after = b }) new r
-  next_as a b r is next = subst (λ (f : Bool). TakesNext g file file' fails fails' begun so_far gone f (record { before = a; after = b }) new r) (sym is) next
+  pub next_as : (a b : Sink) (r : Result ℕ TakeStop) → fit ≡ true → TakesNext g order file file' fails fails' begun so_far gone true (record { before = a; after = b }) new r
+      → TakesNext g order file file' fails fails' begun so_far gone fit (record { before = a; after = b }) new r
+  next_as a b r is next = subst (λ (f : Bool). TakesNext g order file file' fails fails' begun so_far gone f (record { before = a; after = b }) new r) (sym is) next
 
   -- one byte is taken, and then cases go
-  room_then_next : (n : ℕ) (a b : Sink) (r : Result (Unit {0}) TakeStop) (first : TakesMore file file' fails fails' so_far (λ y v. TakesWhile g begun y gone v mid) (Ok (suc n)))
-      → MakesRoom g begun (so_far ++ first.0) gone (record { before = a; after = b }) new r → TakesNext g file file' fails fails' begun so_far gone true (record { before = a; after = b }) new (first_then (suc n) r)
+  room_then_next : (n : ℕ) (a b : Sink) (r : Result (Unit {0}) TakeStop) (first : TakesMore file file' fails fails' so_far (λ y v. TakesWhile g order begun y gone v mid) (Ok (suc n)))
+      → MakesRoom g order begun (so_far ++ first.0) gone (record { before = a; after = b }) new r → TakesNext g order file file' fails fails' begun so_far gone true (record { before = a; after = b }) new (first_then (suc n) r)
   room_then_next n a b (Ok u) first room = (room.0, room.1, (first.0, first.1, first.2, first.3, room.2), λ no. absurd (true≢false no))
   room_then_next n a b (Err File) first room = absurd room.2
   room_then_next n a b (Err (Cut kept)) first room = absurd room.2
   room_then_next n a b (Err (Length f)) first room = absurd room.2
   room_then_next n a b (Err (Refused f)) first room = (room.0, room.1, (first.0, first.1, first.3, room.2), λ no. absurd (true≢false no))
 
-  pub next_then : (n : ℕ) → (n ≡ 0 → ⊥) → (a b : Sink) (r : Result (Unit {0}) TakeStop) → TakesWhile g begun so_far gone (Ok tt) old
+  pub next_then : (n : ℕ) → (n ≡ 0 → ⊥) → (a b : Sink) (r : Result (Unit {0}) TakeStop) → TakesWhile g order begun so_far gone (Ok tt) old
       → ((x : Parts D) (s : List ℕ) → Takes g x 0 s (Ok tt) old → TakesMore file file' fails fails' s (λ y v. Takes g x 0 y v mid) (Ok n))
-      → ((x : Parts D) (s : List ℕ) (l : List (Going D)) → TakesWhile g x s l (Ok tt) mid → MakesRoom g x s l (record { before = a; after = b }) new r)
-      → TakesNext g file file' fails fails' begun so_far gone true (record { before = a; after = b }) new (first_then n r)
+      → ((x : Parts D) (s : List ℕ) (l : List (Going D)) → TakesWhile g order x s l (Ok tt) mid → MakesRoom g order x s l (record { before = a; after = b }) new r)
+      → TakesNext g order file file' fails fails' begun so_far gone true (record { before = a; after = b }) new (first_then n r)
   next_then zero some a b r takes step room = absurd (some refl)
   next_then (suc n) some a b r takes step room =
-      let first = lift_more g file file' fails fails' gone begun old mid so_far (Ok (suc n)) takes step in
+      let first = lift_more g order file file' fails fails' gone begun old mid so_far (Ok (suc n)) takes step in
       room_then_next n a b r first (room begun (so_far ++ first.0) gone first.4)
 
-module _ {D : Type 0} (g : disk.Ghosts D) (begun : Parts D) (so_far : List ℕ) (gone : List (Going D)) (a b c : Sink) (new : Parts D) where
-  after_as : (xs ys : List (Going D)) → xs ≡ ys → (r : Result (Unit {0}) TakeStop) → AfterRoom (λ raw v. TakesWhile g begun raw xs v new) so_far r → AfterRoom (λ raw v. TakesWhile g begun raw ys v new) so_far r
-  after_as xs ys is r t = subst (λ (l : List (Going D)). AfterRoom (λ raw v. TakesWhile g begun raw l v new) so_far r) is t
+module _ {D : Type 0} (g : disk.Ghosts D) (order : Order) (begun : Parts D) (so_far : List ℕ) (gone : List (Going D)) (a b c : Sink) (new : Parts D) where
+  after_as : (xs ys : List (Going D)) → xs ≡ ys → (r : Result (Unit {0}) TakeStop) → AfterRoom (λ raw v. TakesWhile g order begun raw xs v new) so_far r → AfterRoom (λ raw v. TakesWhile g order begun raw ys v new) so_far r
+  after_as xs ys is r t = subst (λ (l : List (Going D)). AfterRoom (λ raw v. TakesWhile g order begun raw l v new) so_far r) is t
 
   -- room that is made in two steps
   pub room_then : (r : Result (Unit {0}) TakeStop) (first : List (Going D)) → TellsText (record { before = a; after = b }) (flat_map going_text first)
-      → MakesRoom g begun so_far (gone ++ first) (record { before = b; after = c }) new r → MakesRoom g begun so_far gone (record { before = a; after = c }) new r
+      → MakesRoom g order begun so_far (gone ++ first) (record { before = b; after = c }) new r → MakesRoom g order begun so_far gone (record { before = a; after = c }) new r
   room_then r first tells more = (
     first ++ more.0,
     tells_as (sym (texts_more first more.0)) (tells_then tells more.1),

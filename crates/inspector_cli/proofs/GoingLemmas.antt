@@ -5,7 +5,10 @@ use Rattle.std.specs.List.{find, filter}
 use Rattle.std.specs.Prelude.{map, option_map, is_some}
 use Rattle.journal_layout.specs.Case.{Case, case_of}
 use Rattle.journal_layout.specs.declared.entry.Entry.{Entry}
-use Rattle.inspector_cli.specs.Fitting.{frees, is_core, may_free, may_go, may_go_first, or_else, TheFirstGoes, AllArePinned}
+use Rattle.fair_share.specs.FairLaws.{loose_fair, none_fair}
+use Rattle.inspector_cli.specs.declared.session.Order.{Order}
+use Rattle.inspector_cli.specs.declared.session.Order.TheVariants.{Oldest, Fair}
+use Rattle.inspector_cli.specs.Fitting.{frees, is_core, may_free, may_go, may_go_first, next_core, next_to_go, or_else, TheFirstGoes, AllArePinned, NoPinnedOneGoes}
 use Rattle.inspector_cli.proofs.FitLemmas.{find_mapped}
 use Rattle.inspector_cli.proofs.SlotLemmas.{some_same}
 
@@ -83,12 +86,41 @@ module _ (cases : List Case) (c : Case) where
 pub first_goes : TheFirstGoes
 first_goes cases c is = goes_by cases c (find may_go_first cases) refl is
 
-pinned_by : (cases : List Case) (o : Option Case) → find may_go_first cases ≡ o → or_else o (find may_go cases) ≡ None → filter may_go cases ≡ []
-pinned_by cases (Some x) found is = absurd (none_some x (sym is))
-pinned_by cases None found is = found_none may_go cases is
+pinned_by : (cases : List Case) (o : Option Case) → or_else o (find may_go cases) ≡ None → filter may_go cases ≡ []
+pinned_by cases (Some x) is = absurd (none_some x (sym is))
+pinned_by cases None is = found_none may_go cases is
 
 pub all_pinned : AllArePinned
-all_pinned cases is = pinned_by cases (find may_go_first cases) refl is
+all_pinned order cases is = pinned_by cases (next_core order cases) is
+
+-- the core that goes next is not pinned
+loose_core : (order : Order) (cases : List Case) (c : Case) → next_core order cases ≡ Some c → may_go_first c ≡ true
+loose_core Oldest cases c is = (found_first may_go_first cases c is).is
+loose_core Fair cases c is = loose_fair cases c is
+
+loose_by : (cases : List Case) (c : Case) (o : Option Case) → ((x : Case) → o ≡ Some x → may_go_first x ≡ true) → or_else o (find may_go cases) ≡ Some c → c.pinned ≡ false
+loose_by cases c (Some x) core is = loose c.pinned (both_true (not c.pinned) (is_core c.origin.kind) (core c is)).0
+loose_by cases c None core is = loose c.pinned (found_first may_go cases c is).is
+
+pub no_pinned : NoPinnedOneGoes
+no_pinned order cases c is = loose_by cases c (next_core order cases) (loose_core order cases) is
+
+-- where no case may go, none goes next
+unfound_step : (p : Case → Bool) (x : Case) (xs : List Case) (t : Bool) → p x ≡ t → cond t (x ∷ filter p xs) (filter p xs) ≡ [] → (filter p xs ≡ [] → find p xs ≡ None) → find p (x ∷ xs) ≡ None
+unfound_step p x xs true so is more = absurd (some_left x (filter p xs) is)
+unfound_step p x xs false never is more = ap (λ (b : Bool). cond b (Some x) (find p xs)) never ∙ more is
+
+unfound : (p : Case → Bool) (cases : List Case) → filter p cases ≡ [] → find p cases ≡ None
+unfound p [] is = refl
+unfound p (x ∷ xs) is = unfound_step p x xs (p x) refl is (λ e. unfound p xs e)
+
+no_core : (order : Order) (cases : List Case) → filter may_go_first cases ≡ [] → next_core order cases ≡ None
+no_core Oldest cases none = unfound may_go_first cases none
+no_core Fair cases none = none_fair cases none
+
+pub next_may : (order : Order) (cases : List Case) (c : Case) → next_to_go order cases ≡ Some c → filter may_go cases ≡ [] → ⊥
+next_may order cases c is none =
+    none_some c (sym (ap (λ (o : Option Case). or_else o (find may_go cases)) (no_core order cases (fewer cases none)) ∙ unfound may_go cases none) ∙ is)
 
 -- where no entry is found that frees a block, no case may
 pub none_frees : {X : Type 0} (f : X → Entry) (es : List Entry) (cs : List Case) (o : Option X) (t : Bool) → t ≡ false → t ≡ is_some o → option_map f o ≡ find frees es → map case_of es ≡ cs → filter may_free cs ≡ []

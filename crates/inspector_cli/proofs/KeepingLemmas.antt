@@ -18,6 +18,7 @@ use Rattle.script_lines.specs.Said.{Said, silence, bad_line, long_line, begin_ex
 use Rattle.script_streams.specs.Replies.{no_reply, ok_reply}
 use Rattle.stream_names.specs.declared.naming.Naming.{Naming}
 use Rattle.archive_replies.specs.Texts.{end_reply, dropped_line, unmet_line}
+use Rattle.inspector_cli.specs.declared.session.Order.{Order}
 use Rattle.inspector_cli.specs.declared.session.LifeFault.{LifeFault}
 use Rattle.inspector_cli.specs.declared.session.StoreOutcome.{StoreOutcome}
 use Rattle.inspector_cli.specs.Headline.{HasFlag, Moment, Line, Course, IsCrashSafe, IsCourse, Leads, LeadsOn, WouldLeave, AllLead, FindsMoment, FindsSince, IsSafe, AreSafe, answer_of, moment_of, begins_as, begun_in, last_moment}
@@ -232,13 +233,13 @@ module _ {D : Type 0} (g : disk.Ghosts D) (k : Kept) where
     held_as m n holds doubts held = (subst (HoldsKept k) (sym holds) held.0, subst (AllByRecursion (HoldsKept k)) (sym doubts) held.1)
 
     -- cases go, and spare it
-    gone_holds : (m : Moment D) (gone : List (Gone D)) (filled : Moment D) → GoInTurn m gone filled → AllByRecursion (λ (x : Gone D). Spares k (delete_of x.seq) x.reply) gone → IsHeldAt k m
+    gone_holds : (order : Order) (m : Moment D) (gone : List (Gone D)) (filled : Moment D) → GoInTurn order m gone filled → AllByRecursion (λ (x : Gone D). Spares k (delete_of x.seq) x.reply) gone → IsHeldAt k m
         → AllByRecursion (IsHeldAt k) (moments_of gone) × IsHeldAt k filled
-    gone_holds m [] filled goes spares held = (tt, held_as m filled goes.0 goes.1 held)
-    gone_holds m (x ∷ xs) filled goes spares held =
+    gone_holds order m [] filled goes spares held = (tt, held_as m filled goes.0 goes.1 held)
+    gone_holds order m (x ∷ xs) filled goes spares held =
         let before = held_as m x.before goes.0 goes.1 held in
         let after = moment_keeps k no_stream [] x.before x.after (delete_of x.seq) x.reply goes.3 spares.0 before in
-        let rest = gone_holds x.after xs filled goes.4 spares.1 after in
+        let rest = gone_holds order x.after xs filled goes.4 spares.1 after in
         ((before, (after, rest.0)), rest.1)
 
     both_held : (xs ys : List (Moment D)) → AllByRecursion (IsHeldAt k) xs → AllByRecursion (IsHeldAt k) ys → AllByRecursion (IsHeldAt k) (xs ++ ys)
@@ -261,7 +262,7 @@ module _ {D : Type 0} (g : disk.Ghosts D) (k : Kept) where
         → AllByRecursion (IsHeldAt k) (c.retired ∷ (moments_of c.gone ++ (c.filled ∷ c.ended ∷ c.labelled ∷ c.end ∷ [])))
     store_holds retired gone label held =
         let made = moment_keeps k no_stream [] c.begin c.retired (retire_line c.policy) c.told is.retires_first retired held in
-        let taken = gone_holds c.retired c.gone c.filled is.goes gone made in
+        let taken = gone_holds given.order c.retired c.gone c.filled is.goes gone made in
         let ended = ended_holds taken.1 in
         let named = named_holds label ended in
         (made, both_held (moments_of c.gone) (c.filled ∷ c.ended ∷ c.labelled ∷ c.end ∷ []) taken.0 (taken.1, (ended, (named, (end_holds named, tt)))))

@@ -24,12 +24,14 @@ use Rattle.archive_replies.specs.Reasons.{reason_of}
 use Rattle.archive_replies.specs.Texts.{end_reply}
 use Rattle.inspector_cli.specs.declared.fitting.Need.{Need}
 use Rattle.inspector_cli.specs.declared.fitting.Need.TheVariants.{Block, Record}
+use Rattle.inspector_cli.specs.declared.session.Order.{Order}
 use Rattle.inspector_cli.specs.declared.store.TakeStop.{TakeStop}
 use Rattle.inspector_cli.specs.declared.store.TakeStop.TheVariants.{File, Refused, Cut, Length}
 use Rattle.inspector_cli.specs.declared.store.LengthFault.{LengthFault}
 use Rattle.inspector_cli.specs.declared.store.LengthFault.TheVariants.{Short, Long}
 use Rattle.inspector_cli.specs.Storing.{length_reason}
 use Rattle.inspector_cli.specs.Fitting.{EndsAt, IsNext, NoneMayGo, IsSpent, RefusedIfSpent, FillsWhole, IsServed, HasMadeRoom, FitsPart, Advances, AdvancesBy, ServesOn, DropsOne, DropsAll, FillsServed}
+use Rattle.inspector_cli.proofs.GoingLemmas.{next_may}
 use Rattle.inspector_cli.proofs.RoomLemmas.{states_agree}
 use Rattle.inspector_cli.proofs.SlotLemmas.{at_mapped, at_set, sum_set}
 
@@ -81,37 +83,37 @@ fewer_left seq (d ∷ rest) c found =
         (λ _. omega (arith, more)) (λ _. omega (arith, more))
 
 -- a case goes
-pub delete_serves : (s s' : ArchiveState) (seq : ℕ) (u : Unit {0}) → IsNext s.cases seq → DeleteStep s seq (Ok u) s' → (IsServed s → IsServed s') × (length s'.cases < length s.cases)
-delete_serves s s' seq u next step =
+pub delete_serves : (order : Order) (s s' : ArchiveState) (seq : ℕ) (u : Unit {0}) → IsNext order s.cases seq → DeleteStep s seq (Ok u) s' → (IsServed s → IsServed s') × (length s'.cases < length s.cases)
+delete_serves order s s' seq u next step =
     subst (λ (x : ArchiveState). (IsServed s → IsServed x) × (length x.cases < length s.cases)) (sym step.4) (served, fewer_left seq s.cases step.0 step.1.1)
   where
     served : IsServed s → IsServed (without_cases s (seq ∷ []))
     served was awake full =
         let less = (left_less (λ (e : Case). not (is_among (seq ∷ []) e.seq)) s.cases).1 in
-        ⊎_elim (λ none. absurd (none_some next.0 (sym none ∙ next.1))) (λ whole. inr whole) (was awake (omega (arith, full, less)))
+        ⊎_elim (λ none. absurd (next_may order s.cases next.0 next.1 none)) (λ whole. inr whole) (was awake (omega (arith, full, less)))
 
 -- or can't
-pub delete_refused : (s s' : ArchiveState) (seq : ℕ) (f : ArchiveFault) → IsNext s.cases seq → DeleteStep s seq (Err f) s' → IsSpent f s'
-delete_refused s s' seq JournalFull next step =
-    subst (IsSpent JournalFull) (sym step.4)
+pub delete_refused : (order : Order) (s s' : ArchiveState) (seq : ℕ) (f : ArchiveFault) → IsNext order s.cases seq → DeleteStep s seq (Err f) s' → IsSpent order f s'
+delete_refused order s s' seq JournalFull next step =
+    subst (IsSpent order JournalFull) (sym step.4)
     (inr (inr (next.0, next.1, subst (λ (n : ℕ). IsFull s (drop_size 1) (cases_without s (n ∷ []))) (sym next.2) step.3)))
-delete_refused s s' seq SpaceFull next step = absurd step
-delete_refused s s' seq _ next step = tt
+delete_refused order s s' seq SpaceFull next step = absurd step
+delete_refused order s s' seq _ next step = tt
 
 -- steps that let cases go, one by one
-pub gone_then : (need : Need) (s s' : ArchiveState) (gone : Bool) → gone ≡ true → DropsOne need s (Ok gone) s' → (IsServed s → IsServed s') × (length s'.cases < length s.cases)
-gone_then need s s' true is step = step
-gone_then need s s' false is step = absurd (false≢true is)
+pub gone_then : (order : Order) (need : Need) (s s' : ArchiveState) (gone : Bool) → gone ≡ true → DropsOne order need s (Ok gone) s' → (IsServed s → IsServed s') × (length s'.cases < length s.cases)
+gone_then order need s s' true is step = step
+gone_then order need s s' false is step = absurd (false≢true is)
 
-pub made_then : (need : Need) (first s s' : ArchiveState) (gone : Bool) → gone ≡ false → (IsServed first → IsServed s) → DropsOne need s (Ok gone) s' → DropsAll need first (Ok tt) s'
-made_then need first s s' true is so_far step = absurd (true≢false is)
-made_then need first s s' false is so_far step = (λ was. subst IsServed (sym step.0) (so_far was), step.1)
+pub made_then : (order : Order) (need : Need) (first s s' : ArchiveState) (gone : Bool) → gone ≡ false → (IsServed first → IsServed s) → DropsOne order need s (Ok gone) s' → DropsAll order need first (Ok tt) s'
+made_then order need first s s' true is so_far step = absurd (true≢false is)
+made_then order need first s s' false is so_far step = (λ was. subst IsServed (sym step.0) (so_far was), step.1)
 
-pub stuck_then : (need : Need) (first s s' : ArchiveState) (stop : TakeStop) → DropsOne need s (Err stop) s' → DropsAll need first (Err stop) s'
-stuck_then need first s s' File step = tt
-stuck_then need first s s' (Cut kept) step = step
-stuck_then need first s s' (Length f) step = step
-stuck_then need first s s' (Refused f) step = step
+pub stuck_then : (order : Order) (need : Need) (first s s' : ArchiveState) (stop : TakeStop) → DropsOne order need s (Err stop) s' → DropsAll order need first (Err stop) s'
+stuck_then order need first s s' File step = tt
+stuck_then order need first s s' (Cut kept) step = step
+stuck_then order need first s s' (Length f) step = step
+stuck_then order need first s s' (Refused f) step = step
 
 -- room that was made for a block
 pub made_serves : (s : ArchiveState) → HasMadeRoom Block s → IsServed s
@@ -129,25 +131,25 @@ fills_numbers : (len n used used' all : ℕ) → len % 4096 + n ≤ 4096 → use
 fills_numbers len n used used' all fits some full grown = omega arith
 
 -- bytes where a block is free
-pub free_serves : (most : ℕ) (s s' : ArchiveState) (r : Result ℕ TakeStop) → (s.stopped ≡ false → blocks_in s < s.shape.data_blocks) → Advances most s r s' → ServesOn r s'
-free_serves most s s' (Ok (suc m)) some (n, few, fits, (x, may, never, blocks, is, fills)) =
+pub free_serves : (order : Order) (most : ℕ) (s s' : ArchiveState) (r : Result ℕ TakeStop) → (s.stopped ≡ false → blocks_in s < s.shape.data_blocks) → Advances most s r s' → ServesOn order r s'
+free_serves order most s s' (Ok (suc m)) some (n, few, fits, (x, may, never, blocks, is, fills)) =
     subst IsServed (sym is)
     (λ awake full.
     (let fit : x.len % 4096 + n ≤ 4096 = subst (λ (o : Option StreamFacts). FitsPart o n) may.1 fits in
     let e : (x.len + n) % 4096 ≡ 0 = fills_numbers x.len n (blocks_in s) (blocks_in (with_stream s 0 (Some (longer x n blocks)))) s.shape.data_blocks fit (some awake) full (used_then s x n blocks may.1) in
     inr (subst FillsWhole (sym (at_set s.streams 0 x (Some (longer x n blocks)) may.1)) e)))
-free_serves most s s' (Ok zero) some is = subst IsServed (sym is) (λ awake full. let free = some awake in absurd (omega (arith, free, full)))
-free_serves most s s' (Err File) some is = tt
-free_serves most s s' (Err (Cut kept)) some step = absurd step
-free_serves most s s' (Err (Length f)) some step = absurd step
-free_serves most s s' (Err (Refused SpaceFull)) some (inl reply) = absurd reply
-free_serves most s s' (Err (Refused SpaceFull)) some (inr (n, few, fits, (x, may, full, is))) =
+free_serves order most s s' (Ok zero) some is = subst IsServed (sym is) (λ awake full. let free = some awake in absurd (omega (arith, free, full)))
+free_serves order most s s' (Err File) some is = tt
+free_serves order most s s' (Err (Cut kept)) some step = absurd step
+free_serves order most s s' (Err (Length f)) some step = absurd step
+free_serves order most s s' (Err (Refused SpaceFull)) some (inl reply) = absurd reply
+free_serves order most s s' (Err (Refused SpaceFull)) some (inr (n, few, fits, (x, may, full, is))) =
     let free = some may.0 in
     let none = full.2 in
     absurd (omega (arith, free, none))
-free_serves most s s' (Err (Refused JournalFull)) some (inl reply) = absurd reply
-free_serves most s s' (Err (Refused JournalFull)) some (inr (n, few, fits, step)) = absurd step
-free_serves most s s' (Err (Refused _)) some step = tt
+free_serves order most s s' (Err (Refused JournalFull)) some (inl reply) = absurd reply
+free_serves order most s s' (Err (Refused JournalFull)) some (inr (n, few, fits, step)) = absurd step
+free_serves order most s s' (Err (Refused _)) some step = tt
 
 -- what is taken of the room that was lent
 part_fits : (o : Option StreamParts) (n m : ℕ) → n ≤ m → FitsFree o m → FitsPart (option_map stream_facts o) n
@@ -174,65 +176,65 @@ read_few into room size most n same is few =
     omega (arith, c, same, is, few)
 
 -- one byte, or none, where none is free; room is made after it
-abbrev pub OneServes : Result ℕ TakeStop → ArchiveState → Type 0
-OneServes (Ok zero) s = IsServed s
-OneServes (Ok (suc n)) s = Unit {0}
-OneServes (Err (Cut kept)) s = ⊥
-OneServes (Err (Length f)) s = ⊥
-OneServes (Err File) s = Unit {0}
-OneServes (Err (Refused f)) s = IsSpent f s
+abbrev pub OneServes : Order → Result ℕ TakeStop → ArchiveState → Type 0
+OneServes order (Ok zero) s = IsServed s
+OneServes order (Ok (suc n)) s = Unit {0}
+OneServes order (Err (Cut kept)) s = ⊥
+OneServes order (Err (Length f)) s = ⊥
+OneServes order (Err File) s = Unit {0}
+OneServes order (Err (Refused f)) s = IsSpent order f s
 
 one_numbers : (len n : ℕ) → len % 4096 ≡ 0 → n ≤ 1 → (n ≡ 0 → ⊥) → (len + n) % 4096 ≡ 0 → ⊥
 one_numbers len n whole few some fills = some (omega arith)
 
-pub one_serves : (s s' : ArchiveState) (r : Result ℕ TakeStop) → IsServed s → Advances 1 s r s' → OneServes r s'
-one_serves s s' (Ok (suc m)) served step = tt
-one_serves s s' (Err (Cut kept)) served step = absurd step
-one_serves s s' (Err (Length f)) served step = absurd step
-one_serves s s' (Ok zero) served is = subst IsServed (sym is) served
-one_serves s s' (Err File) served is = tt
-one_serves s s' (Err (Refused SpaceFull)) served (inl reply) = absurd reply
-one_serves s s' (Err (Refused SpaceFull)) served (inr (n, few, fits, (x, may, full, is))) =
+pub one_serves : (order : Order) (s s' : ArchiveState) (r : Result ℕ TakeStop) → IsServed s → Advances 1 s r s' → OneServes order r s'
+one_serves order s s' (Ok (suc m)) served step = tt
+one_serves order s s' (Err (Cut kept)) served step = absurd step
+one_serves order s s' (Err (Length f)) served step = absurd step
+one_serves order s s' (Ok zero) served is = subst IsServed (sym is) served
+one_serves order s s' (Err File) served is = tt
+one_serves order s s' (Err (Refused SpaceFull)) served (inl reply) = absurd reply
+one_serves order s s' (Err (Refused SpaceFull)) served (inr (n, few, fits, (x, may, full, is))) =
     let none = full.2 in
     subst NoneMayGo (sym is)
     (⊎_elim (λ spent. spent) (λ whole. absurd (one_numbers x.len n (subst FillsWhole may.1 whole) few full.0 full.1)) (served may.0 (omega (arith, none))))
-one_serves s s' (Err (Refused JournalFull)) served (inl reply) = absurd reply
-one_serves s s' (Err (Refused JournalFull)) served (inr (n, few, fits, step)) = absurd step
-one_serves s s' (Err (Refused _)) served step = tt
+one_serves order s s' (Err (Refused JournalFull)) served (inl reply) = absurd reply
+one_serves order s s' (Err (Refused JournalFull)) served (inr (n, few, fits, step)) = absurd step
+one_serves order s s' (Err (Refused _)) served step = tt
 
 -- room for a block after one byte
-pub room_serves : (s s' : ArchiveState) (r : Result (Unit {0}) TakeStop) → DropsAll Block s r s' → ServesOn r s'
-room_serves s s' (Ok u) step = made_serves s' step.1
-room_serves s s' (Err File) step = tt
-room_serves s s' (Err (Cut kept)) step = absurd step
-room_serves s s' (Err (Length f)) step = absurd step
-room_serves s s' (Err (Refused f)) step = step
+pub room_serves : (order : Order) (s s' : ArchiveState) (r : Result (Unit {0}) TakeStop) → DropsAll order Block s r s' → ServesOn order r s'
+room_serves order s s' (Ok u) step = made_serves s' step.1
+room_serves order s s' (Err File) step = tt
+room_serves order s s' (Err (Cut kept)) step = absurd step
+room_serves order s s' (Err (Length f)) step = absurd step
+room_serves order s s' (Err (Refused f)) step = step
 
 -- a step that stops stops all
-pub stop_serves : (s : ArchiveState) (stop : TakeStop) → OneServes (Err stop) s → ServesOn {A = ℕ} (Err stop) s
-stop_serves s File step = tt
-stop_serves s (Cut kept) step = absurd step
-stop_serves s (Length f) step = absurd step
-stop_serves s (Refused f) step = step
+pub stop_serves : (order : Order) (s : ArchiveState) (stop : TakeStop) → OneServes order (Err stop) s → ServesOn {A = ℕ} order (Err stop) s
+stop_serves order s File step = tt
+stop_serves order s (Cut kept) step = absurd step
+stop_serves order s (Length f) step = absurd step
+stop_serves order s (Refused f) step = step
 
-pub end_serves : (s : ArchiveState) (count : ℕ) → count ≡ 0 → OneServes (Ok count) s → ServesOn {A = ℕ} (Ok 0) s
-end_serves s (suc n) is step = absurd (omega (arith, is))
-end_serves s zero is step = step
+pub end_serves : (order : Order) (s : ArchiveState) (count : ℕ) → count ≡ 0 → OneServes order (Ok count) s → ServesOn {A = ℕ} order (Ok 0) s
+end_serves order s (suc n) is step = absurd (omega (arith, is))
+end_serves order s zero is step = step
 
 -- and so does one that is refused within another
-pub stop_as : (A : Type 0) (B : Type 0) (s : ArchiveState) (stop : TakeStop) → ServesOn {A = A} (Err stop) s → ServesOn {A = B} (Err stop) s
-stop_as A B s File step = tt
-stop_as A B s (Cut kept) step = step
-stop_as A B s (Length f) step = step
-stop_as A B s (Refused f) step = step
+pub stop_as : (order : Order) (A : Type 0) (B : Type 0) (s : ArchiveState) (stop : TakeStop) → ServesOn {A = A} order (Err stop) s → ServesOn {A = B} order (Err stop) s
+stop_as order A B s File step = tt
+stop_as order A B s (Cut kept) step = step
+stop_as order A B s (Length f) step = step
+stop_as order A B s (Refused f) step = step
 
 -- room for the record
-pub record_serves : (s s' : ArchiveState) (r : Result (Unit {0}) TakeStop) → IsServed s → DropsAll Record s r s' → FillsServed r s'
-record_serves s s' (Ok u) served step = (step.0 served, step.1)
-record_serves s s' (Err File) served step = tt
-record_serves s s' (Err (Cut kept)) served step = absurd step
-record_serves s s' (Err (Length f)) served step = absurd step
-record_serves s s' (Err (Refused f)) served step = step
+pub record_serves : (order : Order) (s s' : ArchiveState) (r : Result (Unit {0}) TakeStop) → IsServed s → DropsAll order Record s r s' → FillsServed order r s'
+record_serves order s s' (Ok u) served step = (step.0 served, step.1)
+record_serves order s s' (Err File) served step = tt
+record_serves order s s' (Err (Cut kept)) served step = absurd step
+record_serves order s s' (Err (Length f)) served step = absurd step
+record_serves order s s' (Err (Refused f)) served step = step
 
 -- Runs of blocks: whether a block before others begins one more.
 abbrev jumps : ℕ → List ℕ → ℕ
@@ -316,15 +318,15 @@ last_only s x blocks has small full =
     (either_true (nat_lt (s.used + longest_record x) (half_length s.shape)) (nat_lt (snapshot_size s.cases + longest_record x) (half_length s.shape)) has)
 
 -- the end of a stream that is refused for want of room
-pub finish_spent : (s s' : ArchiveState) (f : ArchiveFault) → IsServed s → HasMadeRoom Record s → FinishStep s 0 (Err f) s' → IsSpent f s
-finish_spent s s' SpaceFull served made (x, awake, at, part, full, is) =
+pub finish_spent : (order : Order) (s s' : ArchiveState) (f : ArchiveFault) → IsServed s → HasMadeRoom Record s → FinishStep s 0 (Err f) s' → IsSpent order f s
+finish_spent order s s' SpaceFull served made (x, awake, at, part, full, is) =
     ⊎_elim (λ none. none) (λ whole. absurd (part (subst FillsWhole at whole))) (served awake (omega (arith, full)))
-finish_spent s s' JournalFull served made (x, blocks, may, runs, full, is, fills) =
+finish_spent order s s' JournalFull served made (x, blocks, may, runs, full, is, fills) =
     ⊎_elim (λ none. inl (none may.0))
     (λ room.
     (let has = not_false (has_record_room s (longest_record x)) (subst (λ (o : Option StreamFacts). lacks_room_for s o ≡ false) may.1 room) in
     inr (inl (last_only s x blocks has (size_within s x blocks fills) full)))) made
-finish_spent s s' _ served made step = tt
+finish_spent order s s' _ served made step = tt
 
 -- the first byte of a reply, and the fourth and the fifth
 abbrev first_of : List ℕ → ℕ
@@ -376,43 +378,43 @@ told_as_journal Disk is = absurd (apart_by fourth_of (no_reply (codes "Disk")) (
 told_as_journal OldVersion is = absurd (apart_by fourth_of (no_reply (codes "OldVersion")) (no_reply (codes "JournalFull")) refl is)
 
 -- a refusal that is as it may be
-pub refused_spent : (f : ArchiveFault) (s : ArchiveState) → IsSpent f s → RefusedIfSpent (no_reply (reason_of f)) s
-refused_spent f s spent SpaceFull is = subst (λ (e : ArchiveFault). IsSpent e s) (told_as_space f is) spent
-refused_spent f s spent JournalFull is = subst (λ (e : ArchiveFault). IsSpent e s) (told_as_journal f is) spent
-refused_spent f s spent _ is = tt
+pub refused_spent : (order : Order) (f : ArchiveFault) (s : ArchiveState) → IsSpent order f s → RefusedIfSpent order (no_reply (reason_of f)) s
+refused_spent order f s spent SpaceFull is = subst (λ (e : ArchiveFault). IsSpent order e s) (told_as_space f is) spent
+refused_spent order f s spent JournalFull is = subst (λ (e : ArchiveFault). IsSpent order e s) (told_as_journal f is) spent
+refused_spent order f s spent _ is = tt
 
 -- a file that can't be read is another refusal
-pub file_unspent : (s : ArchiveState) → RefusedIfSpent (no_reply (codes "File")) s
-file_unspent s SpaceFull is = absurd (apart_by fourth_of (no_reply (codes "File")) (no_reply (codes "SpaceFull")) refl is)
-file_unspent s JournalFull is = absurd (apart_by fourth_of (no_reply (codes "File")) (no_reply (codes "JournalFull")) refl is)
-file_unspent s _ is = tt
+pub file_unspent : (order : Order) (s : ArchiveState) → RefusedIfSpent order (no_reply (codes "File")) s
+file_unspent order s SpaceFull is = absurd (apart_by fourth_of (no_reply (codes "File")) (no_reply (codes "SpaceFull")) refl is)
+file_unspent order s JournalFull is = absurd (apart_by fourth_of (no_reply (codes "File")) (no_reply (codes "JournalFull")) refl is)
+file_unspent order s _ is = tt
 
 -- and so is one of another length than was stated
-pub length_unspent : (f : LengthFault) (s : ArchiveState) → RefusedIfSpent (no_reply (length_reason f)) s
-length_unspent Short s SpaceFull is = absurd (apart_by fifth_of (no_reply (codes "Short")) (no_reply (codes "SpaceFull")) refl is)
-length_unspent Short s JournalFull is = absurd (apart_by fourth_of (no_reply (codes "Short")) (no_reply (codes "JournalFull")) refl is)
-length_unspent Short s _ is = tt
-length_unspent Long s SpaceFull is = absurd (apart_by fifth_of (no_reply (codes "TooLong")) (no_reply (codes "SpaceFull")) refl is)
-length_unspent Long s JournalFull is = absurd (apart_by fourth_of (no_reply (codes "TooLong")) (no_reply (codes "JournalFull")) refl is)
-length_unspent Long s _ is = tt
+pub length_unspent : (order : Order) (f : LengthFault) (s : ArchiveState) → RefusedIfSpent order (no_reply (length_reason f)) s
+length_unspent order Short s SpaceFull is = absurd (apart_by fifth_of (no_reply (codes "Short")) (no_reply (codes "SpaceFull")) refl is)
+length_unspent order Short s JournalFull is = absurd (apart_by fourth_of (no_reply (codes "Short")) (no_reply (codes "JournalFull")) refl is)
+length_unspent order Short s _ is = tt
+length_unspent order Long s SpaceFull is = absurd (apart_by fifth_of (no_reply (codes "TooLong")) (no_reply (codes "SpaceFull")) refl is)
+length_unspent order Long s JournalFull is = absurd (apart_by fourth_of (no_reply (codes "TooLong")) (no_reply (codes "JournalFull")) refl is)
+length_unspent order Long s _ is = tt
 
 -- a file that has ended, with its length or another
-pub end_serves_all : (want : Option ℕ) (taken : ℕ) (s : ArchiveState) (r : Result (Unit {0}) TakeStop) → EndsAt want taken r → IsServed s → ServesOn r s
-end_serves_all want taken s (Ok u) ends served = served
-end_serves_all want taken s (Err File) ends served = absurd ends
-end_serves_all want taken s (Err (Refused f)) ends served = absurd ends
-end_serves_all want taken s (Err (Cut kept)) ends served = absurd ends
-end_serves_all want taken s (Err (Length f)) ends served = tt
+pub end_serves_all : (order : Order) (want : Option ℕ) (taken : ℕ) (s : ArchiveState) (r : Result (Unit {0}) TakeStop) → EndsAt want taken r → IsServed s → ServesOn order r s
+end_serves_all order want taken s (Ok u) ends served = served
+end_serves_all order want taken s (Err File) ends served = absurd ends
+end_serves_all order want taken s (Err (Refused f)) ends served = absurd ends
+end_serves_all order want taken s (Err (Cut kept)) ends served = absurd ends
+end_serves_all order want taken s (Err (Length f)) ends served = tt
 
 -- and so is no reply
-pub silence_unspent : (s : ArchiveState) → RefusedIfSpent [] s
-silence_unspent s SpaceFull is = absurd (apart_by first_of [] (no_reply (codes "SpaceFull")) refl is)
-silence_unspent s JournalFull is = absurd (apart_by first_of [] (no_reply (codes "JournalFull")) refl is)
-silence_unspent s _ is = tt
+pub silence_unspent : (order : Order) (s : ArchiveState) → RefusedIfSpent order [] s
+silence_unspent order s SpaceFull is = absurd (apart_by first_of [] (no_reply (codes "SpaceFull")) refl is)
+silence_unspent order s JournalFull is = absurd (apart_by first_of [] (no_reply (codes "JournalFull")) refl is)
+silence_unspent order s _ is = tt
 
 -- the reply to the end of a stream
-pub ended_spent : (s s' : ArchiveState) (r : Result ℕ ArchiveFault) → IsServed s → HasMadeRoom Record s → FinishStep s 0 r s' → RefusedIfSpent (end_reply r) s
-ended_spent s s' (Ok seq) served made step SpaceFull is = absurd (apart_by first_of (end_reply (Ok seq)) (no_reply (codes "SpaceFull")) refl is)
-ended_spent s s' (Ok seq) served made step JournalFull is = absurd (apart_by first_of (end_reply (Ok seq)) (no_reply (codes "JournalFull")) refl is)
-ended_spent s s' (Ok seq) served made step _ is = tt
-ended_spent s s' (Err f) served made step fault is = refused_spent f s (finish_spent s s' f served made step) fault is
+pub ended_spent : (order : Order) (s s' : ArchiveState) (r : Result ℕ ArchiveFault) → IsServed s → HasMadeRoom Record s → FinishStep s 0 r s' → RefusedIfSpent order (end_reply r) s
+ended_spent order s s' (Ok seq) served made step SpaceFull is = absurd (apart_by first_of (end_reply (Ok seq)) (no_reply (codes "SpaceFull")) refl is)
+ended_spent order s s' (Ok seq) served made step JournalFull is = absurd (apart_by first_of (end_reply (Ok seq)) (no_reply (codes "JournalFull")) refl is)
+ended_spent order s s' (Ok seq) served made step _ is = tt
+ended_spent order s s' (Err f) served made step fault is = refused_spent order f s (finish_spent order s s' f served made step) fault is

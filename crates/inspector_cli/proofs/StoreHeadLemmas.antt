@@ -29,6 +29,7 @@ use Rattle.stream_names.specs.declared.names.NewStream.{NewStream}
 use Rattle.script_lines.specs.Said.{end_of, delete_of, pin_of, label_of}
 use Rattle.archive_replies.specs.Reasons.{reason_of}
 use Rattle.script_streams.specs.Replies.{no_reply, ok_reply}
+use Rattle.inspector_cli.specs.declared.session.Order.{Order}
 use Rattle.inspector_cli.specs.declared.session.SessionFault.{SessionFault}
 use Rattle.inspector_cli.specs.declared.session.SessionFault.TheVariants.{ReadFailed, WriteFailed, TooManyReads}
 use Rattle.inspector_cli.specs.declared.session.LifeFault.{LifeFault}
@@ -39,7 +40,6 @@ use Rattle.inspector_cli.specs.declared.store.TakeStop.TheVariants.{File, Refuse
 use Rattle.inspector_cli.specs.Headline.{AreSafe, FindsSince, HasFlag, Leads, LeadsOn, Moment, WouldLeave, brief_of}
 use Rattle.archive_replies.specs.Texts.{dropped_line, end_reply, plain_reply}
 use Rattle.inspector_cli.specs.Fitting.{Going, IsGoing, IsNext, IsShort, NoneMayGo, TakesWhile, cut_of, going_text, gone_text, may_go}
-use Rattle.inspector_cli.proofs.GoingLemmas.{all_pinned}
 use Rattle.intake.specs.declared.faults.ArchiveFault.TheVariants.{SpaceFull}
 use Rattle.inspector_cli.specs.Bursts.{admitted, is_over}
 use Rattle.inspector_cli.specs.declared.burst.Burst.{Burst}
@@ -75,7 +75,7 @@ IsNone (Some n) = ⊥
 none_apart : (n : ℕ) → None ≡ Some n → ⊥
 none_apart n is = subst IsNone is tt
 
-module _ {D : Type 0} (g : disk.Ghosts D) (lasts : LastingLaws g) where
+module _ {D : Type 0} (g : disk.Ghosts D) (order : Order) (lasts : LastingLaws g) where
   -- the stream has taken these bytes since it began
   record HasTaken (a : Parts D) (stream : StreamFacts) (raw : List ℕ) : Type 0 where
     blocks : List ℕ
@@ -132,16 +132,16 @@ module _ {D : Type 0} (g : disk.Ghosts D) (lasts : LastingLaws g) where
   }
 
   -- so it is while cases go
-  has_while : (gone : List (Going D)) (a filled : Parts D) (stream : StreamFacts) (so_far raw : List ℕ) → HasTaken a stream so_far → TakesWhile g a raw gone (Ok tt) filled → HasTaken filled stream (so_far ++ raw)
+  has_while : (gone : List (Going D)) (a filled : Parts D) (stream : StreamFacts) (so_far raw : List ℕ) → HasTaken a stream so_far → TakesWhile g order a raw gone (Ok tt) filled → HasTaken filled stream (so_far ++ raw)
   has_while [] a filled stream so_far raw has takes = has_more a filled stream so_far raw has takes
   has_while (w ∷ ws) a filled stream so_far raw has takes =
-      let went = answered w.answer ws takes.1 w.after filled (TakesWhile g w.after takes.1 ws (Ok tt) filled) takes.5 in
+      let went = answered w.answer ws takes.1 w.after filled (TakesWhile g order w.after takes.1 ws (Ok tt) filled) takes.5 in
       let deletes = subst (λ (r : Result (Unit {0}) ArchiveFault). DeleteCall g w.before w.seq r w.after) went.1 takes.4.deletes in
       subst (HasTaken filled stream)
       (append_assoc so_far takes.0 takes.1 ∙ ap (λ (x : List ℕ). so_far ++ x) (sym takes.2))
       (has_while ws w.after filled stream (so_far ++ takes.0) takes.1
       (has_still w.before w.after stream (so_far ++ takes.0) w.seq went.0 (has_more a w.before stream so_far takes.0 has takes.3) deletes)
-      (on w.answer ws takes.1 w.after filled (TakesWhile g w.after takes.1 ws (Ok tt) filled) takes.5))
+      (on w.answer ws takes.1 w.after filled (TakesWhile g order w.after takes.1 ws (Ok tt) filled) takes.5))
 
   module _ (filled : Parts D) (stream : StreamFacts) (raw : List ℕ) (has : HasTaken filled stream raw) where
     facts_are : (s : StreamFacts) → stream_at (state_of filled).streams 0 ≡ Some s → s ≡ record stream { len = length raw; blocks = has.blocks }
@@ -169,7 +169,7 @@ module _ {D : Type 0} (g : disk.Ghosts D) (lasts : LastingLaws g) where
 
   -- the case that the stream becomes
   adds_case : (found : Result StreamFacts (List ℕ)) (want : Option ℕ) (file file' : Option (List ℕ)) (cut : Option ℕ) (raw : List ℕ) (retired mid : Parts D) (gone : List (Going D)) (filled : Parts D) (first : List ℕ) (x y : Durable) (n : ℕ) → BeginsEmpty found → Begins g retired 0 found first mid true
-      → KeepsOf want file file' cut raw → TakesWhile g mid raw gone (Ok tt) filled → IsTrue (g.is_honest filled.disk) → x ≡ durable_of g.seen filled → n ≡ x.next
+      → KeepsOf want file file' cut raw → TakesWhile g order mid raw gone (Ok tt) filled → IsTrue (g.is_honest filled.disk) → x ≡ durable_of g.seen filled → n ≡ x.next
       → MayBeStored (state_of filled) (contents_of g.seen filled) (durable_of g.seen filled) 0 y → AddsCase found want file file' cut x n y
   adds_case (Ok stream) want file file' cut raw retired mid gone filled first x y n none (Ok u, call, told, accepts) reads takes honest same number may =
       let has : HasTaken filled stream raw = has_while gone mid filled stream [] raw (has_begun retired mid stream none call) takes in
@@ -210,19 +210,19 @@ module _ {D : Type 0} (g : disk.Ghosts D) (lasts : LastingLaws g) where
           (found_case old.journal.standing.shape (g.seen old.disk) d.0, there.0, there.1, d.2)
 
   -- the case that goes next, of those that the archive holds
-  next_held : (a : Parts D) (seq : ℕ) → IsNext (state_of a).cases seq → IsNext (map case_in (durable_of g.seen a).cases) seq
-  next_held a seq next = subst (λ (cs : List Case). IsNext cs seq) (cases_are a.journal.standing.shape (g.seen a.disk) a.journal.standing.cases) next
+  next_held : (a : Parts D) (seq : ℕ) → IsNext order (state_of a).cases seq → IsNext order (map case_in (durable_of g.seen a).cases) seq
+  next_held a seq next = subst (λ (cs : List Case). IsNext order cs seq) (cases_are a.journal.standing.shape (g.seen a.disk) a.journal.standing.cases) next
 
   -- where none goes next, all cases that the archive holds are pinned
   none_held : (a : Parts D) → NoneMayGo (state_of a) → filter may_go (map case_in (durable_of g.seen a).cases) ≡ []
-  none_held a none = subst (λ (cs : List Case). filter may_go cs ≡ []) (cases_are a.journal.standing.shape (g.seen a.disk) a.journal.standing.cases) (all_pinned (state_of a).cases none)
+  none_held a none = subst (λ (cs : List Case). filter may_go cs ≡ []) (cases_are a.journal.standing.shape (g.seen a.disk) a.journal.standing.cases) none
 
   -- what goes, as the course tells it
   abbrev gone_of : List (Going D) → List (Stage D) → List (Gone D)
   gone_of (w ∷ ws) (s ∷ t ∷ ss) = record { before = moment g s; seq = w.seq; reply = plain_reply w.answer; after = moment g t } ∷ gone_of ws ss
   gone_of _ _ = []
 
-  going_honest : (gone : List (Going D)) (old : Stage D) (stages : List (Stage D)) (filled : Stage D) → GoneStages g old gone stages filled → IsTrue (g.is_honest old.archive.disk) → IsTrue (g.is_honest filled.archive.disk)
+  going_honest : (gone : List (Going D)) (old : Stage D) (stages : List (Stage D)) (filled : Stage D) → GoneStages g order old gone stages filled → IsTrue (g.is_honest old.archive.disk) → IsTrue (g.is_honest filled.archive.disk)
   going_honest [] old [] filled all honest = all.0.honesty ∙ honest
   going_honest [] old (s ∷ ss) filled all honest = absurd all
   going_honest (w ∷ ws) old [] filled all honest = absurd all
@@ -230,18 +230,18 @@ module _ {D : Type 0} (g : disk.Ghosts D) (lasts : LastingLaws g) where
   going_honest (w ∷ ws) old (s ∷ t ∷ ss) filled all honest = going_honest ws t ss filled all.6 (all.4.passes.honesty ∙ (all.0.honesty ∙ honest))
 
   -- from stage to stage a case goes
-  goes_on : (w : Going D) (s t : Stage D) → s.archive ≡ w.before → t.archive ≡ w.after → IsTrue (g.is_honest s.archive.disk) → IsGoing g w → Moves g s (delete_of w.seq) (plain_reply w.answer) t
-      → IsNext (map case_in (moment g s).holds.cases) w.seq × LeadsOn no_stream [] (moment g s) (delete_of w.seq) (plain_reply w.answer) (moment g t)
+  goes_on : (w : Going D) (s t : Stage D) → s.archive ≡ w.before → t.archive ≡ w.after → IsTrue (g.is_honest s.archive.disk) → IsGoing g order w → Moves g s (delete_of w.seq) (plain_reply w.answer) t
+      → IsNext order (map case_in (moment g s).holds.cases) w.seq × LeadsOn no_stream [] (moment g s) (delete_of w.seq) (plain_reply w.answer) (moment g t)
   goes_on w s t from to honest going moves =
       let call : DeleteCall g s.archive w.seq w.answer t.archive =
       subst (λ (a : Parts D). DeleteCall g a w.seq w.answer t.archive) (sym from) (subst (λ (a : Parts D). DeleteCall g w.before w.seq w.answer a) (sym to) going.deletes)
       in (
-        next_held s.archive w.seq (subst (λ (a : Parts D). IsNext (state_of a).cases w.seq) (sym from) going.next),
+        next_held s.archive w.seq (subst (λ (a : Parts D). IsNext order (state_of a).cases w.seq) (sym from) going.next),
         leads_on g no_stream [] s t (delete_of w.seq) (plain_reply w.answer) (deleted_leads s.archive t.archive w.seq w.answer honest call)
             (λ x told may. deleted_would s.archive t.archive w.seq w.answer x call told may) moves,
       )
 
-  go_in_turn : (gone : List (Going D)) (old : Stage D) (stages : List (Stage D)) (filled : Stage D) → GoneStages g old gone stages filled → IsTrue (g.is_honest old.archive.disk) → GoInTurn (moment g old) (gone_of gone stages) (moment g filled)
+  go_in_turn : (gone : List (Going D)) (old : Stage D) (stages : List (Stage D)) (filled : Stage D) → GoneStages g order old gone stages filled → IsTrue (g.is_honest old.archive.disk) → GoInTurn order (moment g old) (gone_of gone stages) (moment g filled)
   go_in_turn [] old [] filled all honest = (all.0.durable honest, all.1)
   go_in_turn [] old (s ∷ ss) filled all honest = absurd all
   go_in_turn (w ∷ ws) old [] filled all honest = absurd all
@@ -252,7 +252,7 @@ module _ {D : Type 0} (g : disk.Ghosts D) (lasts : LastingLaws g) where
       (all.0.durable honest, all.1, one.0, one.1, go_in_turn ws t ss filled all.6 (all.4.passes.honesty ∙ here))
 
   -- the moments of the course are those of the stages
-  moments_are : (gone : List (Going D)) (old : Stage D) (stages : List (Stage D)) (filled : Stage D) (later : List (Stage D)) (end : Moment D) → GoneStages g old gone stages filled
+  moments_are : (gone : List (Going D)) (old : Stage D) (stages : List (Stage D)) (filled : Stage D) (later : List (Stage D)) (end : Moment D) → GoneStages g order old gone stages filled
       → map (λ (s : Stage D). moment g s) (stages ++ later) ++ end ∷ [] ≡ moments_of (gone_of gone stages) ++ (map (λ (s : Stage D). moment g s) later ++ end ∷ [])
   moments_are [] old [] filled later end all = refl
   moments_are [] old (s ∷ ss) filled later end all = absurd all
@@ -265,7 +265,7 @@ module _ {D : Type 0} (g : disk.Ghosts D) (lasts : LastingLaws g) where
   line_of seq (Err f) = refl
 
   -- and so is what is told of it
-  lines_are : (gone : List (Going D)) (old : Stage D) (stages : List (Stage D)) (filled : Stage D) → GoneStages g old gone stages filled → flat_map going_text gone ≡ flat_map gone_line (gone_of gone stages)
+  lines_are : (gone : List (Going D)) (old : Stage D) (stages : List (Stage D)) (filled : Stage D) → GoneStages g order old gone stages filled → flat_map going_text gone ≡ flat_map gone_line (gone_of gone stages)
   lines_are [] old [] filled all = refl
   lines_are [] old (s ∷ ss) filled all = absurd all
   lines_are (w ∷ ws) old [] filled all = absurd all
@@ -280,20 +280,20 @@ module _ {D : Type 0} (g : disk.Ghosts D) (lasts : LastingLaws g) where
       let none : moves.doubts ≡ [] = ⊎_elim (λ is. is) (λ may. absurd (ok_apart (codes "Disk") may.0)) moves.doubted in
       moves.in_doubt ∙ ap (λ (ds : List Durable). ds ++ s.in_doubt) none
 
-  surely_filled : (gone : List (Going D)) (old : Stage D) (a filled : Parts D) (raw : List ℕ) (stages : List (Stage D)) (doubt : List Durable) → TakesWhile g a raw gone (Ok tt) filled → GoneStages g old gone stages (stage_of filled doubt) → doubt ≡ old.in_doubt
+  surely_filled : (gone : List (Going D)) (old : Stage D) (a filled : Parts D) (raw : List ℕ) (stages : List (Stage D)) (doubt : List Durable) → TakesWhile g order a raw gone (Ok tt) filled → GoneStages g order old gone stages (stage_of filled doubt) → doubt ≡ old.in_doubt
   surely_filled [] old a filled raw [] doubt takes all = all.1
   surely_filled [] old a filled raw (s ∷ ss) doubt takes all = absurd all
   surely_filled (w ∷ ws) old a filled raw [] doubt takes all = absurd all
   surely_filled (w ∷ ws) old a filled raw (s ∷ []) doubt takes all = absurd all
   surely_filled (w ∷ ws) old a filled raw (s ∷ t ∷ ss) doubt takes all =
-      let went = answered w.answer ws takes.1 w.after filled (TakesWhile g w.after takes.1 ws (Ok tt) filled) takes.5 in
-      surely_filled ws t w.after filled takes.1 ss doubt (on w.answer ws takes.1 w.after filled (TakesWhile g w.after takes.1 ws (Ok tt) filled) takes.5) all.6
+      let went = answered w.answer ws takes.1 w.after filled (TakesWhile g order w.after takes.1 ws (Ok tt) filled) takes.5 in
+      surely_filled ws t w.after filled takes.1 ss doubt (on w.answer ws takes.1 w.after filled (TakesWhile g order w.after takes.1 ws (Ok tt) filled) takes.5) all.6
       ∙ surely_gone s t w.seq went.0 (subst (λ (r : Result (Unit {0}) ArchiveFault). Moves g s (delete_of w.seq) (plain_reply r) t) went.1 all.4) ∙ all.1
 
   module _ (laws : Laws g) (found : Result StreamFacts (List ℕ)) (none : BeginsEmpty found) (most want : Option ℕ) (file file' : Option (List ℕ)) (fails fails' : ℕ) (retired : Stage D) (honest : IsTrue (g.is_honest retired.archive.disk)) where
     -- whether the case is stored, and what is in doubt
     record Stored (gone : List (Going D)) (cut : Option ℕ) (filled ended : Parts D) (first rest : List ℕ) (stored : Option ℕ) : Type 0 where
-      filling : Filling g gone retired filled
+      filling : Filling g order gone retired filled
       more : List Durable
       moves : Moves g (stage_of filled filling.1) (end_of 0) rest (stage_of ended (more ++ filling.1))
       stores : StoresOrNot found want file file' cut (durable_of g.seen filled) stored (durable_of g.seen ended)
@@ -304,7 +304,7 @@ module _ {D : Type 0} (g : disk.Ghosts D) (lasts : LastingLaws g) where
           ⊎ ((rest ≡ no_reply (codes "Disk")) × AllByRecursion (λ (z : Durable). (n : ℕ) × AddsCase found want file file' cut (durable_of g.seen filled) n z) moves.doubts)
 
     -- no case is stored, and the archive stays as it was
-    none_stored : (gone : List (Going D)) (cut : Option ℕ) (filled ended : Parts D) (first rest : List ℕ) (stored : Option ℕ) → Filling g gone retired filled → ended ≡ filled → stored ≡ None → TellsStored None first rest → Stored gone cut filled ended first rest stored
+    none_stored : (gone : List (Going D)) (cut : Option ℕ) (filled ended : Parts D) (first rest : List ℕ) (stored : Option ℕ) → Filling g order gone retired filled → ended ≡ filled → stored ≡ None → TellsStored None first rest → Stored gone cut filled ended first rest stored
     none_stored gone cut filled ended first rest stored filling same nothing tells = record {
       filling = filling;
       awake = λ n is. absurd (none_apart n (sym nothing ∙ is));
@@ -316,7 +316,7 @@ module _ {D : Type 0} (g : disk.Ghosts D) (lasts : LastingLaws g) where
       doubted = inl refl;
     }
 
-    all_add : (mid : Parts D) (gone : List (Going D)) (cut : Option ℕ) (raw : List ℕ) (filled : Parts D) (first : List ℕ) → Begins g retired.archive 0 found first mid true → KeepsOf want file file' cut raw → TakesWhile g mid raw gone (Ok tt) filled → IsTrue (g.is_honest filled.disk)
+    all_add : (mid : Parts D) (gone : List (Going D)) (cut : Option ℕ) (raw : List ℕ) (filled : Parts D) (first : List ℕ) → Begins g retired.archive 0 found first mid true → KeepsOf want file file' cut raw → TakesWhile g order mid raw gone (Ok tt) filled → IsTrue (g.is_honest filled.disk)
         → (xs : List Durable) → AllByRecursion (MayLeave g filled (end_of 0)) xs
         → AllByRecursion (λ (z : Durable). (n : ℕ) × AddsCase found want file file' cut (durable_of g.seen filled) n z) xs
     all_add mid gone cut raw filled first begins reads takes there [] all = tt
@@ -327,9 +327,9 @@ module _ {D : Type 0} (g : disk.Ghosts D) (lasts : LastingLaws g) where
 
     -- the bytes that are kept are taken, and the stream is ended
     is_ended : (mid : Parts D) (gone : List (Going D)) (cut : Option ℕ) (raw : List ℕ) (filled ended : Parts D) (first rest : List ℕ) (stored : Option ℕ) → Begins g retired.archive 0 found first mid true → ChangesNoCase g retired.archive mid
-        → KeepsOf want file file' cut raw → TakesWhile g mid raw gone (Ok tt) filled → Ends g filled 0 rest ended stored → Stored gone cut filled ended first rest stored
+        → KeepsOf want file file' cut raw → TakesWhile g order mid raw gone (Ok tt) filled → Ends g filled 0 rest ended stored → Stored gone cut filled ended first rest stored
     is_ended mid gone cut raw filled ended first rest stored begins begun reads takes (r, call, told, is) =
-        let f : Filling g gone retired filled = earlier g gone retired mid filled begun (filling g laws gone (stage_of mid retired.in_doubt) raw (Ok tt) filled takes) in
+        let f : Filling g order gone retired filled = earlier g order gone retired mid filled begun (filling g order laws gone (stage_of mid retired.in_doubt) raw (Ok tt) filled takes) in
         let here : IsTrue (g.is_honest filled.disk) = going_honest gone retired f.0 (stage_of filled f.1) f.2 honest in
         let moves = ends_moves g laws (stage_of filled f.1) ended 0 rest stored (r, call, told, is) in
         record {
@@ -356,20 +356,20 @@ module _ {D : Type 0} (g : disk.Ghosts D) (lasts : LastingLaws g) where
             (lasts.refusals filled ended f here (inl (0, call)))
 
     is_stored : (mid : Parts D) (gone : List (Going D)) (cut : Option ℕ) (filled ended : Parts D) (first : List ℕ) (accepted : Bool) (rest : List ℕ) (stored : Option ℕ) → Begins g retired.archive 0 found first mid accepted → ChangesNoCase g retired.archive mid
-        → RestReplies g most want file file' fails fails' mid accepted gone cut filled rest ended stored → Stored gone cut filled ended first rest stored
+        → RestReplies g order most want file file' fails fails' mid accepted gone cut filled rest ended stored → Stored gone cut filled ended first rest stored
     is_stored mid gone cut filled ended first false rest stored begins begun goes =
         none_stored gone cut filled ended first rest stored
-        (subst (λ (l : List (Going D)). Filling g l retired filled) (sym goes.6) ([], retired.in_doubt, (stays_then g retired.archive mid filled begun (stays_as g mid filled goes.2), refl)))
+        (subst (λ (l : List (Going D)). Filling g order l retired filled) (sym goes.6) ([], retired.in_doubt, (stays_then g retired.archive mid filled begun (stays_as g mid filled goes.2), refl)))
         (goes.4 ∙ sym goes.2) goes.5
         (inr (goes.3, not_begun retired.archive mid found first begins))
     is_stored mid gone cut filled ended first true rest stored begins begun (taken, takes, replies, is) =
         by taken takes replies is
       where
-        none_refused : (raw : List ℕ) (v : Result (Unit {0}) ArchiveFault) (reason : List ℕ) → TakesWhile g mid raw gone v filled → (rest ≡ no_reply reason) × (ended ≡ filled) × (stored ≡ None) → Stored gone cut filled ended first rest stored
+        none_refused : (raw : List ℕ) (v : Result (Unit {0}) ArchiveFault) (reason : List ℕ) → TakesWhile g order mid raw gone v filled → (rest ≡ no_reply reason) × (ended ≡ filled) × (stored ≡ None) → Stored gone cut filled ended first rest stored
         none_refused raw v reason takes replies =
-            none_stored gone cut filled ended first rest stored (earlier g gone retired mid filled begun (filling g laws gone (stage_of mid retired.in_doubt) raw v filled takes)) replies.1 replies.2 (inl (reason, replies.0))
+            none_stored gone cut filled ended first rest stored (earlier g order gone retired mid filled begun (filling g order laws gone (stage_of mid retired.in_doubt) raw v filled takes)) replies.1 replies.2 (inl (reason, replies.0))
 
-        by : (taken : Result (Unit {0}) TakeStop) → FillsFile most want file file' fails fails' (λ raw v. TakesWhile g mid raw gone v filled) taken → FileReplies g filled taken rest ended stored → cut ≡ cut_of taken
+        by : (taken : Result (Unit {0}) TakeStop) → FillsFile most want file file' fails fails' (λ raw v. TakesWhile g order mid raw gone v filled) taken → FileReplies g filled taken rest ended stored → cut ≡ cut_of taken
             → Stored gone cut filled ended first rest stored
         by (Ok u) takes replies is =
             subst (λ (o : Option ℕ). Stored gone o filled ended first rest stored) (sym is)
@@ -459,9 +459,9 @@ found_empty (Ok stream) = refl
 found_empty (Err reason) = tt
 
 -- where a file is cut
-cut_short : {D : Type 0} (g : disk.Ghosts D) (fit : Bool) (most : Option ℕ) (old : Parts D) (gone : List (Going D)) (cut : Option ℕ) → IsShort g fit most old gone cut → IsCutShort most cut
-cut_short g fit most old gone None short = tt
-cut_short g fit most old gone (Some kept) short = (short.n, short.asked, short.within, ⊎_elim (λ is. inl is) (λ wall. inr wall.1) short.no_more)
+cut_short : {D : Type 0} (g : disk.Ghosts D) (order : Order) (fit : Bool) (most : Option ℕ) (old : Parts D) (gone : List (Going D)) (cut : Option ℕ) → IsShort g order fit most old gone cut → IsCutShort most cut
+cut_short g order fit most old gone None short = tt
+cut_short g order fit most old gone (Some kept) short = (short.n, short.asked, short.within, ⊎_elim (λ is. inl is) (λ wall. inr wall.1) short.no_more)
 
 is_chosen : (s : ArchiveState) (asked : Option Policy) (found : Result StreamFacts (List ℕ)) (policy : Option Policy) → IsChosen s asked found policy → (policy ≡ asked) ⊎ (policy ≡ None)
 is_chosen s asked found None chosen = inr refl
@@ -478,7 +478,7 @@ module _ {D : Type 0} (g : disk.Ghosts D) (lasts : LastingLaws g) (laws : Laws g
     there = opening.honesty ∙ honest
 
     retired_then : Reaches g laws first s.retired (retire_line s.retires_first.policy) s.told
-    retired_then = retiring_moves g laws first s.retired s.retires_first.policy s.told outcome.retired_first s.retires_first.retires_first
+    retired_then = retiring_moves g options.order laws first s.retired s.retires_first.policy s.told outcome.retired_first s.retires_first.retires_first
 
     abbrev retired : Stage D
     retired = stage_of s.retired (retired_then.0 ++ [])
@@ -489,15 +489,15 @@ module _ {D : Type 0} (g : disk.Ghosts D) (lasts : LastingLaws g) (laws : Laws g
     begun : ChangesNoCase g s.retired s.stores.mid
     begun = begins_stays g s.retired s.stores.mid 0 found s.stores.first s.stores.accepted s.stores.begins
 
-    stored : Stored g lasts laws found none options.cut options.length t.input t.input' t.fails t.fails' retired retiring_honest s.stores.gone s.stores.cut s.stores.filled s.ended s.stores.first s.stores.rest outcome.stored
-    stored = is_stored g lasts laws found none options.cut options.length t.input t.input' t.fails t.fails' retired retiring_honest s.stores.mid s.stores.gone s.stores.cut s.stores.filled s.ended s.stores.first s.stores.accepted s.stores.rest outcome.stored s.stores.begins begun s.stores.goes_on
+    stored : Stored g options.order lasts laws found none options.cut options.length t.input t.input' t.fails t.fails' retired retiring_honest s.stores.gone s.stores.cut s.stores.filled s.ended s.stores.first s.stores.rest outcome.stored
+    stored = is_stored g options.order lasts laws found none options.cut options.length t.input t.input' t.fails t.fails' retired retiring_honest s.stores.mid s.stores.gone s.stores.cut s.stores.filled s.ended s.stores.first s.stores.accepted s.stores.rest outcome.stored s.stores.begins begun s.stores.goes_on
 
     -- nothing is in doubt where the archive is not stopped
     retiring_clear : (state_of s.retired).stopped ≡ false → retired.in_doubt ≡ []
     retiring_clear awake =
         let none : retired_then.1.doubts ≡ [] =
         ⊎_elim (λ is. is)
-        (λ may. absurd (false≢true (sym awake ∙ retiring_stops g lasts opened s.retired s.retires_first.policy s.told outcome.retired_first s.retires_first.retires_first may.0))) retired_then.1.doubted
+        (λ may. absurd (false≢true (sym awake ∙ retiring_stops g options.order lasts opened s.retired s.retires_first.policy s.told outcome.retired_first s.retires_first.retires_first may.0))) retired_then.1.doubted
         in
         retired_then.1.in_doubt ∙ ap (λ (ds : List Durable). ds ++ []) none
 
@@ -508,22 +508,22 @@ module _ {D : Type 0} (g : disk.Ghosts D) (lasts : LastingLaws g) (laws : Laws g
     ended = stage_of s.ended (stored.more ++ stored.filling.1)
 
     abbrev gone : List (Gone D)
-    gone = gone_of g lasts s.stores.gone stored.filling.0
+    gone = gone_of g options.order lasts s.stores.gone stored.filling.0
 
     label_given : Reaches g laws ended s.labelled (said_label outcome.stored options.label) s.named
-    label_given = label_moves g laws ended s.labelled outcome.stored options.label s.named outcome.labelled s.labels
+    label_given = label_moves g options.order laws ended s.labelled outcome.stored options.label s.named outcome.labelled s.labels
 
     abbrev labelled_then : Stage D
     labelled_then = stage_of s.labelled (label_given.0 ++ ended.in_doubt)
 
     pin_given : Reaches g laws labelled_then end (said_pin outcome.stored options.pin) s.last
-    pin_given = pin_moves g laws labelled_then end outcome.stored options.pin s.last outcome.pinned s.pins
+    pin_given = pin_moves g options.order laws labelled_then end outcome.stored options.pin s.last outcome.pinned s.pins
 
     abbrev last : Stage D
     last = stage_of end (pin_given.0 ++ labelled_then.in_doubt)
 
     ended_honest : IsTrue (g.is_honest s.ended.disk)
-    ended_honest = stored.moves.passes.honesty ∙ going_honest g lasts s.stores.gone retired stored.filling.0 filled stored.filling.2 retiring_honest
+    ended_honest = stored.moves.passes.honesty ∙ going_honest g options.order lasts s.stores.gone retired stored.filling.0 filled stored.filling.2 retiring_honest
 
     labelled_honest : IsTrue (g.is_honest s.labelled.disk)
     labelled_honest = label_given.1.passes.honesty ∙ ended_honest
@@ -535,12 +535,12 @@ module _ {D : Type 0} (g : disk.Ghosts D) (lasts : LastingLaws g) (laws : Laws g
     stages = retired ∷ (stored.filling.0 ++ (filled ∷ ended ∷ labelled_then ∷ []))
 
     moments_same : map (λ (x : Stage D). moment g x) stages ++ moment g last ∷ [] ≡ moment g retired ∷ (moments_of gone ++ (moment g filled ∷ moment g ended ∷ moment g labelled_then ∷ moment g last ∷ []))
-    moments_same = ap (λ (ms : List (Moment D)). moment g retired ∷ ms) (moments_are g lasts s.stores.gone retired stored.filling.0 filled (filled ∷ ended ∷ labelled_then ∷ []) (moment g last) stored.filling.2)
+    moments_same = ap (λ (ms : List (Moment D)). moment g retired ∷ ms) (moments_are g options.order lasts s.stores.gone retired stored.filling.0 filled (filled ∷ ended ∷ labelled_then ∷ []) (moment g last) stored.filling.2)
 
     run : IsRunOfMarks g (mark_at g.seen first) (marks_of g.seen stages last closed)
     run = (
       retired_then.1.passes,
-      filling_runs g laws s.stores.gone retired stored.filling.0 filled (ended ∷ labelled_then ∷ []) _ stored.filling.2 (stored.moves.passes, (label_given.1.passes, (pin_given.1.passes, (laws.stays end closed last.in_doubt drops.stays, tt)))),
+      filling_runs g options.order laws s.stores.gone retired stored.filling.0 filled (ended ∷ labelled_then ∷ []) _ stored.filling.2 (stored.moves.passes, (label_given.1.passes, (pin_given.1.passes, (laws.stays end closed last.in_doubt drops.stays, tt)))),
     )
 
     settled : IsMarkSettled g (mark_at g.seen first)
@@ -570,24 +570,24 @@ module _ {D : Type 0} (g : disk.Ghosts D) (lasts : LastingLaws g) (laws : Laws g
       clear = refl;
       chosen = is_chosen (state_of opened) asked found s.retires_first.policy s.retires_first.chosen;
       retires_first =
-          leads_on g no_stream [] first retired (retire_line s.retires_first.policy) s.told (retiring_leads g lasts opened s.retired s.retires_first.policy s.told outcome.retired_first there s.retires_first.retires_first)
-          (λ x disk may. retiring_would g lasts opened s.retires_first.policy x may) retired_then.1;
-      goes = go_in_turn g lasts s.stores.gone retired stored.filling.0 filled stored.filling.2 retiring_honest;
-      unasked = λ no. ap (λ (l : List (Going D)). gone_of g lasts l stored.filling.0) (s.stores.unasked no);
+          leads_on g no_stream [] first retired (retire_line s.retires_first.policy) s.told (retiring_leads g options.order lasts opened s.retired s.retires_first.policy s.told outcome.retired_first there s.retires_first.retires_first)
+          (λ x disk may. retiring_would g options.order lasts opened s.retires_first.policy x may) retired_then.1;
+      goes = go_in_turn g options.order lasts s.stores.gone retired stored.filling.0 filled stored.filling.2 retiring_honest;
+      unasked = λ no. ap (λ (l : List (Going D)). gone_of g options.order lasts l stored.filling.0) (s.stores.unasked no);
       stores = stored.stores;
       sure = λ n is. (let sure = stored.awake n is in sure.1 ∙ retiring_clear sure.0);
       tells = stored.tells;
-      spent = λ fits refused. none_held g lasts s.stores.filled (s.stores.spent fits SpaceFull refused);
-      short = cut_short g options.fit options.cut s.stores.mid s.stores.gone s.stores.cut s.stores.short;
+      spent = λ fits refused. none_held g options.order lasts s.stores.filled (s.stores.spent fits SpaceFull refused);
+      short = cut_short g options.order options.fit options.cut s.stores.mid s.stores.gone s.stores.cut s.stores.short;
       doubts = stored.moves.doubts;
       in_doubt = stored.moves.in_doubt;
       doubted = stored.doubted;
       gives_label =
-          leads_on g no_stream [] ended labelled_then (said_label outcome.stored options.label) s.named (label_leads g lasts s.ended s.labelled outcome.stored options.label s.named outcome.labelled ended_honest s.labels)
-          (λ x disk may. label_would g lasts s.ended outcome.stored options.label x may) label_given.1;
+          leads_on g no_stream [] ended labelled_then (said_label outcome.stored options.label) s.named (label_leads g options.order lasts s.ended s.labelled outcome.stored options.label s.named outcome.labelled ended_honest s.labels)
+          (λ x disk may. label_would g options.order lasts s.ended outcome.stored options.label x may) label_given.1;
       gives_pin =
-          leads_on g no_stream [] labelled_then last (said_pin outcome.stored options.pin) s.last (pin_leads g lasts s.labelled end outcome.stored options.pin s.last outcome.pinned labelled_honest s.pins)
-          (λ x disk may. pin_would g lasts s.labelled outcome.stored options.pin x may) pin_given.1;
+          leads_on g no_stream [] labelled_then last (said_pin outcome.stored options.pin) s.last (pin_leads g options.order lasts s.labelled end outcome.stored options.pin s.last outcome.pinned labelled_honest s.pins)
+          (λ x disk may. pin_would g options.order lasts s.labelled outcome.stored options.pin x may) pin_given.1;
     }
 
     -- it begins with what the opening found
@@ -602,7 +602,7 @@ module _ {D : Type 0} (g : disk.Ghosts D) (lasts : LastingLaws g) (laws : Laws g
         appended = appended;
         text =
             s.all ∙ ap (λ (x : List ℕ). s.told ++ (x ++ (s.named ++ s.last))) s.stores.text
-            ∙ ap (λ (x : List ℕ). s.told ++ ((s.stores.first ++ (x ++ (cut_text s.stores.cut outcome.stored ++ s.stores.rest))) ++ (s.named ++ s.last))) (lines_are g lasts s.stores.gone retired stored.filling.0 filled stored.filling.2);
+            ∙ ap (λ (x : List ℕ). s.told ++ ((s.stores.first ++ (x ++ (cut_text s.stores.cut outcome.stored ++ s.stores.rest))) ++ (s.named ++ s.last))) (lines_are g options.order lasts s.stores.gone retired stored.filling.0 filled stored.filling.2);
         disk = disk ∙ drops.disk;
         answered = told;
         opening =

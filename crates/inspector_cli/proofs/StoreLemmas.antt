@@ -30,6 +30,7 @@ use Rattle.inspector_cli.specs.Reply.{Begins, TakeStep, TakeBytes, Takes}
 use Rattle.std.specs.Borrow.{Bor}
 use Rattle.stream_names.specs.Commands.{stream_found}
 use Rattle.stream_names.specs.declared.names.NewStream.{NewStream}
+use Rattle.inspector_cli.specs.declared.session.Order.{Order}
 use Rattle.inspector_cli.specs.declared.session.SessionFault.TheVariants.{WriteFailed}
 use Rattle.inspector_cli.specs.declared.session.StoreOutcome.{StoreOutcome}
 use Rattle.retention.specs.declared.Policy.{Policy}
@@ -122,9 +123,9 @@ module _ {D : Type 0} (g : disk.Ghosts D) (old new : Parts D) (slot : ℕ) where
   begun_serves (Err reason) text accepted none begins is = absurd (true≢false (sym is ∙ begins.2))
 
 -- each of a number of reads gave a byte, and the bytes are taken, while cases went and were told
-abbrev pub FileAlong : {D : Type 0} → disk.Ghosts D → Bool → Option (List ℕ) → Option (List ℕ) → ℕ → ℕ → Parts D → ℕ → Telling → Parts D → Type 0
-FileAlong {D} g fit file file' fails fails' old reads t new =
-    (gone : List (Going D)) × TellsText t (flat_map going_text gone) × (raw : List ℕ) × Consumes file file' raw × (reads ≤ length raw) × (fails' ≡ fails) × TakesWhile g old raw gone (Ok tt) new × (fit ≡ false → gone ≡ [])
+abbrev pub FileAlong : {D : Type 0} → disk.Ghosts D → Order → Bool → Option (List ℕ) → Option (List ℕ) → ℕ → ℕ → Parts D → ℕ → Telling → Parts D → Type 0
+FileAlong {D} g order fit file file' fails fails' old reads t new =
+    (gone : List (Going D)) × TellsText t (flat_map going_text gone) × (raw : List ℕ) × Consumes file file' raw × (reads ≤ length raw) × (fails' ≡ fails) × TakesWhile g order old raw gone (Ok tt) new × (fit ≡ false → gone ≡ [])
 
 -- if a file is cut, or goes on behind the length that was stated, it does so behind this many bytes
 abbrev pub StopsAfter : Option ℕ → ℕ → TakeStop → Type 0
@@ -190,16 +191,16 @@ within_none (Some n) = omega arith
 consumes_none : (a b c : Option (List ℕ)) (raw : List ℕ) → Consumes a b raw → Consumes b c [] → Consumes a c raw
 consumes_none a b c raw p q = subst (Consumes a c) (append-nil raw) (Consumes-trans a b c raw [] p q)
 
-module _ {D : Type 0} (g : disk.Ghosts D) (fit : Bool) (file mid file' : Option (List ℕ)) (fails fails' fails'' : ℕ) (a b c : Sink) (old now new : Parts D) (reads : ℕ) (want : Option ℕ)
-    (so_far : FileAlong g fit file mid fails fails' old reads (record { before = a; after = b }) now) where
+module _ {D : Type 0} (g : disk.Ghosts D) (order : Order) (fit : Bool) (file mid file' : Option (List ℕ)) (fails fails' fails'' : ℕ) (a b c : Sink) (old now new : Parts D) (reads : ℕ) (want : Option ℕ)
+    (so_far : FileAlong g order fit file mid fails fails' old reads (record { before = a; after = b }) now) where
   none_both : (more : List (Going D)) → (fit ≡ false → more ≡ []) → fit ≡ false → so_far.0 ++ more ≡ []
   none_both more none is = ap (λ (l : List (Going D)). l ++ more) (so_far.7 is) ∙ none is
 
   told_both : (more : List (Going D)) → TellsText (record { before = b; after = c }) (flat_map going_text more) → TellsText (record { before = a; after = c }) (flat_map going_text (so_far.0 ++ more))
   told_both more tells = tells_as (sym (texts_more so_far.0 more)) (tells_then so_far.1 tells)
 
-  pub file_went_on : (count : ℕ) → (count ≡ 0 → ⊥) → TakesNext g mid file' fails' fails'' old so_far.2 so_far.0 fit (record { before = b; after = c }) new (Ok count)
-      → (more : FileAlong g fit file file' fails fails'' old (reads + 1) (record { before = a; after = c }) new) × (length more.2 ≡ length so_far.2 + count)
+  pub file_went_on : (count : ℕ) → (count ≡ 0 → ⊥) → TakesNext g order mid file' fails' fails'' old so_far.2 so_far.0 fit (record { before = b; after = c }) new (Ok count)
+      → (more : FileAlong g order fit file file' fails fails'' old (reads + 1) (record { before = a; after = c }) new) × (length more.2 ≡ length so_far.2 + count)
   file_went_on (suc n) is (gone, tells, more, none) =
       let size = length-append so_far.2 more.0 in
       let count = so_far.4 in
@@ -210,8 +211,8 @@ module _ {D : Type 0} (g : disk.Ghosts D) (fit : Bool) (file mid file' : Option 
   file_went_on zero is more = absurd (is refl)
 
   -- with the length that was stated, or before
-  ended_so : (gone : List (Going D)) → TellsText (record { before = b; after = c }) (flat_map going_text gone) → Consumes mid file' [] → IsAtEnd file' → TakesWhile g old so_far.2 (so_far.0 ++ gone) (Ok tt) new → (fit ≡ false → gone ≡ [])
-      → (r : Result (Unit {0}) TakeStop) → EndsAt want (length so_far.2) r → TakesAll g fit want file file' fails fails'' old (record { before = a; after = c }) new r
+  ended_so : (gone : List (Going D)) → TellsText (record { before = b; after = c }) (flat_map going_text gone) → Consumes mid file' [] → IsAtEnd file' → TakesWhile g order old so_far.2 (so_far.0 ++ gone) (Ok tt) new → (fit ≡ false → gone ≡ [])
+      → (r : Result (Unit {0}) TakeStop) → EndsAt want (length so_far.2) r → TakesAll g order fit want file file' fails fails'' old (record { before = a; after = c }) new r
   ended_so gone tells none ends takes unasked (Ok u) at = (so_far.0 ++ gone, told_both gone tells, (so_far.2, consumes_none file mid file' so_far.2 so_far.3 none, ends, takes, at), none_both gone unasked)
   ended_so gone tells none ends takes unasked (Err File) at = absurd at
   ended_so gone tells none ends takes unasked (Err (Refused fault)) at = absurd at
@@ -220,13 +221,13 @@ module _ {D : Type 0} (g : disk.Ghosts D) (fit : Bool) (file mid file' : Option 
       (so_far.0 ++ gone, told_both gone tells, (so_far.2, (consumes_none file mid file' so_far.2 so_far.3 none, ends, at.0, at.1, at.2), takes), none_both gone unasked)
   ended_so gone tells none ends takes unasked (Err (Length Long)) at = absurd at
 
-  pub file_ended : (count : ℕ) → count ≡ 0 → TakesNext g mid file' fails' fails'' old so_far.2 so_far.0 fit (record { before = b; after = c }) new (Ok count)
-      → (r : Result (Unit {0}) TakeStop) → EndsAt want (length so_far.2) r → TakesAll g fit want file file' fails fails'' old (record { before = a; after = c }) new r
+  pub file_ended : (count : ℕ) → count ≡ 0 → TakesNext g order mid file' fails' fails'' old so_far.2 so_far.0 fit (record { before = b; after = c }) new (Ok count)
+      → (r : Result (Unit {0}) TakeStop) → EndsAt want (length so_far.2) r → TakesAll g order fit want file file' fails fails'' old (record { before = a; after = c }) new r
   file_ended (suc n) is more r at = absurd (omega (arith, is))
   file_ended zero is (gone, tells, more, none) r at = ended_so gone tells more.0 more.1 more.3 none r at
 
-  pub file_stopped : (stop : TakeStop) → StopsAfter want (length so_far.2) stop → TakesNext g mid file' fails' fails'' old so_far.2 so_far.0 fit (record { before = b; after = c }) new (Err stop)
-      → TakesAll g fit want file file' fails fails'' old (record { before = a; after = c }) new (Err stop)
+  pub file_stopped : (stop : TakeStop) → StopsAfter want (length so_far.2) stop → TakesNext g order mid file' fails' fails'' old so_far.2 so_far.0 fit (record { before = b; after = c }) new (Err stop)
+      → TakesAll g order fit want file file' fails fails'' old (record { before = a; after = c }) new (Err stop)
   file_stopped (Cut kept) behind (gone, tells, more, none) = (
     so_far.0 ++ gone,
     told_both gone tells,
@@ -250,45 +251,45 @@ module _ {D : Type 0} (g : disk.Ghosts D) (fit : Bool) (file mid file' : Option 
       (so_far.0 ++ gone, told_both gone tells, (so_far.2 ++ more.0, Consumes-trans file mid file' so_far.2 more.0 so_far.3 more.1, more.3), none_both gone none)
 
 -- how a file is cut, behind all that went so far, and then more
-pub cut_there : {D : Type 0} (g : disk.Ghosts D) (fit : Bool) (most : Option ℕ) (old at : Parts D) (raw : List ℕ) (first later : List (Going D)) (kept : ℕ) → TakesWhile g old raw first (Ok tt) at → length raw ≡ kept
-    → CutsWell {A = Unit {0}} fit most (Err (Cut kept)) (state_of at) → IsShort g fit most old (first ++ later) (Some kept)
-cut_there g fit most old at raw first later kept takes same well =
+pub cut_there : {D : Type 0} (g : disk.Ghosts D) (order : Order) (fit : Bool) (most : Option ℕ) (old at : Parts D) (raw : List ℕ) (first later : List (Going D)) (kept : ℕ) → TakesWhile g order old raw first (Ok tt) at → length raw ≡ kept
+    → CutsWell {A = Unit {0}} fit most (Err (Cut kept)) (state_of at) → IsShort g order fit most old (first ++ later) (Some kept)
+cut_there g order fit most old at raw first later kept takes same well =
     record { n = well.0; asked = well.1; within = well.2; at = at; raw = raw; first = first; later = later; all = refl; takes = takes; length = same; no_more = well.3 }
 
 -- nothing goes for the record
-pub filled_as : {D : Type 0} (g : disk.Ghosts D) (fit : Bool) (most want : Option ℕ) (file file' : Option (List ℕ)) (fails fails' : ℕ) (t : Telling) (old new : Parts D) (r : Result (Unit {0}) TakeStop)
-    → TakesAll g fit want file file' fails fails' old t new r → CutsWell fit most r (state_of new) → FillsAll g fit most want file file' fails fails' old t new r
-filled_as g fit most want file file' fails fails' t old new (Ok u) (gone, tells, takes, none) well = (gone, tells, takes, none, tt)
-filled_as g fit most want file file' fails fails' t old new (Err File) (gone, tells, takes, none) well = (gone, tells, takes, none, tt)
-filled_as g fit most want file file' fails fails' t old new (Err (Refused fault)) (gone, tells, takes, none) well = (gone, tells, inl takes, none, tt)
-filled_as g fit most want file file' fails fails' t old new (Err (Cut kept)) (gone, tells, takes, none) well = (
+pub filled_as : {D : Type 0} (g : disk.Ghosts D) (order : Order) (fit : Bool) (most want : Option ℕ) (file file' : Option (List ℕ)) (fails fails' : ℕ) (t : Telling) (old new : Parts D) (r : Result (Unit {0}) TakeStop)
+    → TakesAll g order fit want file file' fails fails' old t new r → CutsWell fit most r (state_of new) → FillsAll g order fit most want file file' fails fails' old t new r
+filled_as g order fit most want file file' fails fails' t old new (Ok u) (gone, tells, takes, none) well = (gone, tells, takes, none, tt)
+filled_as g order fit most want file file' fails fails' t old new (Err File) (gone, tells, takes, none) well = (gone, tells, takes, none, tt)
+filled_as g order fit most want file file' fails fails' t old new (Err (Refused fault)) (gone, tells, takes, none) well = (gone, tells, inl takes, none, tt)
+filled_as g order fit most want file file' fails fails' t old new (Err (Cut kept)) (gone, tells, takes, none) well = (
   gone,
   tells,
   takes,
   none,
-  subst (λ (l : List (Going _)). IsShort g fit most old l (Some kept)) (append-nil gone) (cut_there g fit most old new takes.0 gone [] kept takes.2 takes.1.3 well),
+  subst (λ (l : List (Going _)). IsShort g order fit most old l (Some kept)) (append-nil gone) (cut_there g order fit most old new takes.0 gone [] kept takes.2 takes.1.3 well),
 )
-filled_as g fit most want file file' fails fails' t old new (Err (Length f)) (gone, tells, takes, none) well = (gone, tells, takes, none, tt)
+filled_as g order fit most want file file' fails fails' t old new (Err (Length f)) (gone, tells, takes, none) well = (gone, tells, takes, none, tt)
 
 -- the answer where room is made for the record of a file that is cut
 abbrev pub then_cut : ℕ → Result (Unit {0}) TakeStop → Result (Unit {0}) TakeStop
 then_cut kept (Ok u) = Err (Cut kept)
 then_cut kept (Err stop) = Err stop
 
-pub room_at_cut : {D : Type 0} (g : disk.Ghosts D) (fit : Bool) (most want : Option ℕ) (file file' : Option (List ℕ)) (fails fails' : ℕ) (a b c : Sink) (old mid new : Parts D) (kept : ℕ) → fit ≡ true
-    → TakesAll g fit want file file' fails fails' old (record { before = a; after = b }) mid (Err (Cut kept)) → CutsWell {A = Unit {0}} fit most (Err (Cut kept)) (state_of mid) → (r : Result (Unit {0}) TakeStop)
-    → ((begun : Parts D) (so_far : List ℕ) (gone : List (Going D)) → TakesWhile g begun so_far gone (Ok tt) mid → MakesRoom g begun so_far gone (record { before = b; after = c }) new r)
-    → FillsAll g fit most want file file' fails fails' old (record { before = a; after = c }) new (then_cut kept r)
-room_at_cut {D} g fit most want file file' fails fails' a b c old mid new kept asked (gone, tells, taken, none) well r room =
+pub room_at_cut : {D : Type 0} (g : disk.Ghosts D) (order : Order) (fit : Bool) (most want : Option ℕ) (file file' : Option (List ℕ)) (fails fails' : ℕ) (a b c : Sink) (old mid new : Parts D) (kept : ℕ) → fit ≡ true
+    → TakesAll g order fit want file file' fails fails' old (record { before = a; after = b }) mid (Err (Cut kept)) → CutsWell {A = Unit {0}} fit most (Err (Cut kept)) (state_of mid) → (r : Result (Unit {0}) TakeStop)
+    → ((begun : Parts D) (so_far : List ℕ) (gone : List (Going D)) → TakesWhile g order begun so_far gone (Ok tt) mid → MakesRoom g order begun so_far gone (record { before = b; after = c }) new r)
+    → FillsAll g order fit most want file file' fails fails' old (record { before = a; after = c }) new (then_cut kept r)
+room_at_cut {D} g order fit most want file file' fails fails' a b c old mid new kept asked (gone, tells, taken, none) well r room =
     made r (room old taken.0 gone taken.2)
   where
-    made : (r : Result (Unit {0}) TakeStop) → MakesRoom g old taken.0 gone (record { before = b; after = c }) new r → FillsAll g fit most want file file' fails fails' old (record { before = a; after = c }) new (then_cut kept r)
+    made : (r : Result (Unit {0}) TakeStop) → MakesRoom g order old taken.0 gone (record { before = b; after = c }) new r → FillsAll g order fit most want file file' fails fails' old (record { before = a; after = c }) new (then_cut kept r)
     made (Ok u) (more, told, takes) = (
       gone ++ more,
       tells_as (sym (texts_more gone more)) (tells_then tells told),
       (taken.0, taken.1, takes),
       λ never. absurd (true≢false (sym asked ∙ never)),
-      cut_there g fit most old mid taken.0 gone more kept taken.2 taken.1.3 well,
+      cut_there g order fit most old mid taken.0 gone more kept taken.2 taken.1.3 well,
     )
     made (Err File) (more, told, takes) = absurd takes
     made (Err (Cut other)) (more, told, takes) = absurd takes
@@ -297,14 +298,14 @@ room_at_cut {D} g fit most want file file' fails fails' a b c old mid new kept a
         (gone ++ more, tells_as (sym (texts_more gone more)) (tells_then tells told), inr (well.0, well.1, kept, taken.0, taken.1, takes), λ never. absurd (true≢false (sym asked ∙ never)), tt)
 
 -- room for the record, once all bytes are taken
-pub room_at_end : {D : Type 0} (g : disk.Ghosts D) (fit : Bool) (most want : Option ℕ) (file file' : Option (List ℕ)) (fails fails' : ℕ) (a b c : Sink) (old mid new : Parts D) → fit ≡ true
-    → TakesAll g fit want file file' fails fails' old (record { before = a; after = b }) mid (Ok tt) → (r : Result (Unit {0}) TakeStop)
-    → ((begun : Parts D) (so_far : List ℕ) (gone : List (Going D)) → TakesWhile g begun so_far gone (Ok tt) mid → MakesRoom g begun so_far gone (record { before = b; after = c }) new r)
-    → FillsAll g fit most want file file' fails fails' old (record { before = a; after = c }) new r
-room_at_end g fit most want file file' fails fails' a b c old mid new asked (gone, tells, taken, none) r room =
+pub room_at_end : {D : Type 0} (g : disk.Ghosts D) (order : Order) (fit : Bool) (most want : Option ℕ) (file file' : Option (List ℕ)) (fails fails' : ℕ) (a b c : Sink) (old mid new : Parts D) → fit ≡ true
+    → TakesAll g order fit want file file' fails fails' old (record { before = a; after = b }) mid (Ok tt) → (r : Result (Unit {0}) TakeStop)
+    → ((begun : Parts D) (so_far : List ℕ) (gone : List (Going D)) → TakesWhile g order begun so_far gone (Ok tt) mid → MakesRoom g order begun so_far gone (record { before = b; after = c }) new r)
+    → FillsAll g order fit most want file file' fails fails' old (record { before = a; after = c }) new r
+room_at_end g order fit most want file file' fails fails' a b c old mid new asked (gone, tells, taken, none) r room =
     made r (room old taken.0 gone taken.3)
   where
-    made : (r : Result (Unit {0}) TakeStop) → MakesRoom g old taken.0 gone (record { before = b; after = c }) new r → FillsAll g fit most want file file' fails fails' old (record { before = a; after = c }) new r
+    made : (r : Result (Unit {0}) TakeStop) → MakesRoom g order old taken.0 gone (record { before = b; after = c }) new r → FillsAll g order fit most want file file' fails fails' old (record { before = a; after = c }) new r
     made (Ok u) (more, told, takes) =
         (gone ++ more, tells_as (sym (texts_more gone more)) (tells_then tells told), (taken.0, taken.1, taken.2, takes, taken.4), λ never. absurd (true≢false (sym asked ∙ never)), tt)
     made (Err File) (more, told, takes) = absurd takes
@@ -313,13 +314,13 @@ room_at_end g fit most want file file' fails fails' a b c old mid new asked (gon
     made (Err (Refused fault)) (more, told, takes) =
         (gone ++ more, tells_as (sym (texts_more gone more)) (tells_then tells told), inl (taken.0, taken.1, takes), λ never. absurd (true≢false (sym asked ∙ never)), tt)
 
-module _ {D : Type 0} (g : disk.Ghosts D) where
+module _ {D : Type 0} (g : disk.Ghosts D) (order : Order) where
   -- a stream that is begun, and its file
   pub stores : (fit : Bool) (most want : Option ℕ) (found : Result StreamFacts (List ℕ)) (file file' : Option (List ℕ)) (fails fails' : ℕ) (o p q : Sink) (old mid new : Parts D) (stored : Option ℕ)
       → TellsReply (record { before = o; after = p }) (λ text. Begins g old 0 found text mid true)
       → IsServed (state_of mid)
-      → TellsReply (record { before = p; after = q }) (λ text. FillsAndEnds g fit most want file file' fails fails' mid text new stored)
-      → TellsReply (record { before = o; after = q }) (λ text. StoresStream g fit most want file file' fails fails' old found text new stored)
+      → TellsReply (record { before = p; after = q }) (λ text. FillsAndEnds g order fit most want file file' fails fails' mid text new stored)
+      → TellsReply (record { before = o; after = q }) (λ text. StoresStream g order fit most want file file' fails fails' old found text new stored)
   stores fit most want found file file' fails fails' o p q old mid new stored first served rest = (
     first.0 ++ rest.0,
     record {
@@ -342,7 +343,7 @@ module _ {D : Type 0} (g : disk.Ghosts D) where
 
   pub stores_none : (fit : Bool) (most want : Option ℕ) (found : Result StreamFacts (List ℕ)) (file : Option (List ℕ)) (fails : ℕ) (t : Telling) (old new : Parts D)
       → TellsReply t (λ text. Begins g old 0 found text new false)
-      → TellsReply t (λ text. StoresStream g fit most want file file fails fails old found text new None)
+      → TellsReply t (λ text. StoresStream g order fit most want file file fails fails old found text new None)
   stores_none fit most want found file fails t old new first = (
     first.0,
     record {
@@ -357,7 +358,7 @@ module _ {D : Type 0} (g : disk.Ghosts D) where
       rest = [];
       goes_on = (refl, refl, refl, refl, refl, refl, refl, refl);
       short = tt;
-      spent = λ fits. silence_unspent (state_of new);
+      spent = λ fits. silence_unspent order (state_of new);
       text = sym (append-nil first.0);
     },
     first.2,
@@ -365,22 +366,22 @@ module _ {D : Type 0} (g : disk.Ghosts D) where
 
   -- the stages while bytes are taken
   abbrev pub Filling : (gone : List (Going D)) → Stage D → Parts D → Type 0
-  Filling gone old filled = (stages : List (Stage D)) × (doubt : List Durable) × GoneStages g old gone stages (stage_of filled doubt)
+  Filling gone old filled = (stages : List (Stage D)) × (doubt : List Durable) × GoneStages g order old gone stages (stage_of filled doubt)
 
-  pub filling : (laws : Laws g) (gone : List (Going D)) (old : Stage D) (raw : List ℕ) (v : Result (Unit {0}) ArchiveFault) (filled : Parts D) → TakesWhile g old.archive raw gone v filled → Filling gone old filled
+  pub filling : (laws : Laws g) (gone : List (Going D)) (old : Stage D) (raw : List ℕ) (v : Result (Unit {0}) ArchiveFault) (filled : Parts D) → TakesWhile g order old.archive raw gone v filled → Filling gone old filled
   filling laws [] old raw v filled takes = ([], old.in_doubt, (takes.stays, refl))
   filling laws (w ∷ ws) old raw v filled takes =
       let before : Stage D = stage_of w.before old.in_doubt in
       let d = deletes_moves g laws (stage_of w.before old.in_doubt) w.after w.seq (plain_reply w.answer) (w.answer, takes.4.deletes, refl) in
       let m : Filling ws (stage_of w.after (d.0 ++ old.in_doubt)) filled =
-      either w.answer v ws takes.1 w.after filled (TakesWhile g w.after takes.1 ws v filled) (Filling ws (stage_of w.after (d.0 ++ old.in_doubt)) filled) takes.5
+      either w.answer v ws takes.1 w.after filled (TakesWhile g order w.after takes.1 ws v filled) (Filling ws (stage_of w.after (d.0 ++ old.in_doubt)) filled) takes.5
       (λ t. filling laws ws (stage_of w.after (d.0 ++ old.in_doubt)) takes.1 v filled t)
       (λ none same. subst (λ (l : List (Going D)). Filling l (stage_of w.after (d.0 ++ old.in_doubt)) filled) (sym none) ([], d.0 ++ old.in_doubt, (stays_as g w.after filled same, refl)))
       in
       (stage_of w.before old.in_doubt ∷ stage_of w.after (d.0 ++ old.in_doubt) ∷ m.0, m.1, (takes.3.stays, refl, refl, takes.4, d.1, refl, m.2))
 
   -- bytes that are taken, or refused, from any stage on
-  file_filling : (laws : Laws g) (most want : Option ℕ) (file file' : Option (List ℕ)) (fails fails' : ℕ) (gone : List (Going D)) (old : Stage D) (filled : Parts D) (r : Result (Unit {0}) TakeStop) → FillsFile most want file file' fails fails' (λ raw v. TakesWhile g old.archive raw gone v filled) r → Filling gone old filled
+  file_filling : (laws : Laws g) (most want : Option ℕ) (file file' : Option (List ℕ)) (fails fails' : ℕ) (gone : List (Going D)) (old : Stage D) (filled : Parts D) (r : Result (Unit {0}) TakeStop) → FillsFile most want file file' fails fails' (λ raw v. TakesWhile g order old.archive raw gone v filled) r → Filling gone old filled
   file_filling laws most want file file' fails fails' gone old filled (Ok u) takes = filling laws gone old takes.0 (Ok tt) filled takes.3
   file_filling laws most want file file' fails fails' gone old filled (Err File) takes = filling laws gone old takes.0 (Ok tt) filled takes.3
   file_filling laws most want file file' fails fails' gone old filled (Err (Refused fault)) (inl takes) = filling laws gone old takes.0 (Err fault) filled takes.2
@@ -397,7 +398,7 @@ module _ {D : Type 0} (g : disk.Ghosts D) where
   earlier (w ∷ ws) old mid filled stays ((s ∷ t ∷ ss, doubt, all)) = (s ∷ t ∷ ss, doubt, (stays_then g old.archive mid s.archive stays all.0, all.1, all.2, all.3, all.4, all.5, all.6))
 
   -- these stages are a run of marks
-  pub filling_runs : (laws : Laws g) (gone : List (Going D)) (old : Stage D) (stages : List (Stage D)) (filled : Stage D) (later : List (Stage D)) (tail : List (Mark D)) → GoneStages g old gone stages filled
+  pub filling_runs : (laws : Laws g) (gone : List (Going D)) (old : Stage D) (stages : List (Stage D)) (filled : Stage D) (later : List (Stage D)) (tail : List (Mark D)) → GoneStages g order old gone stages filled
       → IsRunOfMarks g (mark_at g.seen filled) (map (mark_at g.seen) later ++ tail) → IsRunOfMarks g (mark_at g.seen old) (map (mark_at g.seen) (stages ++ filled ∷ later) ++ tail)
   filling_runs laws [] old [] filled later tail all run =
       (subst (λ (d : List Durable). Passes g (mark_at g.seen old) (mark_at g.seen (stage_of filled.archive d))) (sym all.1) (laws.stays old.archive filled.archive old.in_doubt all.0), run)
@@ -436,7 +437,7 @@ module _ {D : Type 0} (g : disk.Ghosts D) where
     pin_moves None pin last done pins = still g laws old new silence last (stays_as g old.archive new pins.1)
 
   rest_moves : (laws : Laws g) (most want : Option ℕ) (file file' : Option (List ℕ)) (fails fails' : ℕ) (old : Stage D) (mid : Parts D) (gone : List (Going D)) (cut : Option ℕ) (filled new : Parts D) (accepted : Bool) (rest : List ℕ) (stored : Option ℕ) → ChangesNoCase g old.archive mid
-      → RestReplies g most want file file' fails fails' mid accepted gone cut filled rest new stored → (f : Filling gone old filled) × Reaches g laws (stage_of filled f.1) new (end_of 0) rest
+      → RestReplies g order most want file file' fails fails' mid accepted gone cut filled rest new stored → (f : Filling gone old filled) × Reaches g laws (stage_of filled f.1) new (end_of 0) rest
   rest_moves laws most want file file' fails fails' old mid gone cut filled new true rest stored begun goes =
       let f = earlier gone old mid filled begun (file_filling laws most want file file' fails fails' gone (stage_of mid old.in_doubt) filled goes.0 goes.1) in (
         f,
@@ -447,21 +448,22 @@ module _ {D : Type 0} (g : disk.Ghosts D) where
     still g laws (stage_of filled _) new (end_of 0) rest (stays_as g filled new (goes.4 ∙ sym goes.2)),
   )
 
+module _ {D : Type 0} (g : disk.Ghosts D) where
   pub stages_of : (laws : Laws g) → FoundAfterAStop g → (file file' : Option (List ℕ)) (fails fails' : ℕ) (old : Stage D) (asked : Option Policy) (found : Result StreamFacts (List ℕ)) (options : Options)
       (replies : List ℕ) (end : Parts D) (outcome : StoreOutcome) (new : Parts D)
       → (s : Stores g file file' fails fails' old.archive asked found options replies end outcome) → ChangesNoCase g end new
-      → (in_doubt : List Durable) × StoreStages g old s.retires_first.policy s.told s.retired s.stores.gone s.stores.filled s.stores.rest s.ended (said_label outcome.stored options.label) s.named s.labelled (said_pin outcome.stored options.pin) s.last (stage_of end in_doubt) new
+      → (in_doubt : List Durable) × StoreStages g options.order old s.retires_first.policy s.told s.retired s.stores.gone s.stores.filled s.stores.rest s.ended (said_label outcome.stored options.label) s.named s.labelled (said_pin outcome.stored options.pin) s.last (stage_of end in_doubt) new
   stages_of laws law file file' fails fails' old asked found options replies end outcome new s closes =
-      let r = retiring_moves laws old s.retired s.retires_first.policy s.told outcome.retired_first s.retires_first.retires_first in
+      let r = retiring_moves g options.order laws old s.retired s.retires_first.policy s.told outcome.retired_first s.retires_first.retires_first in
       let t = s.stores in
       let doubts : List Durable = r.0 ++ old.in_doubt in
       let m =
-      rest_moves laws options.cut options.length file file' fails fails' (stage_of s.retired doubts) t.mid t.gone t.cut t.filled s.ended t.accepted t.rest outcome.stored
+      rest_moves g options.order laws options.cut options.length file file' fails fails' (stage_of s.retired doubts) t.mid t.gone t.cut t.filled s.ended t.accepted t.rest outcome.stored
       (begins_stays g s.retired t.mid 0 found t.first t.accepted t.begins) t.goes_on in
       let later : List Durable = m.1.0 ++ m.0.1 in
-      let l = label_moves laws (stage_of s.ended later) s.labelled outcome.stored options.label s.named outcome.labelled s.labels in
+      let l = label_moves g options.order laws (stage_of s.ended later) s.labelled outcome.stored options.label s.named outcome.labelled s.labels in
       let last : List Durable = l.0 ++ later in
-      let p = pin_moves laws (stage_of s.labelled last) end outcome.stored options.pin s.last outcome.pinned s.pins in (
+      let p = pin_moves g options.order laws (stage_of s.labelled last) end outcome.stored options.pin s.last outcome.pinned s.pins in (
         p.0 ++ last,
         record {
           in_doubt = doubts;
@@ -476,7 +478,7 @@ module _ {D : Type 0} (g : disk.Ghosts D) where
           gives_pin = p.1;
           found = λ honest settled.
               law (mark_at g.seen old) (marks_of g.seen (stage_of s.retired doubts ∷ (m.0.0 ++ (stage_of t.filled m.0.1 ∷ stage_of s.ended later ∷ stage_of s.labelled last ∷ []))) (stage_of end (p.0 ++ last)) new) honest settled
-              (r.1.passes, filling_runs laws t.gone (stage_of s.retired doubts) m.0.0 (stage_of t.filled m.0.1) (stage_of s.ended later ∷ stage_of s.labelled last ∷ []) _ m.0.2 (m.1.1.passes, (l.1.passes, (p.1.passes, (laws.stays end new (p.0 ++ last) closes, tt)))));
+              (r.1.passes, filling_runs g options.order laws t.gone (stage_of s.retired doubts) m.0.0 (stage_of t.filled m.0.1) (stage_of s.ended later ∷ stage_of s.labelled last ∷ []) _ m.0.2 (m.1.1.passes, (l.1.passes, (p.1.passes, (laws.stays end new (p.0 ++ last) closes, tt)))));
         },
       )
 
@@ -484,7 +486,7 @@ module _ {D : Type 0} (g : disk.Ghosts D) where
   pub stores_all : (file file' : Option (List ℕ)) (fails fails' : ℕ) (o p q r z : Sink) (old retired ended named new : Parts D) (asked : Option Policy) (found : Result StreamFacts (List ℕ)) (options : Options)
       (made : Bool) (stored : Option ℕ) (labelled pinned : Bool)
       → TellsReply (record { before = o; after = p }) (λ text. RetiresForStream g old asked found text retired made)
-      → TellsReply (record { before = p; after = q }) (λ text. StoresStream g options.fit options.cut options.length file file' fails fails' retired found text ended stored)
+      → TellsReply (record { before = p; after = q }) (λ text. StoresStream g options.order options.fit options.cut options.length file file' fails fails' retired found text ended stored)
       → TellsReply (record { before = q; after = r }) (λ text. LabelsCase g ended stored options.label text named labelled)
       → TellsReply (record { before = r; after = z }) (λ text. PinsCase g named stored options.pin text new pinned)
       → TellsReply (record { before = o; after = z })

@@ -4,8 +4,8 @@ use Rattle.std.specs.List.{find, filter}
 use Rattle.disk_model.specs.declared.disk.Disk as disk
 use Rattle.journal_layout.specs.Case.{Case, case_of}
 use Rattle.journal_layout.specs.declared.entry.Entry.{Entry}
-use Rattle.journal_layout.specs.declared.entry.Kind.{Kind}
-use Rattle.journal_layout.specs.declared.entry.Kind.TheVariants.{Core, Exec}
+pub use Rattle.fair_share.specs.Fairness.{is_core, may_go_first}
+use Rattle.fair_share.specs.Fairness.{fairest}
 use Rattle.intake.specs.Calls.{DeleteCall}
 use Rattle.intake.specs.Needs.{lacks_record_room}
 use Rattle.intake.specs.Parts.{Parts, state_of}
@@ -16,6 +16,8 @@ use Rattle.intake.specs.declared.faults.ArchiveFault.{ArchiveFault}
 use Rattle.intake.specs.declared.faults.ArchiveFault.TheVariants.{SpaceFull, JournalFull}
 use Rattle.inspector_cli.specs.declared.fitting.Need.{Need}
 use Rattle.inspector_cli.specs.declared.fitting.Need.TheVariants.{Block, Record}
+use Rattle.inspector_cli.specs.declared.session.Order.{Order}
+use Rattle.inspector_cli.specs.declared.session.Order.TheVariants.{Oldest, Fair}
 use Rattle.inspector_cli.specs.declared.store.TakeStop.{TakeStop}
 use Rattle.inspector_cli.specs.declared.store.TakeStop.TheVariants.{File, Refused, Cut, Length}
 use Rattle.inspector_cli.specs.declared.store.LengthFault.TheVariants.{Short, Long}
@@ -24,17 +26,9 @@ use Rattle.archive_replies.specs.Reasons.{reason_of}
 use Rattle.archive_replies.specs.Texts.{dropped_line}
 use Rattle.inspector_cli.specs.Reply.{Takes}
 
-abbrev pub is_core : Kind → Bool
-is_core Core = true
-is_core Exec = false
-
 -- a case that is not pinned
 abbrev pub may_go : Case → Bool
 may_go c = not c.pinned
-
--- a core that is not pinned
-abbrev pub may_go_first : Case → Bool
-may_go_first c = not c.pinned && is_core c.origin.kind
 
 -- the same of the entry of a case
 abbrev pub goes : Entry → Bool
@@ -47,14 +41,18 @@ abbrev pub or_else : Option Case → Option Case → Option Case
 or_else (Some c) other = Some c
 or_else None other = other
 
--- Of cases in the order of their numbers the one that goes next: the first core that is not pinned. If there is none, it is the first
--- executable that is not pinned.
-abbrev pub next_to_go : List Case → Option Case
-next_to_go cases = or_else (find may_go_first cases) (find may_go cases)
+-- Of cases in the order of their numbers the core that goes next, if one is not pinned: the first, or the one that is fair.
+abbrev pub next_core : Order → List Case → Option Case
+next_core Oldest cases = find may_go_first cases
+next_core Fair cases = fairest cases
+
+-- The case that goes next: that core. If there is none, it is the first executable that is not pinned.
+abbrev pub next_to_go : Order → List Case → Option Case
+next_to_go order cases = or_else (next_core order cases) (find may_go cases)
 
 -- the case of this number goes next
-abbrev pub IsNext : List Case → ℕ → Type 0
-IsNext cases seq = (c : Case) × (next_to_go cases ≡ Some c) × (c.seq ≡ seq)
+abbrev pub IsNext : Order → List Case → ℕ → Type 0
+IsNext order cases seq = (c : Case) × (next_to_go order cases ≡ Some c) × (c.seq ≡ seq)
 
 -- no data block is free
 abbrev pub HasNoBlock : ArchiveState → Type 0
@@ -72,8 +70,8 @@ pub record Going (D : Type 0) : Type 0 where
   pub after : Parts D
 
 -- It is the next one, and something goes only if the stream finds no room.
-pub record IsGoing {D : Type 0} (g : disk.Ghosts D) (w : Going D) : Type 0 where
-  pub next : IsNext (state_of w.before).cases w.seq
+pub record IsGoing {D : Type 0} (g : disk.Ghosts D) (order : Order) (w : Going D) : Type 0 where
+  pub next : IsNext order (state_of w.before).cases w.seq
   pub needed : FindsNoRoom (state_of w.before)
   pub deletes : DeleteCall g w.before w.seq w.answer w.after
 
@@ -91,41 +89,45 @@ GoesOn (Ok u) later rest r after new On = On
 GoesOn (Err f) later rest r after new On = (later ≡ []) × (rest ≡ []) × (r ≡ Err f) × (new ≡ after)
 
 -- Bytes are taken into slot 0, and these cases go meanwhile, one after the other.
-abbrev pub TakesWhile : {D : Type 0} → disk.Ghosts D → Parts D → List ℕ → List (Going D) → Result (Unit {0}) ArchiveFault → Parts D → Type 0
-TakesWhile g old raw [] r new = Takes g old 0 raw r new
-TakesWhile g old raw (w ∷ ws) r new =
-    (front : List ℕ) × (rest : List ℕ) × (raw ≡ front ++ rest) × Takes g old 0 front (Ok tt) w.before × IsGoing g w
-    × GoesOn w.answer ws rest r w.after new (TakesWhile g w.after rest ws r new)
+abbrev pub TakesWhile : {D : Type 0} → disk.Ghosts D → Order → Parts D → List ℕ → List (Going D) → Result (Unit {0}) ArchiveFault → Parts D → Type 0
+TakesWhile g order old raw [] r new = Takes g old 0 raw r new
+TakesWhile g order old raw (w ∷ ws) r new =
+    (front : List ℕ) × (rest : List ℕ) × (raw ≡ front ++ rest) × Takes g old 0 front (Ok tt) w.before × IsGoing g order w
+    × GoesOn w.answer ws rest r w.after new (TakesWhile g order w.after rest ws r new)
 
--- The case that goes next is not pinned. Of the cases before it none that is not pinned is a core; if it is an executable, no core in the
--- archive may go.
+-- If the oldest go, the case that goes next is not pinned. Of the cases before it none that is not pinned is a core; if it is an executable, no
+-- core in the archive may go.
 abbrev pub TheFirstGoes : Type 0
-TheFirstGoes = (cases : List Case) (c : Case) → next_to_go cases ≡ Some c
+TheFirstGoes = (cases : List Case) (c : Case) → next_to_go Oldest cases ≡ Some c
     → (c.pinned ≡ false) × (front : List Case) × (back : List Case) × (cases ≡ front ++ c ∷ back) × (filter may_go_first front ≡ []) × (is_core c.origin.kind ≡ false → (filter may_go_first cases ≡ []) × (filter may_go front ≡ []))
+
+-- In either order no pinned case goes.
+abbrev pub NoPinnedOneGoes : Type 0
+NoPinnedOneGoes = (order : Order) (cases : List Case) (c : Case) → next_to_go order cases ≡ Some c → c.pinned ≡ false
 
 -- Where none goes next, all are pinned.
 abbrev pub AllArePinned : Type 0
-AllArePinned = (cases : List Case) → next_to_go cases ≡ None → filter may_go cases ≡ []
+AllArePinned = (order : Order) (cases : List Case) → next_to_go order cases ≡ None → filter may_go cases ≡ []
 
--- No case may go any more.
+-- No case may go any more: all are pinned.
 abbrev pub NoneMayGo : ArchiveState → Type 0
-NoneMayGo s = next_to_go s.cases ≡ None
+NoneMayGo s = filter may_go s.cases ≡ []
 
 -- A case goes next, and the journal has no room for the record of its deletion.
-abbrev pub NextMustStay : ArchiveState → Type 0
-NextMustStay s = (c : Case) × (next_to_go s.cases ≡ Some c) × IsFull s (drop_size 1) (cases_without s (c.seq ∷ []))
+abbrev pub NextMustStay : Order → ArchiveState → Type 0
+NextMustStay order s = (c : Case) × (next_to_go order s.cases ≡ Some c) × IsFull s (drop_size 1) (cases_without s (c.seq ∷ []))
 
 -- How the archive is where a stream is refused for this reason, if cases may go so that it finds room. No data block is free: no case may
 -- go any more. The journal has no room for the record of its case: so it is too, or the journal was written anew as often as it can be,
 -- or the next case can't go for want of room in the journal.
-abbrev pub IsSpent : ArchiveFault → ArchiveState → Type 0
-IsSpent SpaceFull s = NoneMayGo s
-IsSpent JournalFull s = NoneMayGo s ⊎ IsLastGeneration s ⊎ NextMustStay s
-IsSpent _ s = Unit {0}
+abbrev pub IsSpent : Order → ArchiveFault → ArchiveState → Type 0
+IsSpent order SpaceFull s = NoneMayGo s
+IsSpent order JournalFull s = NoneMayGo s ⊎ IsLastGeneration s ⊎ NextMustStay order s
+IsSpent order _ s = Unit {0}
 
 -- The same by the reply.
-abbrev pub RefusedIfSpent : List ℕ → ArchiveState → Type 0
-RefusedIfSpent reply s = (fault : ArchiveFault) → reply ≡ no_reply (reason_of fault) → IsSpent fault s
+abbrev pub RefusedIfSpent : Order → List ℕ → ArchiveState → Type 0
+RefusedIfSpent order reply s = (fault : ArchiveFault) → reply ≡ no_reply (reason_of fault) → IsSpent order fault s
 
 -- the bytes of the stream fill whole blocks
 abbrev pub FillsWhole : Option StreamFacts → Type 0
@@ -164,37 +166,37 @@ Advances most s (Err (Cut kept)) s' = ⊥
 Advances most s (Err (Length f)) s' = ⊥
 
 -- a step for a stream that is so far served: it is so then too, or it is refused as it may be
-abbrev pub ServesOn : {A : Type 0} → Result A TakeStop → ArchiveState → Type 0
-ServesOn (Ok x) s = IsServed s
-ServesOn (Err File) s = Unit {0}
-ServesOn (Err (Refused fault)) s = IsSpent fault s
-ServesOn (Err (Cut kept)) s = IsServed s
-ServesOn (Err (Length f)) s = Unit {0}
+abbrev pub ServesOn : {A : Type 0} → Order → Result A TakeStop → ArchiveState → Type 0
+ServesOn order (Ok x) s = IsServed s
+ServesOn order (Err File) s = Unit {0}
+ServesOn order (Err (Refused fault)) s = IsSpent order fault s
+ServesOn order (Err (Cut kept)) s = IsServed s
+ServesOn order (Err (Length f)) s = Unit {0}
 
 -- A case goes, if there is no room for this and one may: there are fewer then.
-abbrev pub DropsOne : Need → ArchiveState → Result Bool TakeStop → ArchiveState → Type 0
-DropsOne need s (Ok true) s' = (IsServed s → IsServed s') × (length s'.cases < length s.cases)
-DropsOne need s (Ok false) s' = (s' ≡ s) × HasMadeRoom need s'
-DropsOne need s (Err File) s' = Unit {0}
-DropsOne need s (Err (Refused fault)) s' = IsSpent fault s'
-DropsOne need s (Err (Cut kept)) s' = ⊥
-DropsOne need s (Err (Length f)) s' = ⊥
+abbrev pub DropsOne : Order → Need → ArchiveState → Result Bool TakeStop → ArchiveState → Type 0
+DropsOne order need s (Ok true) s' = (IsServed s → IsServed s') × (length s'.cases < length s.cases)
+DropsOne order need s (Ok false) s' = (s' ≡ s) × HasMadeRoom need s'
+DropsOne order need s (Err File) s' = Unit {0}
+DropsOne order need s (Err (Refused fault)) s' = IsSpent order fault s'
+DropsOne order need s (Err (Cut kept)) s' = ⊥
+DropsOne order need s (Err (Length f)) s' = ⊥
 
 -- cases go until there is room for this, or none may go any more
-abbrev pub DropsAll : Need → ArchiveState → Result (Unit {0}) TakeStop → ArchiveState → Type 0
-DropsAll need s (Ok u) s' = (IsServed s → IsServed s') × HasMadeRoom need s'
-DropsAll need s (Err File) s' = Unit {0}
-DropsAll need s (Err (Refused fault)) s' = IsSpent fault s'
-DropsAll need s (Err (Cut kept)) s' = ⊥
-DropsAll need s (Err (Length f)) s' = ⊥
+abbrev pub DropsAll : Order → Need → ArchiveState → Result (Unit {0}) TakeStop → ArchiveState → Type 0
+DropsAll order need s (Ok u) s' = (IsServed s → IsServed s') × HasMadeRoom need s'
+DropsAll order need s (Err File) s' = Unit {0}
+DropsAll order need s (Err (Refused fault)) s' = IsSpent order fault s'
+DropsAll order need s (Err (Cut kept)) s' = ⊥
+DropsAll order need s (Err (Length f)) s' = ⊥
 
 -- all bytes are taken: a block for the last ones is there, and room for the record, unless no case may go any more
-abbrev pub FillsServed : Result (Unit {0}) TakeStop → ArchiveState → Type 0
-FillsServed (Ok u) s = IsServed s × HasMadeRoom Record s
-FillsServed (Err File) s = Unit {0}
-FillsServed (Err (Refused fault)) s = IsSpent fault s
-FillsServed (Err (Cut kept)) s = IsServed s × HasMadeRoom Record s
-FillsServed (Err (Length f)) s = Unit {0}
+abbrev pub FillsServed : Order → Result (Unit {0}) TakeStop → ArchiveState → Type 0
+FillsServed order (Ok u) s = IsServed s × HasMadeRoom Record s
+FillsServed order (Err File) s = Unit {0}
+FillsServed order (Err (Refused fault)) s = IsSpent order fault s
+FillsServed order (Err (Cut kept)) s = IsServed s × HasMadeRoom Record s
+FillsServed order (Err (Length f)) s = Unit {0}
 
 -- no file is cut, and none differs from the length that was stated
 abbrev pub IsUncut : {A : Type 0} → Result A TakeStop → Type 0
@@ -284,7 +286,7 @@ EndsAt want taken (Err (Length Long)) = ⊥
 
 -- Where a file is cut, if it is: only if so many bytes may be kept at most. The archive is `at` then, with the bytes that are kept, and the cases
 -- that went so far. Those that go later go for the record of its case.
-pub record IsCut {D : Type 0} (g : disk.Ghosts D) (fit : Bool) (most : Option ℕ) (old : Parts D) (gone : List (Going D)) (kept : ℕ) : Type 0 where
+pub record IsCut {D : Type 0} (g : disk.Ghosts D) (order : Order) (fit : Bool) (most : Option ℕ) (old : Parts D) (gone : List (Going D)) (kept : ℕ) : Type 0 where
   pub n : ℕ
   pub asked : most ≡ Some n
   pub within : kept ≤ n
@@ -293,10 +295,10 @@ pub record IsCut {D : Type 0} (g : disk.Ghosts D) (fit : Bool) (most : Option �
   pub first : List (Going D)
   pub later : List (Going D)
   pub all : gone ≡ first ++ later
-  pub takes : TakesWhile g old raw first (Ok tt) at
+  pub takes : TakesWhile g order old raw first (Ok tt) at
   pub length : length raw ≡ kept
   pub no_more : HasNoMore fit n kept (state_of at)
 
-abbrev pub IsShort : {D : Type 0} → disk.Ghosts D → Bool → Option ℕ → Parts D → List (Going D) → Option ℕ → Type 0
-IsShort g fit most old gone None = Unit {0}
-IsShort g fit most old gone (Some kept) = IsCut g fit most old gone kept
+abbrev pub IsShort : {D : Type 0} → disk.Ghosts D → Order → Bool → Option ℕ → Parts D → List (Going D) → Option ℕ → Type 0
+IsShort g order fit most old gone None = Unit {0}
+IsShort g order fit most old gone (Some kept) = IsCut g order fit most old gone kept

@@ -12,6 +12,7 @@ use Rattle.script_lines.specs.Said.{Said, delete_of}
 use Rattle.script_streams.specs.Replies.{no_reply}
 use Rattle.journal_layout.specs.Case.{Case}
 use Rattle.inspector_cli.specs.Bursts.{admitted}
+use Rattle.inspector_cli.specs.declared.session.Order.{Order}
 use Rattle.inspector_cli.specs.Fitting.{IsNext, may_go}
 use Rattle.inspector_cli.specs.Told.{is_no}
 use Rattle.inspector_cli.specs.declared.session.LifeFault.{LifeFault}
@@ -72,11 +73,11 @@ abbrev pub case_in : FoundCase → Case
 case_in c = c.case
 
 -- While bytes are taken these cases go, one after the other: each is the next of those that are left then. Bytes change no case.
-abbrev pub GoInTurn : {D : Type 0} → Moment D → List (Gone D) → Moment D → Type 0
-GoInTurn m [] filled = (filled.holds ≡ m.holds) × (filled.in_doubt ≡ m.in_doubt)
-GoInTurn m (x ∷ xs) filled =
-    (x.before.holds ≡ m.holds) × (x.before.in_doubt ≡ m.in_doubt) × IsNext (map case_in x.before.holds.cases) x.seq
-    × LeadsOn no_stream [] x.before (delete_of x.seq) x.reply x.after × GoInTurn x.after xs filled
+abbrev pub GoInTurn : {D : Type 0} → Order → Moment D → List (Gone D) → Moment D → Type 0
+GoInTurn order m [] filled = (filled.holds ≡ m.holds) × (filled.in_doubt ≡ m.in_doubt)
+GoInTurn order m (x ∷ xs) filled =
+    (x.before.holds ≡ m.holds) × (x.before.in_doubt ≡ m.in_doubt) × IsNext order (map case_in x.before.holds.cases) x.seq
+    × LeadsOn no_stream [] x.before (delete_of x.seq) x.reply x.after × GoInTurn order x.after xs filled
 
 pub record StoreCourse (D : Type 0) : Type 0 where
   pub begin : Moment D
@@ -106,7 +107,7 @@ pub record IsStoreCourse {D : Type 0} (asked : Option Policy) (found : Result St
   pub clear : c.begin.in_doubt ≡ []
   pub chosen : (c.policy ≡ asked) ⊎ (c.policy ≡ None)
   pub retires_first : LeadsOn no_stream [] c.begin (retire_line c.policy) c.told c.retired
-  pub goes : GoInTurn c.retired c.gone c.filled
+  pub goes : GoInTurn options.order c.retired c.gone c.filled
   -- nothing goes unless that is asked for
   pub unasked : options.fit ≡ false → c.gone ≡ []
   pub stores : StoresOrNot found options.length file file' c.cut c.filled.holds c.stored c.ended.holds

@@ -17,6 +17,7 @@ use Rattle.intake.specs.Step.{is_named}
 use Rattle.diagnostics.specs.Counts.{HasRisen}
 use Rattle.stream_names.specs.declared.naming.Naming.{Naming}
 use Rattle.inspector_cli.specs.declared.burst.Burst.{Burst}
+use Rattle.inspector_cli.specs.declared.session.Order.{Order}
 use Rattle.inspector_cli.specs.declared.session.SessionFault.{SessionFault}
 use Rattle.inspector_cli.specs.declared.session.StoreOutcome.{StoreOutcome}
 use Rattle.inspector_cli.specs.declared.session.StoreOptions.{StoreOptions}
@@ -107,9 +108,9 @@ AfterRoom T so_far (Err (Cut kept)) = ⊥
 AfterRoom T so_far (Err (Length f)) = ⊥
 
 -- Cases go, and are told, while this much was taken.
-abbrev pub MakesRoom : {D : Type 0} → disk.Ghosts D → Parts D → List ℕ → List (Going D) → Telling → Parts D → Result (Unit {0}) TakeStop → Type 0
-MakesRoom {D} g begun so_far gone t new r =
-    (more : List (Going D)) × TellsText t (flat_map going_text more) × AfterRoom (λ raw v. TakesWhile g begun raw (gone ++ more) v new) so_far r
+abbrev pub MakesRoom : {D : Type 0} → disk.Ghosts D → Order → Parts D → List ℕ → List (Going D) → Telling → Parts D → Result (Unit {0}) TakeStop → Type 0
+MakesRoom {D} g order begun so_far gone t new r =
+    (more : List (Going D)) × TellsText t (flat_map going_text more) × AfterRoom (λ raw v. TakesWhile g order begun raw (gone ++ more) v new) so_far r
 
 -- the answer of a step that may let a case go, as that of the whole
 abbrev pub stop_of : Result Bool TakeStop → Result (Unit {0}) TakeStop
@@ -117,18 +118,18 @@ stop_of (Ok b) = Ok tt
 stop_of (Err stop) = Err stop
 
 -- the same of one case at most
-abbrev pub GoesNext : {D : Type 0} → disk.Ghosts D → Parts D → List ℕ → List (Going D) → Telling → Parts D → Result Bool TakeStop → Type 0
-GoesNext g begun so_far gone t new r = MakesRoom g begun so_far gone t new (stop_of r)
+abbrev pub GoesNext : {D : Type 0} → disk.Ghosts D → Order → Parts D → List ℕ → List (Going D) → Telling → Parts D → Result Bool TakeStop → Type 0
+GoesNext g order begun so_far gone t new r = MakesRoom g order begun so_far gone t new (stop_of r)
 
 -- the next bytes of a file are taken, and cases go, and are told
-abbrev pub TakesNext : {D : Type 0} → disk.Ghosts D → Option (List ℕ) → Option (List ℕ) → ℕ → ℕ → Parts D → List ℕ → List (Going D) → Bool → Telling → Parts D → Result ℕ TakeStop → Type 0
-TakesNext {D} g file file' fails fails' begun so_far gone fit t new r =
-    (more : List (Going D)) × TellsText t (flat_map going_text more) × TakesMore file file' fails fails' so_far (λ raw v. TakesWhile g begun raw (gone ++ more) v new) r × (fit ≡ false → more ≡ [])
+abbrev pub TakesNext : {D : Type 0} → disk.Ghosts D → Order → Option (List ℕ) → Option (List ℕ) → ℕ → ℕ → Parts D → List ℕ → List (Going D) → Bool → Telling → Parts D → Result ℕ TakeStop → Type 0
+TakesNext {D} g order file file' fails fails' begun so_far gone fit t new r =
+    (more : List (Going D)) × TellsText t (flat_map going_text more) × TakesMore file file' fails fails' so_far (λ raw v. TakesWhile g order begun raw (gone ++ more) v new) r × (fit ≡ false → more ≡ [])
 
 -- all bytes of a file are taken, or the first that are refused, and cases go, and are told, if that is asked for
-abbrev pub TakesAll : {D : Type 0} → disk.Ghosts D → Bool → Option ℕ → Option (List ℕ) → Option (List ℕ) → ℕ → ℕ → Parts D → Telling → Parts D → Result (Unit {0}) TakeStop → Type 0
-TakesAll {D} g fit want file file' fails fails' old t new r =
-    (gone : List (Going D)) × TellsText t (flat_map going_text gone) × TakesFile want file file' fails fails' (λ raw v. TakesWhile g old raw gone v new) r × (fit ≡ false → gone ≡ [])
+abbrev pub TakesAll : {D : Type 0} → disk.Ghosts D → Order → Bool → Option ℕ → Option (List ℕ) → Option (List ℕ) → ℕ → ℕ → Parts D → Telling → Parts D → Result (Unit {0}) TakeStop → Type 0
+TakesAll {D} g order fit want file file' fails fails' old t new r =
+    (gone : List (Going D)) × TellsText t (flat_map going_text gone) × TakesFile want file file' fails fails' (λ raw v. TakesWhile g order old raw gone v new) r × (fit ≡ false → gone ≡ [])
 
 -- the bytes of a file are taken, and then cases may go for the record of its case: of a file that was cut, one may not be deleted then
 abbrev pub FillsFile : Option ℕ → Option ℕ → Option (List ℕ) → Option (List ℕ) → ℕ → ℕ → Taking → Result (Unit {0}) TakeStop → Type 0
@@ -141,10 +142,10 @@ FillsFile most want file file' fails fails' T (Err (Refused fault)) =
     ⊎ ((n : ℕ) × (most ≡ Some n) × (kept : ℕ) × (raw : List ℕ) × KeepsOf want file file' (Some kept) raw × T raw (Err fault))
 
 -- all of that, with the cases that go, and are told
-abbrev pub FillsAll : {D : Type 0} → disk.Ghosts D → Bool → Option ℕ → Option ℕ → Option (List ℕ) → Option (List ℕ) → ℕ → ℕ → Parts D → Telling → Parts D → Result (Unit {0}) TakeStop → Type 0
-FillsAll {D} g fit most want file file' fails fails' old t new r =
-    (gone : List (Going D)) × TellsText t (flat_map going_text gone) × FillsFile most want file file' fails fails' (λ raw v. TakesWhile g old raw gone v new) r × (fit ≡ false → gone ≡ [])
-    × IsShort g fit most old gone (cut_of r)
+abbrev pub FillsAll : {D : Type 0} → disk.Ghosts D → Order → Bool → Option ℕ → Option ℕ → Option (List ℕ) → Option (List ℕ) → ℕ → ℕ → Parts D → Telling → Parts D → Result (Unit {0}) TakeStop → Type 0
+FillsAll {D} g order fit most want file file' fails fails' old t new r =
+    (gone : List (Going D)) × TellsText t (flat_map going_text gone) × FillsFile most want file file' fails fails' (λ raw v. TakesWhile g order old raw gone v new) r × (fit ≡ false → gone ≡ [])
+    × IsShort g order fit most old gone (cut_of r)
 
 -- why a stream is refused whose length is not the one that was stated
 abbrev pub length_reason : LengthFault → List ℕ
@@ -171,21 +172,21 @@ cut_text None stored = []
 
 -- a file after a first line that was accepted or not, with the cases that go meanwhile, where it is cut, if it is, and the archive when its
 -- bytes are taken: where the line was not accepted, none is read
-abbrev pub RestReplies : {D : Type 0} → disk.Ghosts D → Option ℕ → Option ℕ → Option (List ℕ) → Option (List ℕ) → ℕ → ℕ → Parts D → Bool → List (Going D) → Option ℕ → Parts D → List ℕ → Parts D → Option ℕ → Type 0
-RestReplies g most want file file' fails fails' old true gone cut filled reply new stored =
-    (taken : Result (Unit {0}) TakeStop) × FillsFile most want file file' fails fails' (λ raw r. TakesWhile g old raw gone r filled) taken × FileReplies g filled taken reply new stored × (cut ≡ cut_of taken)
-RestReplies g most want file file' fails fails' old false gone cut filled reply new stored =
+abbrev pub RestReplies : {D : Type 0} → disk.Ghosts D → Order → Option ℕ → Option ℕ → Option (List ℕ) → Option (List ℕ) → ℕ → ℕ → Parts D → Bool → List (Going D) → Option ℕ → Parts D → List ℕ → Parts D → Option ℕ → Type 0
+RestReplies g order most want file file' fails fails' old true gone cut filled reply new stored =
+    (taken : Result (Unit {0}) TakeStop) × FillsFile most want file file' fails fails' (λ raw r. TakesWhile g order old raw gone r filled) taken × FileReplies g filled taken reply new stored × (cut ≡ cut_of taken)
+RestReplies g order most want file file' fails fails' old false gone cut filled reply new stored =
     (file' ≡ file) × (fails' ≡ fails) × (filled ≡ old) × (reply ≡ []) × (new ≡ old) × (stored ≡ None) × (gone ≡ []) × (cut ≡ None)
 
 -- all of that for a stream that has begun: the cases that go are told, then a cut, and then the reply
-abbrev pub FillsAndEnds : {D : Type 0} → disk.Ghosts D → Bool → Option ℕ → Option ℕ → Option (List ℕ) → Option (List ℕ) → ℕ → ℕ → Parts D → List ℕ → Parts D → Option ℕ → Type 0
-FillsAndEnds {D} g fit most want file file' fails fails' old text new stored =
+abbrev pub FillsAndEnds : {D : Type 0} → disk.Ghosts D → Order → Bool → Option ℕ → Option ℕ → Option (List ℕ) → Option (List ℕ) → ℕ → ℕ → Parts D → List ℕ → Parts D → Option ℕ → Type 0
+FillsAndEnds {D} g order fit most want file file' fails fails' old text new stored =
     (gone : List (Going D)) × (cut : Option ℕ) × (filled : Parts D) × (rest : List ℕ) × (text ≡ flat_map going_text gone ++ (cut_text cut stored ++ rest)) × (fit ≡ false → gone ≡ [])
-    × RestReplies g most want file file' fails fails' old true gone cut filled rest new stored
-    × (fit ≡ true → IsServed (state_of old) → RefusedIfSpent rest (state_of filled)) × IsShort g fit most old gone cut
+    × RestReplies g order most want file file' fails fails' old true gone cut filled rest new stored
+    × (fit ≡ true → IsServed (state_of old) → RefusedIfSpent order rest (state_of filled)) × IsShort g order fit most old gone cut
 
 -- a stream that is begun, or why there is none, and its file: the replies, and the case's number where it is stored
-pub record StoresStream {D : Type 0} (g : disk.Ghosts D) (fit : Bool) (most want : Option ℕ) (file file' : Option (List ℕ)) (fails fails' : ℕ) (old : Parts D) (found : Result StreamFacts (List ℕ))
+pub record StoresStream {D : Type 0} (g : disk.Ghosts D) (order : Order) (fit : Bool) (most want : Option ℕ) (file file' : Option (List ℕ)) (fails fails' : ℕ) (old : Parts D) (found : Result StreamFacts (List ℕ))
     (replies : List ℕ) (new : Parts D) (stored : Option ℕ) : Type 0 where
   pub first : List ℕ
   pub mid : Parts D
@@ -199,11 +200,11 @@ pub record StoresStream {D : Type 0} (g : disk.Ghosts D) (fit : Bool) (most want
   -- when the file's bytes are taken
   pub filled : Parts D
   pub rest : List ℕ
-  pub goes_on : RestReplies g most want file file' fails fails' mid accepted gone cut filled rest new stored
+  pub goes_on : RestReplies g order most want file file' fails fails' mid accepted gone cut filled rest new stored
   -- a stream for which cases may go is refused for want of room only where none may go any more
-  pub spent : fit ≡ true → RefusedIfSpent rest (state_of filled)
+  pub spent : fit ≡ true → RefusedIfSpent order rest (state_of filled)
   -- a file is cut only if that is asked for, and only where no more of it may be kept
-  pub short : IsShort g fit most mid gone cut
+  pub short : IsShort g order fit most mid gone cut
   pub text : replies ≡ first ++ (flat_map going_text gone ++ (cut_text cut stored ++ rest))
 
 -- Cases are retired by a policy: what `retire` does in a session, and whether it was answered other than `no REASON`. Where there is no
@@ -265,6 +266,8 @@ pub record Options : Type 0 where
   pub pin : Bool
   -- cases go so that the stream finds room
   pub fit : Bool
+  -- in which order they go
+  pub order : Order
   -- how many bytes are kept at most, of a stream that has more, and that fits so
   pub cut : Option ℕ
   -- how many bytes the stream has, if that is stated
@@ -273,7 +276,7 @@ pub record Options : Type 0 where
   pub burst : Option Burst
 
 abbrev pub options_asked : StoreOptions → Options
-options_asked options = record { label = label_asked options.label; pin = options.pin; fit = options.fit; cut = options.cut; length = options.length; burst = options.burst }
+options_asked options = record { label = label_asked options.label; pin = options.pin; fit = options.fit; order = options.order; cut = options.cut; length = options.length; burst = options.burst }
 
 -- what is retired for a stream by a policy, the stream with its file, and then the label and the pin of its case
 pub record Stores {D : Type 0} (g : disk.Ghosts D) (file file' : Option (List ℕ)) (fails fails' : ℕ) (old : Parts D) (asked : Option Policy) (found : Result StreamFacts (List ℕ)) (options : Options)
@@ -285,7 +288,7 @@ pub record Stores {D : Type 0} (g : disk.Ghosts D) (file file' : Option (List �
   pub more : List ℕ
   -- when the case is stored, or the stream is refused
   pub ended : Parts D
-  pub stores : StoresStream g options.fit options.cut options.length file file' fails fails' retired found more ended outcome.stored
+  pub stores : StoresStream g options.order options.fit options.cut options.length file file' fails fails' retired found more ended outcome.stored
   pub named : List ℕ
   -- when the case has its label, if it is to have one
   pub labelled : Parts D
@@ -316,16 +319,16 @@ said_label (Some seq) None = silence
 said_label None label = silence
 
 -- The stages while bytes are taken and cases go: two for each case, when it goes and then.
-abbrev pub GoneStages : {D : Type 0} → disk.Ghosts D → Stage D → List (Going D) → List (Stage D) → Stage D → Type 0
-GoneStages g old [] [] filled = ChangesNoCase g old.archive filled.archive × (filled.in_doubt ≡ old.in_doubt)
-GoneStages g old (w ∷ ws) (s ∷ t ∷ ss) filled =
+abbrev pub GoneStages : {D : Type 0} → disk.Ghosts D → Order → Stage D → List (Going D) → List (Stage D) → Stage D → Type 0
+GoneStages g order old [] [] filled = ChangesNoCase g old.archive filled.archive × (filled.in_doubt ≡ old.in_doubt)
+GoneStages g order old (w ∷ ws) (s ∷ t ∷ ss) filled =
     ChangesNoCase g old.archive s.archive × (s.in_doubt ≡ old.in_doubt) × (s.archive ≡ w.before)
-    × IsGoing g w × Moves g s (delete_of w.seq) (plain_reply w.answer) t × (t.archive ≡ w.after) × GoneStages g t ws ss filled
-GoneStages g old _ _ filled = ⊥
+    × IsGoing g order w × Moves g s (delete_of w.seq) (plain_reply w.answer) t × (t.archive ≡ w.after) × GoneStages g order t ws ss filled
+GoneStages g order old _ _ filled = ⊥
 
 -- What a stop leaves of it, told as of lines of a session: cases are retired, then others go while bytes are taken, then a case is stored, and only then it gets
 -- its label, and is pinned. The stream's beginning and the file's bytes change no case.
-pub record StoreStages {D : Type 0} (g : disk.Ghosts D) (old : Stage D) (policy : Option Policy) (told : List ℕ) (retired : Parts D) (gone : List (Going D)) (filled : Parts D) (reply : List ℕ) (ended : Parts D)
+pub record StoreStages {D : Type 0} (g : disk.Ghosts D) (order : Order) (old : Stage D) (policy : Option Policy) (told : List ℕ) (retired : Parts D) (gone : List (Going D)) (filled : Parts D) (reply : List ℕ) (ended : Parts D)
     (labels : Said) (named : List ℕ) (labelled : Parts D) (pins : Said) (last : List ℕ) (end : Stage D) (new : Parts D) : Type 0 where
   -- what is in doubt when cases are retired
   pub in_doubt : List Durable
@@ -334,7 +337,7 @@ pub record StoreStages {D : Type 0} (g : disk.Ghosts D) (old : Stage D) (policy 
   pub stages : List (Stage D)
   -- and when all bytes are taken
   pub filled_doubt : List Durable
-  pub goes : GoneStages g (record { archive = retired; in_doubt = in_doubt }) gone stages (record { archive = filled; in_doubt = filled_doubt })
+  pub goes : GoneStages g order (record { archive = retired; in_doubt = in_doubt }) gone stages (record { archive = filled; in_doubt = filled_doubt })
   -- and when the stream has ended
   pub later_doubt : List Durable
   pub moves : Moves g (record { archive = filled; in_doubt = filled_doubt }) (end_of 0) reply (record { archive = ended; in_doubt = later_doubt })
@@ -349,7 +352,7 @@ pub record StoreStages {D : Type 0} (g : disk.Ghosts D) (old : Stage D) (policy 
 abbrev pub StopsStore : {D : Type 0} → (g : disk.Ghosts D) → (t : Streams) → (old : Stage D) → (asked : Option Policy) → (found : Result StreamFacts (List ℕ)) → (options : Options)
     → (replies : List ℕ) → (end : Stage D) → (outcome : StoreOutcome) → Stores g t.input t.input' t.fails t.fails' old.archive asked found options replies end.archive outcome → Parts D → Type 0
 StopsStore g t old asked found options replies end outcome s new =
-    StoreStages g old s.retires_first.policy s.told s.retired s.stores.gone s.stores.filled s.stores.rest s.ended (said_label outcome.stored options.label) s.named s.labelled (said_pin outcome.stored options.pin) s.last end new
+    StoreStages g options.order old s.retires_first.policy s.told s.retired s.stores.gone s.stores.filled s.stores.rest s.ended (said_label outcome.stored options.label) s.named s.labelled (said_pin outcome.stored options.pin) s.last end new
 
 -- What came of the store, where the replies were written; or the output failed, and has a front of them. A stream that is left in
 -- slot 0 is dropped. In each case what is found after a stop is told by the stages.

@@ -1,19 +1,22 @@
 // Cases that go, one by one, so that a stream finds room.
-ghost use Rattle.std.specs.Prelude.{◌≡◌, ◌<◌, ℕ, List, Ok, None, IfSome, true, false, map, option_map};
-ghost use Rattle.std.specs.List.{find};
+ghost use Rattle.std.specs.Prelude.{◌≡◌, ◌<◌, ℕ, List, [], Ok, None, IfSome, true, false, map, option_map};
+ghost use Rattle.std.specs.List.{find, filter};
 ghost use Rattle.intake.specs.Parts.{Parts, state_of};
 ghost use Rattle.journal_layout.specs.Case.{case_of};
 ghost use Rattle.script_streams.specs.Replies.{TellsText, telling};
 ghost use Rattle.archive_replies.specs.Texts.{dropped_line};
 ghost use Rattle.intake.specs.State.{blocks_in};
-ghost use Rattle.inspector_cli.specs.Fitting.{Going, TakesWhile, HasNoBlock, FindsNoRoom, FindsRoom, NoneMayFree, NoneMayGo, DropsOne, DropsAll, IsNext, frees, goes, goes_first, next_to_go};
+ghost use Rattle.inspector_cli.specs.Fitting.{Going, TakesWhile, HasNoBlock, FindsNoRoom, FindsRoom, NoneMayFree, NoneMayGo, DropsOne, DropsAll, IsNext, frees, goes, goes_first, may_go, next_core};
 ghost use Rattle.inspector_cli.specs.Storing.{GoesNext, MakesRoom};
 
+use crate::session::Order;
 use crate::store::TakeStop;
 use disk_model::Disk;
+use fair_share::fairest;
 use intake::Archive;
 use journal_layout::{Entry, Kind};
 use script_streams::{Output, Reply};
+use std::alloc::Global;
 
 // What a stream may find no room for.
 #[derive(Clone, Copy)]
@@ -27,17 +30,18 @@ pub(crate) enum Need {
 // Deletes the cases that go next, and tells them, until there is room for this or no case may go. A case that can't be deleted
 // refuses the stream in slot 0.
 pub(crate) fn make_room<O: Output, D: Disk>(
+    order: Order,
     need: Need,
     reply: &mut Reply<'_, O>,
     archive: &mut Archive<D>,
 ) -> Result<(), TakeStop>
     ensures room { (begun : Parts D) (so_far : List ℕ) (gone : List (Going D))
-        → TakesWhile D.Disk begun so_far gone (Ok tt) archive.old
-        → MakesRoom D.Disk begun so_far gone (telling O.Output reply.old reply.new) archive.new result }
-    ensures served { DropsAll need (state_of archive.old) result (state_of archive.new) }
+        → TakesWhile D.Disk order begun so_far gone (Ok tt) archive.old
+        → MakesRoom D.Disk order begun so_far gone (telling O.Output reply.old reply.new) archive.new result }
+    ensures served { DropsAll order need (state_of archive.old) result (state_of archive.new) }
 {
     loop {
-        let is_gone = drop_if_full(need, reply, archive)?;
+        let is_gone = drop_if_full(order, need, reply, archive)?;
         if !is_gone {
             return Ok(());
         }
@@ -46,19 +50,20 @@ pub(crate) fn make_room<O: Output, D: Disk>(
 
 // Deletes the case that goes next, and tells it, if there is no room for this. Says whether one went.
 fn drop_if_full<O: Output, D: Disk>(
+    order: Order,
     need: Need,
     reply: &mut Reply<'_, O>,
     archive: &mut Archive<D>,
 ) -> Result<bool, TakeStop>
     ensures goes { (begun : Parts D) (so_far : List ℕ) (gone : List (Going D))
-        → TakesWhile D.Disk begun so_far gone (Ok tt) archive.old
-        → GoesNext D.Disk begun so_far gone (telling O.Output reply.old reply.new) archive.new result }
-    ensures served { DropsOne need (state_of archive.old) result (state_of archive.new) }
+        → TakesWhile D.Disk order begun so_far gone (Ok tt) archive.old
+        → GoesNext D.Disk order begun so_far gone (telling O.Output reply.old reply.new) archive.new result }
+    ensures served { DropsOne order need (state_of archive.old) result (state_of archive.new) }
 {
     if !lacks_room(need, archive) {
         return Ok(false);
     }
-    let Some(seq) = next_number(archive) else {
+    let Some(seq) = next_number(order, archive) else {
         return Ok(false);
     };
     match archive.delete(seq) {
@@ -94,22 +99,22 @@ pub(crate) fn lacks_block<D: Disk>(archive: &Archive<D>) -> bool
 }
 
 // The number of the case that goes next, if one may.
-fn next_number<D: Disk>(archive: &Archive<D>) -> Option<u32>
-    ensures next { IfSome result (λ seq. IsNext (state_of archive.now).cases seq) }
+fn next_number<D: Disk>(order: Order, archive: &Archive<D>) -> Option<u32>
+    ensures next { IfSome result (λ seq. IsNext order (state_of archive.now).cases seq) }
     ensures none { result ≡ None → (state_of archive.now).stopped ≡ false → NoneMayGo (state_of archive.now) }
 {
     match archive.cases() {
-        Ok(cases) => next_of(cases),
+        Ok(cases) => next_of(archive.allocator(), order, cases),
         Err(_) => None,
     }
 }
 
 // The number of the case that goes next, of cases in the order of their numbers.
-fn next_of(cases: &[Entry]) -> Option<u32>
-    ensures next { IfSome result (λ seq. IsNext (map case_of cases.now) seq) }
-    ensures none { result ≡ None → next_to_go (map case_of cases.now) ≡ None }
+fn next_of(alloc: Global, order: Order, cases: &[Entry]) -> Option<u32>
+    ensures next { IfSome result (λ seq. IsNext order (map case_of cases.now) seq) }
+    ensures none { result ≡ None → filter may_go (map case_of cases.now) ≡ [] }
 {
-    match first_core(cases) {
+    match next_core(alloc, order, cases) {
         Some(core) => Some(core.seq),
         None => match first_loose(cases) {
             Some(case) => Some(case.seq),
@@ -140,6 +145,16 @@ fn would_free(case: &Entry) -> bool
     ensures { result ≡ frees case.now }
 {
     !case.pinned && case.length > 0
+}
+
+// The core that goes next, if one is not pinned.
+fn next_core(alloc: Global, order: Order, cases: &[Entry]) -> Option<&Entry>
+    ensures { option_map (λ (e : _). case_of e.now) result ≡ next_core order (map case_of cases.now) }
+{
+    match order {
+        Order::Oldest => first_core(cases),
+        Order::Fair => fairest(alloc, cases),
+    }
 }
 
 // The first core that is not pinned.

@@ -7,6 +7,7 @@ ghost use Rattle.script_streams.specs.Replies.{TellsReply, TellsText, telling};
 ghost use Rattle.inspector_cli.specs.Storing.{LooksPast, TakesAll, TakesNext, cut_line, cut_text};
 
 use crate::fitting::{lacks_block, may_free};
+use crate::session::Order;
 use crate::store::{LengthFault, MOST_BYTES, MOST_READS, TakeStop, take_next};
 use archive_replies::tell_stored;
 use disk_model::Disk;
@@ -49,6 +50,7 @@ fn tell_cut<O: Output>(reply: &mut Reply<'_, O>, kept: u64)
 // taken, or no more find room. If its length is stated, it has to have that, or be cut before.
 pub(crate) fn take_file<I: Input, O: Output, D: Disk>(
     fit: bool,
+    order: Order,
     cut: Option<u64>,
     length: Option<u64>,
     file: &mut I,
@@ -57,14 +59,14 @@ pub(crate) fn take_file<I: Input, O: Output, D: Disk>(
 ) -> Result<(), TakeStop>
     requires takes { Takes D.Disk archive.old 0 [] (Ok tt) archive.old }
     requires some { IsUnder cut 0 }
-    ensures all { TakesAll D.Disk fit length (I.remaining file.old) (I.remaining file.new) (I.failures file.old) (I.failures file.new)
+    ensures all { TakesAll D.Disk order fit length (I.remaining file.old) (I.remaining file.new) (I.failures file.old) (I.failures file.new)
         archive.old (telling O.Output reply.old reply.new) archive.new result }
-    ensures served { fit ≡ true → IsServed (state_of archive.old) → ServesOn result (state_of archive.new) }
+    ensures served { fit ≡ true → IsServed (state_of archive.old) → ServesOn order result (state_of archive.new) }
     ensures well { CutsWell fit cut result (state_of archive.new) }
 {
     let mut taken: u64 = 0;
     for _ in 0..MOST_READS {
-        let count = take_step(fit, cut, length, taken, file, reply, archive)?;
+        let count = take_step(fit, order, cut, length, taken, file, reply, archive)?;
         if count == 0 {
             return end_at(length, taken);
         }
@@ -88,6 +90,7 @@ fn end_at(length: Option<u64>, taken: u64) -> Result<(), TakeStop>
 // stated. Says how many there were.
 fn take_step<I: Input, O: Output, D: Disk>(
     fit: bool,
+    order: Order,
     cut: Option<u64>,
     length: Option<u64>,
     taken: u64,
@@ -99,10 +102,10 @@ fn take_step<I: Input, O: Output, D: Disk>(
     requires within { IsWithin cut taken }
     requires stated { IsWithin length taken }
     ensures next { (begun : Parts D) (so_far : List ℕ) (gone : List (Going D))
-        → TakesWhile D.Disk begun so_far gone (Ok tt) archive.old
-        → TakesNext D.Disk (I.remaining file.old) (I.remaining file.new) (I.failures file.old) (I.failures file.new)
+        → TakesWhile D.Disk order begun so_far gone (Ok tt) archive.old
+        → TakesNext D.Disk order (I.remaining file.old) (I.remaining file.new) (I.failures file.old) (I.failures file.new)
         begun so_far gone fit (telling O.Output reply.old reply.new) archive.new result }
-    ensures served { fit ≡ true → IsServed (state_of archive.old) → ServesOn result (state_of archive.new) }
+    ensures served { fit ≡ true → IsServed (state_of archive.old) → ServesOn order result (state_of archive.new) }
     ensures behind { CutsBehind fit cut taken result (state_of archive.new) }
     ensures meets { MeetsLength length taken result }
     ensures within { IfOk result (λ n. IsWithin cut (taken + n)) }
@@ -116,7 +119,7 @@ fn take_step<I: Input, O: Output, D: Disk>(
         return look_past(TakeStop::Cut(taken), file);
     }
     let size = left_of(cut, taken).min(left_of(length, taken));
-    take_next(fit, size, file, reply, archive)
+    take_next(fit, order, size, file, reply, archive)
 }
 
 // Whether so many bytes are those of a bound, if there is one.

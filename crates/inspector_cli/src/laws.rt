@@ -1,7 +1,7 @@
 //! What holds over every script and every session. These functions do nothing.
 ghost use Rattle.inspector_cli.specs.Agreement.{LinesAgree, ScriptsAgree};
 ghost use Rattle.inspector_cli.specs.Cuts.{HasOneCut, HasACut, HasOneFront};
-ghost use Rattle.inspector_cli.specs.Fitting.{TheFirstGoes, AllArePinned};
+ghost use Rattle.inspector_cli.specs.Fitting.{TheFirstGoes, AllArePinned, NoPinnedOneGoes};
 ghost use Rattle.inspector_cli.specs.Headline.{SessionsAreCrashSafe};
 ghost use Rattle.inspector_cli.specs.StoreHeadline.{StoresAreCrashSafe};
 ghost use Rattle.inspector_cli.specs.Storing.{RetiresForAStreamAlone, RetiresUnlessRefused, RetiresNothingUnasked};
@@ -69,9 +69,10 @@ pub fn a_store_is_crash_safe<D: Disk>()
     what_calls_leave::<D>();
 }
 
-/// What goes where a stream finds no room: no pinned case, the oldest core before every other, and an executable only once all cores
-/// are pinned. If none goes, all cases are pinned.
+/// What goes where a stream finds no room: no pinned case, and if none goes, all cases are pinned. If the oldest go, it is the oldest core before
+/// every other, and an executable only once all cores are pinned. What holds of the fair ones says `the_heaviest_user_gives` of fair_share.
 pub fn the_oldest_core_goes_first()
+    ensures loose { NoPinnedOneGoes }
     ensures first { TheFirstGoes }
     ensures none { AllArePinned }
 {}

@@ -36,7 +36,7 @@ pub use memory_life::memory_session;
 pub use run::run_session;
 pub use script_lines::{Call, Question, parse_question};
 pub use script_streams::{Input, Output, ReadInput, StreamFault, WriteOutput};
-pub use session::{LifeFault, MemoryFault, SessionFault, StoreOptions, StoreOutcome};
+pub use session::{LifeFault, MemoryFault, Order, SessionFault, StoreOptions, StoreOutcome};
 pub use store::store_stream;
 pub use store_life::open_and_store;
 pub use stored::{a_stored_case_is_found, a_stored_case_is_kept};

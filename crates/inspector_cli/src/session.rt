@@ -4,6 +4,16 @@ use arrayvec::ArrayVec;
 use journal_layout::OpenFault;
 use thiserror::Error;
 
+/// In which order cases go that make room for a stream.
+#[derive(Clone, Copy, PartialEq, Eq, Debug)]
+pub enum Order {
+    /// The cores of the lowest numbers first.
+    Oldest,
+    /// A core of the user whose unpinned cores have the most blocks, and of that user's programs the one of which so it is. Of its cores the
+    /// last but one goes, if there are three or more, and else the last.
+    Fair,
+}
+
 /// What is asked for where a stream is stored.
 #[derive(Drop)]
 pub struct StoreOptions {
@@ -14,6 +24,8 @@ pub struct StoreOptions {
     /// Where the stream finds no room, cases that are not pinned are deleted: first the cores, then the executables, those of the
     /// lowest numbers first.
     pub fit: bool,
+    /// In which order the cores go then.
+    pub order: Order,
     /// If the stream has more than so many bytes, or finds no room, its first ones are kept, this many at most. None: it is refused.
     pub cut: Option<u64>,
     /// How many bytes the stream has, if that is known before. One that ends earlier, and is not cut before, is refused as `Short`, and one

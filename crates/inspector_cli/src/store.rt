@@ -16,7 +16,7 @@ use crate::burst::admitted;
 use crate::fitting::{Need, lacks_block, make_room};
 use crate::front::{answer_front, take_file};
 use crate::retiring::retire_first;
-use crate::session::{SessionFault, StoreOptions, StoreOutcome};
+use crate::session::{Order, SessionFault, StoreOptions, StoreOutcome};
 use archive_replies::reason;
 use arrayvec::ArrayVec;
 use disk_model::Disk;
@@ -121,6 +121,7 @@ fn answer_all<I: Input, O: Output, D: Disk>(
     let retired_first = retire_first(policy, &found, reply, archive);
     let stored = answer_store(
         options.fit,
+        options.order,
         options.cut,
         options.length,
         found,
@@ -177,6 +178,7 @@ fn label_case<O: Output, D: Disk>(
 // Begins this stream, or is refused for this reason, and then takes its file. Says the number of the case, where it is stored.
 fn answer_store<I: Input, O: Output, D: Disk>(
     fit: bool,
+    order: Order,
     cut: Option<u64>,
     length: Option<u64>,
     found: Result<NewStream, &'static [u8]>,
@@ -184,14 +186,14 @@ fn answer_store<I: Input, O: Output, D: Disk>(
     reply: &mut Reply<'_, O>,
     archive: &mut Archive<D>,
 ) -> Option<u32>
-    ensures { TellsReply (telling O.Output reply.old reply.new) (λ text. StoresStream D.Disk fit cut length (I.remaining file.old) (I.remaining file.new) (I.failures file.old) (I.failures file.new)
+    ensures { TellsReply (telling O.Output reply.old reply.new) (λ text. StoresStream D.Disk order fit cut length (I.remaining file.old) (I.remaining file.new) (I.failures file.old) (I.failures file.new)
         archive.old (stream_found found.entry) text archive.new result) }
 {
     let is_begun = answer_first(found, reply, archive);
     if !is_begun {
         return None;
     }
-    answer_file(fit, cut, length, file, reply, archive)
+    answer_file(fit, order, cut, length, file, reply, archive)
 }
 
 // Begins this stream, or is refused for this reason. Says whether it has begun: then it has no bytes yet.
@@ -210,6 +212,7 @@ fn answer_first<O: Output, D: Disk>(
 // Takes a file into the stream in slot 0, and makes it a case. Says its number, where it is stored.
 fn answer_file<I: Input, O: Output, D: Disk>(
     fit: bool,
+    order: Order,
     cut: Option<u64>,
     length: Option<u64>,
     file: &mut I,
@@ -217,10 +220,10 @@ fn answer_file<I: Input, O: Output, D: Disk>(
     archive: &mut Archive<D>,
 ) -> Option<u32>
     requires { Takes D.Disk archive.old 0 [] (Ok tt) archive.old }
-    ensures { TellsReply (telling O.Output reply.old reply.new) (λ text. FillsAndEnds D.Disk fit cut length (I.remaining file.old) (I.remaining file.new) (I.failures file.old) (I.failures file.new)
+    ensures { TellsReply (telling O.Output reply.old reply.new) (λ text. FillsAndEnds D.Disk order fit cut length (I.remaining file.old) (I.remaining file.new) (I.failures file.old) (I.failures file.new)
         archive.old text archive.new result) }
 {
-    match fill_stream(fit, cut, length, file, reply, archive) {
+    match fill_stream(fit, order, cut, length, file, reply, archive) {
         Ok(()) => answer_end(0, reply, archive),
         Err(TakeStop::Cut(kept)) => answer_front(kept, reply, archive),
         Err(TakeStop::File) => {
@@ -252,6 +255,7 @@ fn length_reason(fault: LengthFault) -> &'static [u8]
 // they may.
 fn fill_stream<I: Input, O: Output, D: Disk>(
     fit: bool,
+    order: Order,
     cut: Option<u64>,
     length: Option<u64>,
     file: &mut I,
@@ -259,17 +263,17 @@ fn fill_stream<I: Input, O: Output, D: Disk>(
     archive: &mut Archive<D>,
 ) -> Result<(), TakeStop>
     requires { Takes D.Disk archive.old 0 [] (Ok tt) archive.old }
-    ensures all { FillsAll D.Disk fit cut length (I.remaining file.old) (I.remaining file.new) (I.failures file.old) (I.failures file.new)
+    ensures all { FillsAll D.Disk order fit cut length (I.remaining file.old) (I.remaining file.new) (I.failures file.old) (I.failures file.new)
         archive.old (telling O.Output reply.old reply.new) archive.new result }
-    ensures served { fit ≡ true → IsServed (state_of archive.old) → FillsServed result (state_of archive.new) }
+    ensures served { fit ≡ true → IsServed (state_of archive.old) → FillsServed order result (state_of archive.new) }
 {
     if !fit {
-        return take_asked(fit, cut, length, file, reply, archive);
+        return take_asked(fit, order, cut, length, file, reply, archive);
     }
-    match take_asked(fit, cut, length, file, reply, archive) {
-        Ok(()) => make_room(Need::Record, reply, archive),
+    match take_asked(fit, order, cut, length, file, reply, archive) {
+        Ok(()) => make_room(order, Need::Record, reply, archive),
         Err(TakeStop::Cut(kept)) => {
-            make_room(Need::Record, reply, archive)?;
+            make_room(order, Need::Record, reply, archive)?;
             Err(TakeStop::Cut(kept))
         }
         Err(TakeStop::File) => Err(TakeStop::File),
@@ -281,6 +285,7 @@ fn fill_stream<I: Input, O: Output, D: Disk>(
 // Takes all bytes of a file into the stream in slot 0, or those that are kept, if it may be cut. No file is cut before its first byte.
 fn take_asked<I: Input, O: Output, D: Disk>(
     fit: bool,
+    order: Order,
     cut: Option<u64>,
     length: Option<u64>,
     file: &mut I,
@@ -288,23 +293,24 @@ fn take_asked<I: Input, O: Output, D: Disk>(
     archive: &mut Archive<D>,
 ) -> Result<(), TakeStop>
     requires { Takes D.Disk archive.old 0 [] (Ok tt) archive.old }
-    ensures all { TakesAll D.Disk fit length (I.remaining file.old) (I.remaining file.new) (I.failures file.old) (I.failures file.new)
+    ensures all { TakesAll D.Disk order fit length (I.remaining file.old) (I.remaining file.new) (I.failures file.old) (I.failures file.new)
         archive.old (telling O.Output reply.old reply.new) archive.new result }
-    ensures served { fit ≡ true → IsServed (state_of archive.old) → ServesOn result (state_of archive.new) }
+    ensures served { fit ≡ true → IsServed (state_of archive.old) → ServesOn order result (state_of archive.new) }
     ensures well { CutsWell fit cut result (state_of archive.new) }
 {
     let Some(most) = cut else {
-        return take_file(fit, None, length, file, reply, archive);
+        return take_file(fit, order, None, length, file, reply, archive);
     };
     if most == 0 {
-        return take_file(fit, None, length, file, reply, archive);
+        return take_file(fit, order, None, length, file, reply, archive);
     }
-    take_file(fit, Some(most), length, file, reply, archive)
+    take_file(fit, order, Some(most), length, file, reply, archive)
 }
 
 // Takes the next bytes of a file into the stream in slot 0, `most` at most, for which cases go, if they may. Says how many there were.
 pub(crate) fn take_next<I: Input, O: Output, D: Disk>(
     fit: bool,
+    order: Order,
     most: usize,
     file: &mut I,
     reply: &mut Reply<'_, O>,
@@ -312,21 +318,22 @@ pub(crate) fn take_next<I: Input, O: Output, D: Disk>(
 ) -> Result<usize, TakeStop>
     requires { 0 < most }
     ensures next { (begun : Parts D) (so_far : List ℕ) (gone : List (Going D))
-        → TakesWhile D.Disk begun so_far gone (Ok tt) archive.old
-        → TakesNext D.Disk (I.remaining file.old) (I.remaining file.new) (I.failures file.old) (I.failures file.new)
+        → TakesWhile D.Disk order begun so_far gone (Ok tt) archive.old
+        → TakesNext D.Disk order (I.remaining file.old) (I.remaining file.new) (I.failures file.old) (I.failures file.new)
         begun so_far gone fit (telling O.Output reply.old reply.new) archive.new result }
-    ensures served { fit ≡ true → IsServed (state_of archive.old) → ServesOn result (state_of archive.new) }
+    ensures served { fit ≡ true → IsServed (state_of archive.old) → ServesOn order result (state_of archive.new) }
     ensures few { IfOk result (λ n. n ≤ most) }
     ensures uncut { IsUncut result }
 {
     if !fit {
         return take_more(most, file, archive);
     }
-    take_fitting(most, file, reply, archive)
+    take_fitting(order, most, file, reply, archive)
 }
 
 // The same where cases may go: they do where no data block is free.
 fn take_fitting<I: Input, O: Output, D: Disk>(
+    order: Order,
     most: usize,
     file: &mut I,
     reply: &mut Reply<'_, O>,
@@ -334,30 +341,31 @@ fn take_fitting<I: Input, O: Output, D: Disk>(
 ) -> Result<usize, TakeStop>
     requires { 0 < most }
     ensures next { (begun : Parts D) (so_far : List ℕ) (gone : List (Going D))
-        → TakesWhile D.Disk begun so_far gone (Ok tt) archive.old
-        → TakesNext D.Disk (I.remaining file.old) (I.remaining file.new) (I.failures file.old) (I.failures file.new)
+        → TakesWhile D.Disk order begun so_far gone (Ok tt) archive.old
+        → TakesNext D.Disk order (I.remaining file.old) (I.remaining file.new) (I.failures file.old) (I.failures file.new)
         begun so_far gone true (telling O.Output reply.old reply.new) archive.new result }
-    ensures served { IsServed (state_of archive.old) → ServesOn result (state_of archive.new) }
+    ensures served { IsServed (state_of archive.old) → ServesOn order result (state_of archive.new) }
     ensures few { IfOk result (λ n. n ≤ most) }
     ensures uncut { IsUncut result }
 {
     if !lacks_block(archive) {
         return take_more(most, file, archive);
     }
-    take_one(file, reply, archive)
+    take_one(order, file, reply, archive)
 }
 
 // Takes the next byte of a file into the stream in slot 0, where no data block is free: the block that it needs is not there, so cases go.
 fn take_one<I: Input, O: Output, D: Disk>(
+    order: Order,
     file: &mut I,
     reply: &mut Reply<'_, O>,
     archive: &mut Archive<D>,
 ) -> Result<usize, TakeStop>
     ensures next { (begun : Parts D) (so_far : List ℕ) (gone : List (Going D))
-        → TakesWhile D.Disk begun so_far gone (Ok tt) archive.old
-        → TakesNext D.Disk (I.remaining file.old) (I.remaining file.new) (I.failures file.old) (I.failures file.new)
+        → TakesWhile D.Disk order begun so_far gone (Ok tt) archive.old
+        → TakesNext D.Disk order (I.remaining file.old) (I.remaining file.new) (I.failures file.old) (I.failures file.new)
         begun so_far gone true (telling O.Output reply.old reply.new) archive.new result }
-    ensures served { IsServed (state_of archive.old) → ServesOn result (state_of archive.new) }
+    ensures served { IsServed (state_of archive.old) → ServesOn order result (state_of archive.new) }
     ensures few { IfOk result (λ n. n ≤ 1) }
     ensures uncut { IsUncut result }
 {
@@ -365,7 +373,7 @@ fn take_one<I: Input, O: Output, D: Disk>(
     if count == 0 {
         return Ok(0);
     }
-    make_room(Need::Block, reply, archive)?;
+    make_room(order, Need::Block, reply, archive)?;
     Ok(count)
 }
 

@@ -496,6 +496,11 @@ impl<D: Disk> Archive<D> {
         Some(self.retire(policy))
     }
 
+    /// What it takes memory from.
+    pub fn allocator(&self) -> Global {
+        self.alloc
+    }
+
     /// Whether a disk fault has stopped it. Unless one has, what a crash now leaves encodes the cases that it shows.
     pub fn is_stopped(&self) -> bool
         ensures value { result ≡ self.now.stopped }

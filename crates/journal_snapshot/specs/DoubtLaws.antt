@@ -42,7 +42,7 @@ module _ {D : Type 0} (g : disk.Ghosts D) (shape : Shape) where
     gate_differs gate fills =
         differs_wider new (λ p. (gate ≤ p) × (p < gate + 1)) (λ p. p ≡ gate) (λ p range. let low = range.0 in let high = range.1 in omega (arith, low, high)) (filled_differs gate 1 fills)
 
-    -- and writes behind a gate no more than what is behind it
+    -- and writes that begin after a gate change only what is after it
     pub behind_differs : (gate n end : ℕ) → gate + 1 + n ≤ end → Fills g old new (gate + 1) n → DiffersAt g new shape (λ p. (gate < p) × (p < end))
     behind_differs gate n end within fills =
         differs_wider new (λ p. (gate + 1 ≤ p) × (p < gate + 1 + n)) (λ p. (gate < p) × (p < end))

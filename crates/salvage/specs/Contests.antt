@@ -54,7 +54,7 @@ taken_start shape gate = half_start shape (taken_half shape gate)
 abbrev pub taken_end : Shape → ℕ → ℕ
 taken_end shape gate = taken_start shape gate + half_length shape
 
--- The place is that of the first fault or behind it, in the half whose records stand.
+-- The place is at the first fault or after it, in the half whose records hold.
 pub record IsBehind (shape : Shape) (gate place : ℕ) : Type 0 where
   pub within : taken_start shape gate < gate
   pub from : gate ≤ place

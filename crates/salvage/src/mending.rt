@@ -130,7 +130,8 @@ fn is_head(bytes: &[u8]) -> bool {
         && length % 16 == 0
 }
 
-// Whether the second half of a journal begins behind a first one of so many blocks: a header stands there, and a record behind it.
+// Whether the second half of a journal begins where a first half of `half_blocks` blocks ends: there is a header there, and a record
+// after it.
 fn is_half<S: Source>(source: &S, half_blocks: u32) -> Result<bool, OpenFault>
     ensures { IsOpenRefusal result }
 {

@@ -470,9 +470,10 @@ impl Scan {
         }
     }
 
-    /// Reads the records of a half if its gate is not closed. The first begins behind the header, and the next one behind each that
-    /// reads. If none reads there, it may begin 16 bytes on. The end of the half ends them. A closed gate does too, if it follows the
-    /// header, the first record or two in a row: within a faulty record, one of 16 bytes may seem to stand.
+    /// Reads the records of a half if its gate is not closed. The first record begins where the header ends, and each next record
+    /// where the one before it ends. If no record can be read there, it may begin 16 bytes later. The records end with the half. They
+    /// also end at a closed gate that follows the header, the first record or two records in a row: 16 bytes within a faulty record
+    /// may look like a record.
     pub(crate) fn read_half(
         &mut self,
         alloc: Global,

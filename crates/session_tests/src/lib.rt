@@ -15,6 +15,8 @@ mod failing;
 #[cfg(test)]
 mod images;
 #[cfg(test)]
+mod meanwhile;
+#[cfg(test)]
 mod reasons;
 #[cfg(test)]
 mod retiring;

@@ -2,7 +2,7 @@
 use crate::archives::{fresh, named, opened, tells, told};
 use disk_model::{Disk, MemDisk, OneFault, Pick};
 use inspector_cli::{
-    Input, LifeFault, Naming, Output, ReadInput, StoreOptions, StoreOutcome, WriteOutput,
+    Input, LifeFault, Naming, Order, Output, ReadInput, StoreOptions, StoreOutcome, WriteOutput,
     line_stream, open_and_store,
 };
 use intake::Settings;
@@ -32,6 +32,7 @@ fn store<I: Input, O: Output, D: Disk>(
         label: None,
         pin: false,
         fit: false,
+        order: Order::Oldest,
         cut: None,
         length: None,
         burst: None,

@@ -4,3 +4,5 @@ pub mod SteadyLaws
 pub mod Front
 pub mod Looks
 pub mod Lockless
+pub mod Scripted
+pub mod ScriptedLaws

@@ -3,11 +3,13 @@
 
 mod lockless;
 mod looked;
+mod scripted_share;
 mod shared;
 mod shared_file;
 mod unlocked;
 
 pub use looked::Looked;
+pub use scripted_share::ScriptedShare;
 pub use shared::{LookFault, SharedDisk};
 pub use shared_file::SharedFile;
 pub use unlocked::Unlocked;

@@ -76,7 +76,7 @@ impl<'a, S: SharedDisk> Unlocked<'a, S> {
 }
 
 // Copies the bytes from place `at` on.
-fn copy_part(front: &[u8], at: usize, into: &mut [u8])
+pub(crate) fn copy_part(front: &[u8], at: usize, into: &mut [u8])
     requires { at + length into.old ≤ length front.now }
     ensures { into.new ≡ part front.now at (length into.old) }
 {

@@ -20,9 +20,12 @@ pub struct Work {
 }
 
 /// Tells what is done of a piece of work after so many milliseconds: the bytes, and their rate; if it is known how many there are,
-/// the share of them and the time that is left, too.
+/// the share of them and the time that is left, too. Of work that has no bytes so far, and may have none, it tells the name alone.
 pub fn tell_work<O: Output>(reply: &mut Reply<'_, O>, work: Work, millis: u64) {
     reply.tell(work.name.as_bytes());
+    if work.whole.is_none() && work.done == 0 {
+        return;
+    }
     reply.tell(b" ");
     tell_size(reply, work.done);
     if let Some(whole) = work.whole {

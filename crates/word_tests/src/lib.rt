@@ -1,8 +1,10 @@
-//! Tests of the streams of a script, of the lines that may be asked, of policies, and of how far a command is.
+//! Tests of the streams of a script, of the lines that may be asked, of policies, of how far a command is, and of what is mounted.
 #![tactic(auto)]
 
 #[cfg(test)]
 mod asking;
+#[cfg(test)]
+mod mounts;
 #[cfg(test)]
 mod policies;
 #[cfg(test)]

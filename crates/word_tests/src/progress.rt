@@ -63,7 +63,7 @@ const TROUBLE: Trouble = Trouble {
 type Row = (&'static str, Option<u64>, u64, u64, &'static str);
 
 static ROWS: [Row; 8] = [
-    ("stores", None, 0, 1_000, "stores 0 B, 0 B/s"),
+    ("stores", None, 0, 1_000, "stores"),
     (
         "stores",
         None,

@@ -1,4 +1,4 @@
-use Rattle.std.proofs.Common.{◌≡◌, ◌∙◌, inl, inr, ⊎_elim, subst, sym}
+use Rattle.std.proofs.Common.{◌∙◌, inl, inr, ⊎_elim, subst, sym}
 use Rattle.salvage.specs.Mending.{MendsArchive}
 use Rattle.archive_files.proofs.salvaging.salvage_mended.Goals as goal
 

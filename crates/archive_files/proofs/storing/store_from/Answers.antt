@@ -1,4 +1,4 @@
-use Rattle.std.proofs.Common.{inl, inr, refl, rules}
+use Rattle.std.proofs.Common.{inr, refl, rules}
 use Rattle.archive_files.proofs.storing.store_from.Goals as goal
 
 pub returns : goal.returns
@@ -7,7 +7,7 @@ returns g c = inr (
   _,
   c.fitted-request.ensures.fitted,
   record {
-    input = search (c.fitted-request.ensures.same, c.in-Ok.ensures.inner, c.new-file.ensures.remaining, rules);
+    input = search (c.fitted-request.ensures.same, c.in-Ok.ensures.inner, c.in-Ok.ensures.empty, c.in-Ok.ensures.unfilled, c.in-Ok.ensures.capacity, c.new-file.ensures.remaining, rules);
     fails = c.new-file.ensures.failures;
     taken = refl;
     taken' = refl;

@@ -6,8 +6,8 @@ use Rattle.case_screens.specs.Core.{notes_in}
 use Rattle.case_info.proofs.FrontLemmas.{first_same, notes_same, read_as, says_same}
 use Rattle.case_info.proofs.front.core_in.Goals as goal
 
-pub returns : goal.returns
-returns c = λ image is.
+pub returns-clause-says : goal.returns-clause-says
+returns-clause-says c = λ image is.
     let front = c.args.front.now in
     let first = c.split_at.ensures.front ∙ ap (λ n. take n front) c.min.ensures ∙ first_same Core front image is in
     record {
@@ -16,3 +16,6 @@ returns c = λ image is.
       whole_is = c.whole_length.ensures ∙ ap whole_length first;
       unread_is = c.unread_notes.ensures ∙ ap unread_notes first;
     }
+
+pub returns-clause-bytes : goal.returns-clause-bytes
+returns-clause-bytes c = c.read.ensures.image

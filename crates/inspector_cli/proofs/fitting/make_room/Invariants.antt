@@ -7,8 +7,8 @@ use Rattle.inspector_cli.proofs.fitting.make_room.Given as goal
 
 abbrev pub invariant-loop-is_gone : goal.invariant-loop-is_gone
 invariant-loop-is_gone g l = record {
-  went : (begun : Parts g.row.D.Denot) (so_far : List ℕ) (gone : List (Going g.row.D.Denot)) → TakesWhile g.D.Disk begun so_far gone (Ok tt) l.fn.archive
-      → (more : List (Going g.row.D.Denot)) × TellsText (telling g.O.Output l.fn.reply l.reply) (flat_map going_text more) × TakesWhile g.D.Disk begun so_far (gone ++ more) (Ok tt) l.archive;
+  went : (begun : Parts g.row.D.Denot) (so_far : List ℕ) (gone : List (Going g.row.D.Denot)) → TakesWhile g.D.Disk l.fn.order begun so_far gone (Ok tt) l.fn.archive
+      → (more : List (Going g.row.D.Denot)) × TellsText (telling g.O.Output l.fn.reply l.reply) (flat_map going_text more) × TakesWhile g.D.Disk l.fn.order begun so_far (gone ++ more) (Ok tt) l.archive;
   served : IsServed (state_of l.fn.archive) → IsServed (state_of l.archive);
 }
 

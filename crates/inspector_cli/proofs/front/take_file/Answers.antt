@@ -13,7 +13,7 @@ pub returns-in_err-count-clause-all : goal.returns-in_err-count-clause-all
 returns-in_err-count-clause-all g c =
     let p = err_from_is_err_and c.from_residual.result c.from_residual.ensures.1 in
     let i = c.loop.invariant in
-    rw (p.1, p.2) (file_stopped g.D.Disk c.args.fit (g.I.Input.remaining c.args.file.now) (g.I.Input.remaining c.loop.file) (g.I.Input.remaining c.take_step.new.file)
+    rw (p.1, p.2) (file_stopped g.D.Disk c.args.order c.args.fit (g.I.Input.remaining c.args.file.now) (g.I.Input.remaining c.loop.file) (g.I.Input.remaining c.take_step.new.file)
     (g.I.Input.failures c.args.file.now) (g.I.Input.failures c.loop.file) (g.I.Input.failures c.take_step.new.file)
     (sink g.O.Output c.args.reply.now) (sink g.O.Output c.loop.reply) (sink g.O.Output c.take_step.new.reply)
     c.args.archive.now c.loop.archive c.take_step.new.archive c.loop.counter c.args.length
@@ -22,7 +22,7 @@ returns-in_err-count-clause-all g c =
 pub returns-then-count-eq0-clause-all : goal.returns-then-count-eq0-clause-all
 returns-then-count-eq0-clause-all g c =
     let i = c.loop.invariant in
-    file_ended g.D.Disk c.args.fit (g.I.Input.remaining c.args.file.now) (g.I.Input.remaining c.loop.file) (g.I.Input.remaining c.take_step.new.file)
+    file_ended g.D.Disk c.args.order c.args.fit (g.I.Input.remaining c.args.file.now) (g.I.Input.remaining c.loop.file) (g.I.Input.remaining c.take_step.new.file)
     (g.I.Input.failures c.args.file.now) (g.I.Input.failures c.loop.file) (g.I.Input.failures c.take_step.new.file)
     (sink g.O.Output c.args.reply.now) (sink g.O.Output c.loop.reply) (sink g.O.Output c.take_step.new.reply)
     c.args.archive.now c.loop.archive c.take_step.new.archive c.loop.counter c.args.length
@@ -49,7 +49,7 @@ loop-init g c = record {
 pub loop-preserved : goal.loop-preserved
 loop-preserved g c =
     let i = c.loop.invariant in
-    let w = file_went_on g.D.Disk c.args.fit (g.I.Input.remaining c.args.file.now) (g.I.Input.remaining c.loop.file) (g.I.Input.remaining c.take_step.new.file)
+    let w = file_went_on g.D.Disk c.args.order c.args.fit (g.I.Input.remaining c.args.file.now) (g.I.Input.remaining c.loop.file) (g.I.Input.remaining c.take_step.new.file)
     (g.I.Input.failures c.args.file.now) (g.I.Input.failures c.loop.file) (g.I.Input.failures c.take_step.new.file)
     (sink g.O.Output c.args.reply.now) (sink g.O.Output c.loop.reply) (sink g.O.Output c.take_step.new.reply)
     c.args.archive.now c.loop.archive c.take_step.new.archive c.loop.counter c.args.length
@@ -72,11 +72,11 @@ loop-preserved g c =
 pub returns-in_err-count-clause-served : goal.returns-in_err-count-clause-served
 returns-in_err-count-clause-served g c = λ fits was.
     let p = err_from_is_err_and c.from_residual.result c.from_residual.ensures.1 in
-    rw (p.1, p.2) (stop_as ℕ (Unit {0}) (state_of c.take_step.new.archive) c.in_err-count.field-0.0 (c.in_err-count.ensures.served fits (c.loop.invariant.served fits was)))
+    rw (p.1, p.2) (stop_as c.args.order ℕ (Unit {0}) (state_of c.take_step.new.archive) c.in_err-count.field-0.0 (c.in_err-count.ensures.served fits (c.loop.invariant.served fits was)))
 
 pub returns-then-count-eq0-clause-served : goal.returns-then-count-eq0-clause-served
 returns-then-count-eq0-clause-served g c = λ fits was.
-    end_serves_all c.args.length c.loop.taken (state_of c.take_step.new.archive) c.end_at.result c.end_at.ensures (c.in_ok-count.ensures.served fits (c.loop.invariant.served fits was))
+    end_serves_all c.args.order c.args.length c.loop.taken (state_of c.take_step.new.archive) c.end_at.result c.end_at.ensures (c.in_ok-count.ensures.served fits (c.loop.invariant.served fits was))
 
 pub returns-then-count-eq0-clause-well : goal.returns-then-count-eq0-clause-well
 returns-then-count-eq0-clause-well g c = end_well c.args.fit c.args.cut c.args.length c.loop.taken (state_of c.take_step.new.archive) c.end_at.result c.end_at.ensures

@@ -14,7 +14,7 @@ invariant-loop g l = record {
   consumed : Consumes (g.I.Input.remaining l.initial.file) (g.I.Input.remaining l.file) raw;
   counted : l.counter ≤ length raw;
   failures : g.I.Input.failures l.file ≡ g.I.Input.failures l.initial.file;
-  takes : TakesWhile g.D.Disk l.fn.archive raw gone (Ok tt) l.archive;
+  takes : TakesWhile g.D.Disk l.fn.order l.fn.archive raw gone (Ok tt) l.archive;
   unasked : l.fn.fit ≡ false → gone ≡ [];
   length : l.taken ≡ length raw;
   within : IsWithin l.fn.cut l.taken;

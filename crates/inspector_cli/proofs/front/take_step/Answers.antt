@@ -6,10 +6,10 @@ use Rattle.inspector_cli.proofs.front.take_step.Goals as goal
 
 pub returns-then-is_reached-clause-next : goal.returns-then-is_reached-clause-next
 returns-then-is_reached-clause-next g c = λ begun so_far gone takes.
-    look_next g.D.Disk (g.I.Input.remaining c.args.file.now) (g.I.Input.remaining c.look_past.new.file) (g.I.Input.failures c.args.file.now) (g.I.Input.failures c.look_past.new.file)
+    look_next g.D.Disk c.args.order (g.I.Input.remaining c.args.file.now) (g.I.Input.remaining c.look_past.new.file) (g.I.Input.failures c.args.file.now) (g.I.Input.failures c.look_past.new.file)
     begun c.args.archive.now c.args.archive.now c.args.archive.now so_far gone c.args.fit (Length Long) tt (sink g.O.Output c.args.reply.now) c.look_past.result takes c.look_past.ensures
 
 pub returns-then-is_reached-2-clause-next : goal.returns-then-is_reached-2-clause-next
 returns-then-is_reached-2-clause-next g c = λ begun so_far gone takes.
-    look_next g.D.Disk (g.I.Input.remaining c.args.file.now) (g.I.Input.remaining c.look_past-then-is_reached-2.new.file) (g.I.Input.failures c.args.file.now) (g.I.Input.failures c.look_past-then-is_reached-2.new.file)
+    look_next g.D.Disk c.args.order (g.I.Input.remaining c.args.file.now) (g.I.Input.remaining c.look_past-then-is_reached-2.new.file) (g.I.Input.failures c.args.file.now) (g.I.Input.failures c.look_past-then-is_reached-2.new.file)
     begun c.args.archive.now c.args.archive.now c.args.archive.now so_far gone c.args.fit (Cut c.args.taken) tt (sink g.O.Output c.args.reply.now) c.look_past-then-is_reached-2.result takes c.look_past-then-is_reached-2.ensures

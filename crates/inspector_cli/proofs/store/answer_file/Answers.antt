@@ -15,7 +15,7 @@ pub returns-in-Err-File : goal.returns-in-Err-File
 returns-in-Err-File g c =
     let t = rw c.in-Err-File.field-0-is at c.in-Err-File.ensures.all in (
       flat_map going_text t.0 ++ no_reply (codes "File"),
-      (t.0, None, c.fill_stream.new.archive, no_reply (codes "File"), refl, t.3, (Err File, t.2, (refl, refl, refl), refl), λ fits was. file_unspent (state_of c.fill_stream.new.archive), t.4),
+      (t.0, None, c.fill_stream.new.archive, no_reply (codes "File"), refl, t.3, (Err File, t.2, (refl, refl, refl), refl), λ fits was. file_unspent c.args.order (state_of c.fill_stream.new.archive), t.4),
       tells_then t.1 c.tell_no.ensures,
     )
 
@@ -31,7 +31,7 @@ returns-in-Err-Refused g c =
         refl,
         t.3,
         (Err (Refused c.in-Err-Refused.fault), t.2, (refl, refl, refl), refl),
-        λ fits was. refused_spent c.in-Err-Refused.fault (state_of c.fill_stream.new.archive) (rw c.in-Err-Refused.field-0-is at (c.in-Err-Refused.ensures.served fits was)),
+        λ fits was. refused_spent c.args.order c.in-Err-Refused.fault (state_of c.fill_stream.new.archive) (rw c.in-Err-Refused.field-0-is at (c.in-Err-Refused.ensures.served fits was)),
         t.4,
       ),
       tells_then t.1 (tells_as (ap no_reply c.reason.ensures) c.tell_no-in-Err-Refused.ensures),
@@ -49,7 +49,7 @@ returns-in-Err-Length g c =
         refl,
         t.3,
         (Err (Length c.in-Err-Length.fault), t.2, (refl, refl, refl), refl),
-        λ fits was. length_unspent c.in-Err-Length.fault (state_of c.fill_stream.new.archive),
+        λ fits was. length_unspent c.args.order c.in-Err-Length.fault (state_of c.fill_stream.new.archive),
         t.4,
       ),
       tells_then t.1 (tells_as (ap no_reply c.length_reason.ensures) c.tell_no-in-Err-Length.ensures),
@@ -68,7 +68,7 @@ returns-in-Ok g c =
         t.3,
         (Ok tt, t.2, c.answer_end.ensures.1, refl),
         λ fits was. (let s = c.in-Ok.ensures.served fits was in let e = c.answer_end.ensures.1 in
-            rw e.2 (ended_spent (state_of c.fill_stream.new.archive) (state_of c.answer_end.new.archive) e.0 s.0 s.1 e.1.step)),
+            rw e.2 (ended_spent c.args.order (state_of c.fill_stream.new.archive) (state_of c.answer_end.new.archive) e.0 s.0 s.1 e.1.step)),
         t.4,
       ),
       tells_then t.1 c.answer_end.ensures.2,
@@ -88,7 +88,7 @@ returns-in-Err-Cut g c =
         t.3,
         (Err (Cut c.in-Err-Cut.kept), t.2, a.1.2, refl),
         λ fits was. (let s = rw c.in-Err-Cut.field-0-is at (c.in-Err-Cut.ensures.served fits was) in let e = a.1.2 in
-            rw e.2 (ended_spent (state_of c.fill_stream.new.archive) (state_of c.answer_front.new.archive) e.0 s.0 s.1 e.1.step)),
+            rw e.2 (ended_spent c.args.order (state_of c.fill_stream.new.archive) (state_of c.answer_front.new.archive) e.0 s.0 s.1 e.1.step)),
         t.4,
       ),
       tells_then t.1 a.2,

@@ -1,0 +1,55 @@
+// The kind of the file system that an archive lies on, if it is one to be known of.
+ghost use Rattle.script_streams.specs.Replies.{TellsText, telling};
+ghost use Rattle.archive_files.specs.FileSystems.{kind_words};
+
+use crate::collected::Collected;
+use mount_table::{concern_of, device_text, kind_of};
+use script_streams::{Output, Reply};
+use std::fs;
+use std::fs::File;
+use std::os::unix::fs::MetadataExt;
+use std::rt::Files;
+
+// Where Linux tells what is mounted (proc_pid_mountinfo(5)).
+const MOUNTS: &str = "/proc/self/mountinfo";
+
+/// Notes what is to be known of the file system that a file lies on: its kind, and what it does not give. Nothing is noted if the system
+/// does not tell what is mounted.
+pub fn note_file_system<R: AllocGlobal + Files<File = File>>(
+    rt: &R,
+    path: &str,
+    note: &mut Collected,
+) {
+    let Ok(mounts) = fs::read(rt, MOUNTS) else {
+        return;
+    };
+    let Some(kind) = kind_under(rt, &mounts, path) else {
+        return;
+    };
+    let mut reply = Reply::new(note);
+    tell_kind(&mut reply, kind);
+    let _ = reply.finish();
+}
+
+// The kind of the file system that a file lies on, by what is mounted.
+fn kind_under<'a, R: AllocGlobal + Files<File = File>>(
+    rt: &R,
+    mounts: &'a [u8],
+    path: &str,
+) -> Option<&'a [u8]> {
+    let about = fs::metadata(rt, path).ok()?;
+    let whole = fs::canonicalize(rt, path).ok()?;
+    let device = device_text(rt.alloc(), about.dev()).ok()?;
+    kind_of(mounts, device.as_bytes(), whole.as_str().as_bytes())
+}
+
+// Tells a kind of file system, and what is to be known of it, if anything is.
+fn tell_kind<O: Output>(reply: &mut Reply<'_, O>, kind: &[u8])
+    ensures { TellsText (telling O.Output reply.old reply.new) (kind_words kind.now) }
+{
+    if let Some(concern) = concern_of(kind) {
+        reply.tell_text(kind);
+        reply.tell(b": ");
+        reply.tell(concern.words());
+    }
+}

@@ -1,0 +1,149 @@
+// What is found in the memory of a core as JSON.
+use crate::answer::CoreAnswers;
+use crate::files::stored_number;
+use crate::frames::frame_file;
+use crate::note_values::{hex_value, reason_value};
+use crate::reason::{core_reason, missing, no_thread};
+use crate::rows::{number_value, put_text, string_value};
+use build_replies::{BuildAnswer, verdict};
+use core_notes::Files;
+use frame_replies::{FrameAnswer, FramesAnswer, stop_fault, stop_name};
+use journal_layout::Entry;
+use memory_replies::Location;
+use script_words::{print_hex_row, print_hexadecimal};
+use serde_json::{Map, Value, put};
+use std::alloc::{AllocError, Global};
+use unwind::Stop;
+
+// Puts the frames of a thread, and why they end.
+pub(crate) fn put_frames(
+    alloc: Global,
+    map: &mut Map<String, Value>,
+    files: Option<Files<'_>>,
+    frames: &Option<FramesAnswer<'_>>,
+) -> Result<(), AllocError> {
+    let Some(answer) = frames else {
+        return put(map, alloc, "frames", reason_value(alloc, &no_thread())?);
+    };
+    let mut values = Vec::new(alloc);
+    for frame in &answer.frames {
+        let mut map = Map::new(alloc);
+        put_frame(alloc, &mut map, values.len(), frame)?;
+        put_text(
+            alloc,
+            &mut map,
+            "file",
+            frame_file(files, frame).unwrap_or(b""),
+        )?;
+        values.push(Value::Object(map))?;
+    }
+    put(map, alloc, "frames", Value::Array(values))?;
+    put_stop(alloc, map, answer.stop)
+}
+
+fn put_frame(
+    alloc: Global,
+    map: &mut Map<String, Value>,
+    row: usize,
+    frame: &FrameAnswer<'_>,
+) -> Result<(), AllocError> {
+    put(map, alloc, "frame", Value::from(row))?;
+    put(map, alloc, "pc", hex_value(alloc, frame.pc)?)?;
+    match (frame.signal, frame.function) {
+        (true, _) => put_text(alloc, map, "where", b"signal")?,
+        (false, Some(place)) => put_text(alloc, map, "where", &text_of_place(alloc, place)?)?,
+        (false, None) => put(map, alloc, "where", Value::Null)?,
+    }
+    put(map, alloc, "sp", known_value(alloc, frame.stack)?)?;
+    if row == 0 {
+        put(map, alloc, "ra", known_value(alloc, frame.returns)?)?;
+    }
+    Ok(())
+}
+
+// A place in a function; a function without a name is `-`.
+fn text_of_place(alloc: Global, place: Location<'_>) -> Result<Vec<u8>, AllocError> {
+    let mut text = Vec::new(alloc);
+    text.extend_from_slice(place.name)?;
+    if text.is_empty() {
+        text.push(b'-')?;
+    }
+    text.push(b'+')?;
+    text.extend_from_slice(print_hexadecimal(place.distance).as_slice())?;
+    Ok(text)
+}
+
+fn known_value(alloc: Global, number: Option<u64>) -> Result<Value, AllocError> {
+    match number {
+        Some(number) => hex_value(alloc, number),
+        None => Ok(Value::Null),
+    }
+}
+
+fn put_stop(alloc: Global, map: &mut Map<String, Value>, stop: Stop) -> Result<(), AllocError> {
+    let name = stop_name(stop).as_bytes();
+    put(map, alloc, "stop", string_value(alloc, name)?)?;
+    if let Some((field, entry)) = stop_fault(stop) {
+        put(map, alloc, "field", string_value(alloc, field.as_bytes())?)?;
+        put(map, alloc, "entry", number_value(alloc, entry)?)?;
+    }
+    Ok(())
+}
+
+// The mapped files, with the case of each that is stored, or why they are not shown.
+pub(crate) fn files_value(
+    alloc: Global,
+    cases: &[Entry],
+    answers: &CoreAnswers<'_, '_>,
+) -> Result<Value, AllocError> {
+    match (&answers.core, answers.builds) {
+        (Err(fault), _) => reason_value(alloc, &core_reason(*fault)),
+        (Ok(_), Some(rows)) => rows_value(alloc, cases, rows),
+        (Ok(_), None) => reason_value(alloc, &missing()),
+    }
+}
+
+fn rows_value(
+    alloc: Global,
+    cases: &[Entry],
+    rows: &[BuildAnswer<'_>],
+) -> Result<Value, AllocError> {
+    let mut values = Vec::new(alloc);
+    for row in rows {
+        let mut map = Map::new(alloc);
+        put_file(alloc, &mut map, cases, row)?;
+        values.push(Value::Object(map))?;
+    }
+    Ok(Value::Array(values))
+}
+
+fn put_file(
+    alloc: Global,
+    map: &mut Map<String, Value>,
+    cases: &[Entry],
+    row: &BuildAnswer<'_>,
+) -> Result<(), AllocError> {
+    let (name, core) = (row.front.name, row.front.id());
+    put_text(alloc, map, "name", name)?;
+    put(map, alloc, "core", digits_value(alloc, core)?)?;
+    put(map, alloc, "stored", digits_value(alloc, row.stored)?)?;
+    let verdict = string_value(alloc, verdict(core, row.stored))?;
+    put(map, alloc, "verdict", verdict)?;
+    let number = match stored_number(cases, name) {
+        Some(number) => Value::from(number),
+        None => Value::Null,
+    };
+    put(map, alloc, "case", number)
+}
+
+// Hexadecimal digits, or null.
+fn digits_value(alloc: Global, bytes: Option<&[u8]>) -> Result<Value, AllocError> {
+    let Some(bytes) = bytes else {
+        return Ok(Value::Null);
+    };
+    let mut digits = Vec::new(alloc);
+    for byte in bytes {
+        digits.extend_from_slice(print_hex_row(&[*byte]).as_slice())?;
+    }
+    string_value(alloc, &digits)
+}

@@ -1,0 +1,48 @@
+// Where the files of a core are in the spool.
+use spool::{SpoolName, Stage};
+use std::alloc::{AllocError, Global};
+
+// The paths of a core's files.
+#[derive(Drop)]
+pub(crate) struct SpoolPaths {
+    // The core, once it is whole.
+    pub(crate) core: String,
+    // The core until then.
+    pub(crate) part: String,
+    // Its words.
+    pub(crate) words: String,
+}
+
+impl SpoolPaths {
+    // Those of a core that has this name in a folder.
+    pub(crate) fn of(
+        alloc: Global,
+        folder: &str,
+        name: SpoolName,
+    ) -> Result<SpoolPaths, AllocError> {
+        let core = name.core(alloc)?;
+        let part = name.part(alloc)?;
+        let words = name.words(alloc)?;
+        Ok(SpoolPaths {
+            core: path_in(alloc, folder, core.as_str())?,
+            part: path_in(alloc, folder, part.as_str())?,
+            words: path_in(alloc, folder, words.as_str())?,
+        })
+    }
+
+    // That of the core at this stage.
+    pub(crate) fn at(&self, stage: Stage) -> &str {
+        match stage {
+            Stage::Part => self.part.as_str(),
+            Stage::Whole => self.core.as_str(),
+        }
+    }
+}
+
+// The path of a file in a folder.
+pub(crate) fn path_in(alloc: Global, folder: &str, name: &str) -> Result<String, AllocError> {
+    let mut path = String::from_str(alloc, folder)?;
+    path.push_str("/")?;
+    path.push_str(name)?;
+    Ok(path)
+}

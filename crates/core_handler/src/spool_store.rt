@@ -1,0 +1,293 @@
+// A core goes from the input to the spool first, and is stored from there.
+ghost use Rattle.std.specs.Prelude.{◌≡◌, false, Err, IfOk, IfSome};
+ghost use Rattle.whole_files.specs.Whole.{IsMade};
+
+use crate::berth::{Berth, make_berth};
+use crate::handling::{HANDLER_LIMIT, HandleWords, Handler};
+use crate::line_numbers::number_in_line;
+use crate::log::Level;
+use crate::spool_paths::SpoolPaths;
+use archive_files::{ArchivePath, Collected, Failure, StoreRequest};
+use diagnostics::Onlooker;
+use disk_model::FileFault;
+use script_streams::{Output, Reply};
+use spool::{
+    CoreFiles, NotSpooled, Outcome, Room, SpoolName, Stage, Unspooled, discard, entries_in,
+    receive, rest_of, settle, taken_bytes, words_text,
+};
+use std::fs::File;
+use std::io::{Chain, Read, Seek, SeekFrom, Take};
+use std::rt::Files;
+use std::time::{Clock, Duration};
+use std::{fs, io};
+use whole_files::{NameFault, NewFile, PartFile};
+
+// Takes a core from the input into the spool, and stores it from there. One that is not in the spool then is stored as it comes: what was
+// taken of it, and the rest.
+pub(crate) fn store_by_spool<
+    R: AllocGlobal + Files<File = File> + Clock + Clone + Drop,
+    I: Read,
+    O: Output,
+    W: Onlooker,
+>(
+    rt: &R,
+    handler: &Handler<'_>,
+    folder: &str,
+    words: &HandleWords<'_>,
+    place: ArchivePath<'_>,
+    request: StoreRequest,
+    input: &mut I,
+    output: &mut O,
+    onlooker: &mut W,
+) -> Result<(), Failure> {
+    match prepare(rt, folder, words) {
+        Ok((paths, berth)) => {
+            let room = room_in(rt, handler, folder);
+            take(
+                rt, handler, place, request, &paths, berth, room, input, output, onlooker,
+            )
+        }
+        Err(why) => {
+            tell_unspooled(rt, handler, why);
+            let (ended, _) = handler.store(rt, place, "-", request, input, output, onlooker);
+            ended
+        }
+    }
+}
+
+// Makes the files of a core in the spool.
+fn prepare<'a, R: AllocGlobal + Files<File = File> + Clock>(
+    rt: &'a R,
+    folder: &str,
+    words: &HandleWords<'_>,
+) -> Result<(SpoolPaths, Berth<'a, R>), NotSpooled>
+    ensures made { IfOk result (λ b. IsMade (⟦<PartFile<'a, R> as NewFile>⟧.facts b.1.file)) }
+    ensures unsynced { IfOk result (λ b. (⟦<PartFile<'a, R> as NewFile>⟧.facts b.1.file).is_synced ≡ false) }
+{
+    let alloc = rt.alloc();
+    let no_memory = NotSpooled::File(FileFault::OutOfMemory);
+    let Ok(paths) = SpoolPaths::of(alloc, folder, spool_name(rt, words)) else {
+        return Err(no_memory);
+    };
+    let Ok(text) = words_text(alloc, &words.begin, words.length) else {
+        return Err(no_memory);
+    };
+    match make_berth(rt, &paths, &text) {
+        Ok(berth) => Ok((paths, berth)),
+        Err(why) => Err(why),
+    }
+}
+
+// The name of a core in the spool: when it came, and the number of its process.
+fn spool_name<R: Clock>(rt: &R, words: &HandleWords<'_>) -> SpoolName {
+    SpoolName {
+        stamp: nanoseconds_of(rt.since_1970()),
+        pid: number_in_line(&words.begin, b"pid=").unwrap_or(0),
+    }
+}
+
+// A time in nanoseconds since 1970; 0 if it is not known.
+fn nanoseconds_of(read: io::Result<Duration>) -> u64 {
+    match read {
+        Ok(time) => time
+            .as_secs()
+            .saturating_mul(1_000_000_000)
+            .saturating_add(u64::from(time.subsec_nanos())),
+        Err(_) => 0,
+    }
+}
+
+// How much of a core is taken: one byte more than the limit says that it is too long.
+fn room_in<R: AllocGlobal + Files<File = File> + Clone + Drop>(
+    rt: &R,
+    handler: &Handler<'_>,
+    folder: &str,
+) -> Room {
+    let limit = handler.config.limit.unwrap_or(HANDLER_LIMIT);
+    let left = match handler.config.spool_bytes {
+        Some(most) => Some(most.saturating_sub(bytes_in(rt, folder))),
+        None => None,
+    };
+    Room {
+        most: limit.saturating_add(1),
+        left,
+    }
+}
+
+// How many bytes the cores in a folder have. If it can't be read, there is no room in it.
+fn bytes_in<R: AllocGlobal + Files<File = File> + Clone + Drop>(rt: &R, folder: &str) -> u64 {
+    match entries_in(rt, folder) {
+        Ok(entries) => taken_bytes(&entries),
+        Err(_) => u64::MAX,
+    }
+}
+
+// Takes a core from the input into its file, and stores it from there; or else what was taken of it, and the rest. The lock of its file is
+// kept until then.
+fn take<'a, R: AllocGlobal + Files<File = File> + Clock, I: Read, O: Output, W: Onlooker>(
+    rt: &'a R,
+    handler: &Handler<'_>,
+    place: ArchivePath<'_>,
+    request: StoreRequest,
+    paths: &SpoolPaths,
+    berth: Berth<'a, R>,
+    room: Room,
+    input: &mut I,
+    output: &mut O,
+    onlooker: &mut W,
+) -> Result<(), Failure>
+    requires made { IsMade (⟦<PartFile<'a, R> as NewFile>⟧.facts berth.file) }
+    requires unsynced { (⟦<PartFile<'a, R> as NewFile>⟧.facts berth.file).is_synced ≡ false }
+{
+    let Berth { file, back, piece } = berth;
+    let mut file = file;
+    let mut piece = piece;
+    let taken = receive(&mut file, input, &mut piece, room);
+    let Some(unspooled) = unspooled_of(taken) else {
+        let (ended, _) = store_kept(
+            rt,
+            handler,
+            place,
+            request,
+            paths,
+            Stage::Whole,
+            output,
+            onlooker,
+        );
+        return ended;
+    };
+    tell_unspooled(rt, handler, unspooled.why);
+    let ended = match rewound(back) {
+        Ok(front) => {
+            let mut rest = Rest {
+                reader: rest_of(front, unspooled.bytes, piece.bytes(), input),
+            };
+            let (ended, _) = handler.store(rt, place, "-", request, &mut rest, output, onlooker);
+            ended
+        }
+        Err(_) => {
+            handler.tell(
+                rt,
+                Level::Error,
+                b"lost: what was spooled of it could not be read",
+            );
+            Err(Failure::Told)
+        }
+    };
+    discard(&mut file, unspooled.why);
+    let _ = fs::remove_file(rt, paths.words.as_str());
+    ended
+}
+
+// What was taken of a core, and the rest of it.
+#[derive(Drop)]
+struct Rest<'x, I: Read> {
+    reader: Chain<Chain<Take<File>, &'x [u8]>, &'x mut I>,
+}
+
+impl<'x, I: Read> Read for Rest<'x, I> {
+    ghost remaining = { λ s. ⟦<Chain<Chain<Take<File>, &'x [u8]>, &'x mut I> as Read>⟧.remaining s.reader };
+
+    fn read(&mut self, buf: &mut [u8]) -> io::Result<usize> {
+        self.reader.read(buf)
+    }
+}
+
+// A file from its first byte on.
+fn rewound(file: File) -> io::Result<File> {
+    let mut file = file;
+    file.seek(SeekFrom::Start(0))?;
+    Ok(file)
+}
+
+// Why a core is not in the spool, if it is not. One that is whole under its name is there, though that may not be durable.
+fn unspooled_of(taken: Result<u64, Unspooled>) -> Option<Unspooled>
+    ensures { IfSome result (λ u. taken ≡ Err u) }
+{
+    match taken {
+        Ok(_) => None,
+        Err(unspooled) => match unspooled.why {
+            NotSpooled::Name(NameFault::Named(_)) => None,
+            _ => Some(unspooled),
+        },
+    }
+}
+
+// Stores a core from the spool, and leaves it there or removes it, by what came of it.
+pub(crate) fn store_kept<R: AllocGlobal + Files<File = File> + Clock, O: Output, W: Onlooker>(
+    rt: &R,
+    handler: &Handler<'_>,
+    place: ArchivePath<'_>,
+    request: StoreRequest,
+    paths: &SpoolPaths,
+    stage: Stage,
+    output: &mut O,
+    onlooker: &mut W,
+) -> (Result<(), Failure>, Outcome) {
+    let waiting = handler.waiting();
+    let mut nothing: &[u8] = b"";
+    let (ended, outcome) = waiting.store(
+        rt,
+        place,
+        paths.at(stage),
+        request,
+        &mut nothing,
+        output,
+        onlooker,
+    );
+    settle_files(rt, handler, paths, stage, outcome);
+    (ended, outcome)
+}
+
+// Leaves a core in the spool or removes it, by what came of it.
+pub(crate) fn settle_files<R: AllocGlobal + Files<File = File>>(
+    rt: &R,
+    handler: &Handler<'_>,
+    paths: &SpoolPaths,
+    stage: Stage,
+    outcome: Outcome,
+) {
+    let core = paths.at(stage);
+    let Ok(files) = CoreFiles::new(rt.alloc(), rt, core, paths.words.as_str()) else {
+        return;
+    };
+    let mut files = files;
+    if settle(&mut files, outcome).is_err() {
+        let mut line = Collected::new(rt.alloc());
+        let mut reply = Reply::new(&mut line);
+        reply.tell_text(core.as_bytes());
+        reply.tell(b" can't be removed");
+        let _ = reply.finish();
+        handler.tell(rt, Level::Warning, line.text());
+    }
+}
+
+// Tells that a core is not in the spool, and why.
+fn tell_unspooled<R: Files<File = File>>(rt: &R, handler: &Handler<'_>, why: NotSpooled) {
+    let mut line = Collected::new(handler.teller.alloc);
+    let mut reply = Reply::new(&mut line);
+    reply.tell(b"not spooled: ");
+    match why {
+        NotSpooled::File(fault) => reply.tell(fault_text(fault)),
+        NotSpooled::Unwritten(FileFault::Full) => reply.tell(b"the file system is full"),
+        NotSpooled::Unwritten(_) => reply.tell(b"a write of its file failed"),
+        NotSpooled::Unread => reply.tell(b"the core could not be read"),
+        NotSpooled::Full => reply.tell(b"spool-bytes leaves no room for it"),
+        NotSpooled::Unsynced => reply.tell(b"a sync of its file failed"),
+        NotSpooled::Name(_) => reply.tell(b"its file did not get its name"),
+    }
+    let _ = reply.finish();
+    handler.tell(rt, Level::Warning, line.text());
+}
+
+// Why a file of the spool could not be made.
+fn fault_text(fault: FileFault) -> &'static [u8] {
+    match fault {
+        FileFault::Missing => b"there is no such folder",
+        FileFault::Denied => b"permission is denied",
+        FileFault::Full => b"the file system is full",
+        FileFault::OutOfMemory => b"there is no memory",
+        FileFault::Busy | FileFault::Lock => b"its file could not be locked",
+        _ => b"its file could not be made",
+    }
+}

@@ -1,0 +1,132 @@
+// A case that an archive has already under the name of a core.
+ghost use Rattle.std.specs.Prelude.{None};
+
+use archive_files::{Access, ArchivePath, Collected, extract, take_disk};
+use diagnostics::{Nobody, after_failure};
+use disk_model::Disk;
+use intake::{Archive, Settings};
+use script_streams::{Output, Reply, StreamFault};
+use std::alloc::Global;
+use std::fs::File;
+use std::os::unix::fs::FileExt;
+use std::rt::Files;
+use std::time::Clock;
+
+// How many bytes are compared at a time.
+const CHUNK: usize = 4096;
+
+// What an archive has under the name of a core.
+#[derive(Clone, Copy, Debug, PartialEq, Eq)]
+pub(crate) enum Twin {
+    // No case; or that can't be told.
+    None,
+    // A case with its bytes.
+    Same,
+    // Another case.
+    Other,
+}
+
+// What is found of a case by its name.
+#[derive(Clone, Copy, Debug, PartialEq, Eq)]
+struct Found {
+    seq: u32,
+    length: u64,
+}
+
+// An output that compares what it takes with a file.
+#[derive(Drop)]
+struct Comparison<'a> {
+    file: &'a File,
+    at: u64,
+    is_same: bool,
+    failures: u64,
+}
+
+impl Output for Comparison<'_> {
+    ghost taken = { λ s. None };
+
+    ghost failures = { λ s. s.failures };
+
+    fn write(&mut self, from: &[u8]) -> Result<usize, StreamFault> {
+        let mut bytes = [0u8; CHUNK];
+        let size = if from.len() < CHUNK {
+            from.len()
+        } else {
+            CHUNK
+        };
+        let read = self.file.read_exact_at(&mut bytes[..size], self.at);
+        if read.is_err() || bytes[..size] != from[..size] {
+            self.is_same = false;
+            self.failures = after_failure(self.failures);
+            return Err(StreamFault);
+        }
+        self.at = self.at.saturating_add(size as u64);
+        Ok(size)
+    }
+}
+
+// What an archive has under this name, as it prints, beside a core that is in this file and has so many bytes.
+pub(crate) fn twin_of<R: AllocGlobal + Files<File = File> + Clock>(
+    rt: &R,
+    place: ArchivePath<'_>,
+    name: &[u8],
+    file: &File,
+    bytes: u64,
+) -> Twin {
+    let Ok(disk) = take_disk(rt, place, Access::Looking, &mut Nobody) else {
+        return Twin::None;
+    };
+    let Some(found) = case_named(rt.alloc(), disk, name) else {
+        return Twin::None;
+    };
+    if found.length == bytes && has_bytes(rt, place, found.seq, file) {
+        Twin::Same
+    } else {
+        Twin::Other
+    }
+}
+
+// The case of this name in the archive on a disk.
+fn case_named<D: Disk + Drop>(alloc: Global, disk: D, name: &[u8]) -> Option<Found> {
+    let Ok(archive) = Archive::open(alloc, disk, Settings { limit: 0 }) else {
+        return None;
+    };
+    let entries = archive.cases().ok()?;
+    for entry in entries {
+        if printed(alloc, entry.name.as_slice()).text() == name {
+            let seq = entry.seq;
+            let length = entry.length;
+            return Some(Found { seq, length });
+        }
+    }
+    None
+}
+
+// A name as it prints.
+fn printed(alloc: Global, name: &[u8]) -> Collected {
+    let mut text = Collected::new(alloc);
+    let mut reply = Reply::new(&mut text);
+    reply.tell_text(name);
+    let _ = reply.finish();
+    text
+}
+
+// Whether the image of a case has the bytes of a file.
+fn has_bytes<R: AllocGlobal + Files<File = File>>(
+    rt: &R,
+    place: ArchivePath<'_>,
+    seq: u32,
+    file: &File,
+) -> bool {
+    let Ok(case) = format!(in rt.alloc(); "{seq}") else {
+        return false;
+    };
+    let mut comparison = Comparison {
+        file,
+        at: 0,
+        is_same: true,
+        failures: 0,
+    };
+    let copied = extract(rt, place, case.as_str(), None, &mut comparison, &mut Nobody);
+    copied.is_ok() && comparison.is_same
+}

@@ -1,0 +1,9 @@
+pub mod Concerns
+pub mod Devices
+pub mod Lines
+pub mod MountWords
+pub mod Nearest
+pub mod Pieces
+pub mod PiecesLeft
+pub mod PointLaws
+pub mod Points

@@ -1,0 +1,3 @@
+pub mod PieceLemmas
+pub mod StreamLemmas
+pub mod WordsLemmas

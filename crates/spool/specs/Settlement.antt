@@ -1,0 +1,26 @@
+-- What is known of a core in the spool after each call.
+use Rattle.std.specs.Prelude.{◌≡◌, Bool, not, ◌&&◌, Option, Some, None}
+use Rattle.spool.specs.declared.outcomes.Outcome.{Outcome}
+use Rattle.spool.specs.declared.settlement.SpooledFacts.{SpooledFacts}
+use Rattle.spool.specs.declared.fate.Fate.TheVariants.{Go}
+use Rattle.spool.specs.Spools.{spools}
+
+-- this came of it
+abbrev pub told : Outcome → SpooledFacts → SpooledFacts
+told outcome f = record f { outcome = Some outcome }
+
+-- its core was removed, and this is whether that succeeded
+abbrev pub core_removed_if : Bool → SpooledFacts → SpooledFacts
+core_removed_if good f = record f { has_core = f.has_core && not good }
+
+-- its words were removed, and this is whether that succeeded
+abbrev pub words_removed_if : Bool → SpooledFacts → SpooledFacts
+words_removed_if good f = record f { has_words = f.has_words && not good }
+
+-- the outcome is known, and lets it go
+abbrev pub goes_after : Option Outcome → Type 0
+goes_after None = ⊥
+goes_after (Some outcome) = spools outcome ≡ Go
+
+abbrev pub IsLetGo : SpooledFacts → Type 0
+IsLetGo f = goes_after f.outcome

@@ -1,0 +1,36 @@
+// What a folder has of the spool.
+ghost use Rattle.std.specs.Prelude.{◌≡◌, min, ◌^◌, ◌-◌, IsPermutation};
+ghost use Rattle.std.specs.List.Sorted.{IsNonDecreasingBy};
+ghost use Rattle.spool.specs.Entries.{bytes_sum};
+
+use crate::spool_name::{SpoolName, Stage};
+
+/// A core that a folder has.
+#[derive(Clone, Copy, Debug, PartialEq, Eq)]
+pub struct Entry {
+    /// Its name.
+    pub name: SpoolName,
+    /// Whether it is whole.
+    pub stage: Stage,
+    /// How many bytes its file has.
+    pub bytes: u64,
+}
+
+/// How many bytes the files of cores have together, or 2^64 - 1 if that are more.
+pub fn taken_bytes(entries: &[Entry]) -> u64
+    ensures { result ≡ min (bytes_sum entries.now) (2 ^ 64 - 1) }
+{
+    let mut sum = 0u64;
+    for entry in entries {
+        sum = sum.saturating_add(entry.bytes);
+    }
+    sum
+}
+
+/// Puts those that came first in front.
+pub fn oldest_first(entries: &mut [Entry])
+    ensures same { IsPermutation entries.old entries.new }
+    ensures order { IsNonDecreasingBy (λ e. e.name.stamp) entries.new }
+{
+    entries.sort_unstable_by_key(|entry| entry.name.stamp);
+}

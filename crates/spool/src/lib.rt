@@ -1,0 +1,29 @@
+//! A core goes to a spool first, a folder in which it waits for its archive: how it gets there, what of it stays after it was to be stored, and
+//! what a folder has.
+#![tactic(auto)]
+
+mod core_files;
+mod entries;
+mod fate;
+mod folder;
+mod kept_words;
+mod laws;
+mod outcomes;
+mod piece;
+mod reception;
+mod settlement;
+mod spool_name;
+mod stream;
+
+pub use core_files::CoreFiles;
+pub use entries::{Entry, oldest_first, taken_bytes};
+pub use fate::{Fate, fate_of};
+pub use folder::{FolderFault, entries_in, folder_fault};
+pub use kept_words::{read_words, words_text};
+pub use laws::only_what_is_done_goes;
+pub use outcomes::{Outcome, outcome_of};
+pub use piece::Piece;
+pub use reception::{NotSpooled, Room, Unspooled, begin_part, discard, receive, rest_of};
+pub use settlement::{Spooled, SpooledFacts, settle};
+pub use spool_name::{SpoolName, Stage};
+pub use stream::{End, Passed, pass_on};

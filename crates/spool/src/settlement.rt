@@ -1,0 +1,64 @@
+// What stays of a core after it was to be stored, and what goes.
+ghost use Rattle.std.specs.Prelude.{◌≡◌, is_ok, false, OnOk, IfOk};
+ghost use Rattle.spool.specs.Settlement.{told, core_removed_if, words_removed_if, IsLetGo};
+ghost use Rattle.spool.specs.Spools.{spools};
+ghost use Rattle.spool.specs.declared.fate.Fate.TheVariants.{Stay, Go};
+ghost use Rattle.spool.specs.declared.settlement.SpooledFacts.{SpooledFacts};
+
+use crate::fate::{Fate, fate_of};
+use crate::outcomes::Outcome;
+use std::io;
+
+/// What is known of a core in the spool, by the calls that were made on its files.
+#[derive(Clone, Copy)]
+pub struct SpooledFacts {
+    /// What came of it when it was to be stored the last time.
+    pub outcome: Option<Outcome>,
+    /// The removal of its core was never asked for, or has failed.
+    pub has_core: bool,
+    /// The removal of its words was never asked for, or has failed.
+    pub has_words: bool,
+}
+
+/// A core in the spool: its file and that of its words. Each method is one call of the operating system, or a note. The `requires` say what has to
+/// have come before: a core is removed only after an outcome that lets it go, and its words after it, so that a core always has its words.
+pub trait Spooled {
+    /// What is known of it.
+    ghost facts: { Self → SpooledFacts };
+
+    /// Notes what came of it when it was to be stored.
+    fn tell(&mut self, outcome: Outcome)
+        ensures told { facts self.new ≡ told outcome (facts self.old) };
+
+    /// Removes the core.
+    fn remove_core(&mut self) -> io::Result<()>
+        requires done { IsLetGo (facts self.old) }
+        ensures facts { facts self.new ≡ core_removed_if (is_ok result) (facts self.old) };
+
+    /// Removes its words.
+    fn remove_words(&mut self) -> io::Result<()>
+        requires alone { (facts self.old).has_core ≡ false }
+        ensures facts { facts self.new ≡ words_removed_if (is_ok result) (facts self.old) };
+}
+
+/// Leaves a core in the spool or removes it, by what came of it when it was to be stored, and says which.
+///
+/// # Errors
+///
+/// Those of the system: the core was to be removed, and is not, or its words are still there.
+pub fn settle<S: Spooled>(spooled: &mut S, outcome: Outcome) -> io::Result<Fate>
+    ensures fate { IfOk result (λ fate. fate ≡ spools outcome) }
+    ensures stays { spools outcome ≡ Stay → S.facts spooled.new ≡ told outcome (S.facts spooled.old) }
+    ensures core { spools outcome ≡ Go → OnOk result ((S.facts spooled.new).has_core ≡ false) }
+    ensures words { spools outcome ≡ Go → OnOk result ((S.facts spooled.new).has_words ≡ false) }
+{
+    spooled.tell(outcome);
+    match fate_of(outcome) {
+        Fate::Stay => Ok(Fate::Stay),
+        Fate::Go => {
+            spooled.remove_core()?;
+            spooled.remove_words()?;
+            Ok(Fate::Go)
+        }
+    }
+}

@@ -1,0 +1,82 @@
+// The names that the files of a core have in the spool.
+ghost use Rattle.std.specs.Prelude.{◌≡◌, IfOk, IfSome, string_bytes};
+ghost use Rattle.spool.specs.Names as spec;
+
+use script_words::parse_number;
+use std::alloc::{AllocError, Global};
+
+/// How far a core is: its file has another name until it is whole.
+#[derive(Clone, Copy, Debug, PartialEq, Eq)]
+pub enum Stage {
+    /// It is on its way, or was cut on it.
+    Part,
+    /// It is whole.
+    Whole,
+}
+
+/// The name of a core in the spool, without its end: `STAMP.PID`.
+#[derive(Clone, Copy, Debug, PartialEq, Eq)]
+pub struct SpoolName {
+    /// When it came, in nanoseconds since 1970.
+    pub stamp: u64,
+    /// The number of its process.
+    pub pid: u64,
+}
+
+impl SpoolName {
+    /// The name of its core once that is whole.
+    pub fn core(self, alloc: Global) -> Result<String, AllocError>
+        ensures { IfOk result (λ name. string_bytes name ≡ spec.core_name self) }
+    {
+        format!(in alloc; "{}.{}.core", self.stamp, self.pid)
+    }
+
+    /// The name of its core until then.
+    pub fn part(self, alloc: Global) -> Result<String, AllocError>
+        ensures { IfOk result (λ name. string_bytes name ≡ spec.part_name self) }
+    {
+        format!(in alloc; "{}.{}.core.part", self.stamp, self.pid)
+    }
+
+    /// The name of its words.
+    pub fn words(self, alloc: Global) -> Result<String, AllocError>
+        ensures { IfOk result (λ name. string_bytes name ≡ spec.words_name self) }
+    {
+        format!(in alloc; "{}.{}.words", self.stamp, self.pid)
+    }
+
+    /// What has this name, if a core has it. A file of any other name is none of the spool's.
+    pub fn read(alloc: Global, name: &str) -> Option<(SpoolName, Stage)>
+        ensures { IfSome result (λ found. name.now ≡ spec.name_of found.0 found.1) }
+    {
+        let found = read_loosely(name)?;
+        let written = written(alloc, found.0, found.1).ok()?;
+        if written.as_str() == name {
+            Some(found)
+        } else {
+            None
+        }
+    }
+}
+
+// The name of a core at this stage.
+fn written(alloc: Global, name: SpoolName, stage: Stage) -> Result<String, AllocError>
+    ensures { IfOk result (λ text. string_bytes text ≡ spec.name_of name stage) }
+{
+    match stage {
+        Stage::Part => name.part(alloc),
+        Stage::Whole => name.core(alloc),
+    }
+}
+
+// What may have this name.
+fn read_loosely(name: &str) -> Option<(SpoolName, Stage)> {
+    let (front, stage) = match name.strip_suffix(".core.part") {
+        Some(front) => (front, Stage::Part),
+        None => (name.strip_suffix(".core")?, Stage::Whole),
+    };
+    let (stamp, pid) = front.split_once('.')?;
+    let stamp = parse_number(stamp.as_bytes())?;
+    let pid = parse_number(pid.as_bytes())?;
+    Some((SpoolName { stamp, pid }, stage))
+}
