@@ -1,7 +1,7 @@
 -- What an error of a part tells of the whole.
-use Rattle.std.proofs.Common.{◌≡◌, ℕ, ◌+◌, ◌-◌, ◌*◌, Bool, true, false, List, [], ◌∷◌, length, cond, Option, Some, None, Result, Ok, Err, sym, ap, subst}
+use Rattle.std.proofs.Common.{◌≡◌, ℕ, ◌+◌, ◌-◌, ◌*◌, Bool, true, false, List, [], ◌∷◌, length, cond, Option, Some, None, Result, Ok, Err, refl, sym, ap, subst}
 use Rattle.std.specs.Option.{option_or, option_map}
-use Rattle.std.specs.Result.{IsErrAnd}
+use Rattle.std.specs.Result.{IsErrAnd, OnOk}
 use Rattle.journal_layout.specs.declared.faults.Field.{Field}
 use Rattle.journal_layout.specs.declared.faults.Field.TheVariants as named
 use Rattle.journal_layout.specs.declared.faults.OpenFault.{OpenFault}
@@ -12,7 +12,7 @@ use Rattle.journal_layout.specs.Folding.{Folded}
 use Rattle.journal_layout.specs.Checks.{record_fault, Check, damaged, first_failing, first_set, first_bad_seq, padding_fault, pin_checks, pin_fault, label_checks, label_fault, count_checks, drop_fault}
 use Rattle.journal_records.specs.declared.cases.Cases.{Cases}
 use Rattle.journal_records.specs.Head.{TellsFault}
-use Rattle.journal_records.specs.Kept.{said_by, Reads, ReadsRecord}
+use Rattle.journal_records.specs.Kept.{said_by, Says, OnlyMemory, Reads, ReadsRecord}
 
 abbrev pub IsDamaged : OpenFault → Type 0
 IsDamaged (Damaged at which) = Unit {0}
@@ -72,6 +72,11 @@ tells_second o p e none is = subst (λ (x : Option OpenFault). TellsFault (optio
 pub handed_on : (fault : Option OpenFault) (said : Folded) (limit : ℕ) (r : Result (Unit {0}) OpenFault) (new : Cases) (e : OpenFault) → IsErrAnd r (λ (f : OpenFault). f ≡ e) → TellsFault fault e → Reads fault said limit r new
 handed_on fault said limit (Ok done) new e is told = absurd is
 handed_on fault said limit (Err f) new e is told = subst (TellsFault fault) (sym is) told
+
+-- a step that fails for want of memory alone
+pub reads_none : (said : Folded) (limit : ℕ) (r : Result (Unit {0}) OpenFault) (new : Cases) (P : Type 0) → OnlyMemory r → OnOk r P → (P → Says said limit new) → Reads None said limit r new
+reads_none said limit (Ok done) new P only is says = (refl, says is)
+reads_none said limit (Err e) new P only is says = subst (TellsFault None) (sym only) tt
 
 pub image_only : (at : ℕ) (rest : List ℕ) (bad : Bool) → OnlyDamaged (cond bad (Some (damaged at named.ImageLength 32)) None)
 image_only at rest true = tt

@@ -7,8 +7,6 @@ use Rattle.std.proofs.lemmas.List.Sums.{sum_by-cons, sum_by-append}
 use Rattle.std.specs.List.{sum_by, All}
 use Rattle.std.specs.Str.{bytes_eq}
 use Rattle.std.specs.Map.{lookup, remove_entry}
-use Rattle.std.specs.BTreeMap.{insert_entry}
-use Rattle.std.specs.Ordering.{nat_cmp}
 use Rattle.extents.specs.declared.run_list.Run.{Run}
 use Rattle.extents.specs.Runs.{runs_of, blocks_of}
 use Rattle.extents.specs.FreeSet.{is_free, one_if, with_runs, AreUsed}
@@ -20,10 +18,10 @@ use Rattle.journal_layout.specs.Folding.{used_blocks, is_name_of}
 use Rattle.journal_layout.specs.Soundness.{uses}
 use Rattle.journal_layout.specs.SpareLaws.{uses-append}
 use Rattle.journal_layout.specs.ChainLaws.{AreInChain, chain_of, blocks_back}
-use Rattle.journal_records.specs.Live.{cases_of, AreNumbered, changed_in}
+use Rattle.journal_records.specs.Live.{cases_of, changed_in}
 use Rattle.journal_records.specs.Taken.{Accounts}
 use Rattle.journal_records.specs.Kept.{bearers}
-use Rattle.journal_records.proofs.LiveLemmas.{cases_append, insert_last}
+use Rattle.journal_records.proofs.LiveLemmas.{cases_append}
 use Rattle.journal_records.proofs.RunLemmas.{uses_same}
 
 -- Sums over the cases.
@@ -159,9 +157,9 @@ bearers_push name cs c =
     let one = sum_by-cons f c [] in
     omega (arith, joined, one)
 
--- the entries with one more, whose number is not below any of theirs
-pub cases_push : (high k : ℕ) (v : Entry) (es more : List (ℕ × Entry)) → AreNumbered 0 high es → high ≤ k → more ≡ insert_entry nat_cmp es k v → cases_of more ≡ cases_of es ++ case_of v ∷ []
-cases_push high k v es more are above is = ap cases_of (is ∙ insert_last 0 high k v es are above) ∙ cases_append es ((k, v) ∷ [])
+-- the entries with one more
+pub cases_push : (k : ℕ) (v : Entry) (es more : List (ℕ × Entry)) → more ≡ es ++ (k, v) ∷ [] → cases_of more ≡ cases_of es ++ case_of v ∷ []
+cases_push k v es more is = ap cases_of is ∙ cases_append es ((k, v) ∷ [])
 
 -- whether some case has a name, from how many have it
 pub any_bearer : (name : List ℕ) (t : Bool) (cs : List Case) → bearers cs name ≡ one_if t → is_name_of cs name ≡ t

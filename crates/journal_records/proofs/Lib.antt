@@ -9,3 +9,4 @@ pub mod RunLemmas
 pub mod SaysLemmas
 pub mod SpellingLemmas
 pub mod StoreLemmas
+pub mod StoredLemmas

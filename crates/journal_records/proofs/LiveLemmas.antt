@@ -1,12 +1,11 @@
 -- Laws of entries kept under their numbers.
-use Rattle.std.proofs.Common.{◌≡◌, inl, inr, ℕ, ◌+◌, ◌<◌, ◌≤◌, Bool, true, false, not, ◌||◌, cond, List, [], ◌∷◌, ◌++◌, map, Option, Some, None, refl, sym, ap, ◌∙◌, arith, nat_eq}
-use Rattle.std.specs.Option.{option_map, is_some, is_none}
-use Rattle.std.specs.Ordering.{nat_cmp, is_eq, match_ordering}
-use Rattle.std.specs.declared.cmp.Ordering.{Ordering}
+use Rattle.std.proofs.Common.{◌≡◌, inl, inr, ℕ, ◌+◌, ◌<◌, ◌≤◌, Bool, true, false, not, ◌||◌, cond, List, [], ◌∷◌, ◌++◌, map, Option, Some, None, refl, sym, ap, ◌∙◌, arith, nat_eq, Bor}
+use Rattle.std.specs.Option.{option_map, option_copied, is_some, is_none}
+use Rattle.std.specs.Ordering.{nat_cmp, is_eq}
 use Rattle.std.specs.declared.cmp.Ordering.TheVariants.{Less, Equal, Greater}
 use Rattle.std.specs.Cmp.{nat_cmp_is}
-use Rattle.std.specs.BTreeMap.{is_at, insert_entry}
-use Rattle.std.specs.Map.{lookup, remove_entry, set_value, values_of}
+use Rattle.std.specs.BTreeMap.{is_at}
+use Rattle.std.specs.Map.{lookup, remove_entry, values_of}
 use Rattle.std.proofs.lemmas.Bool.{cases_lt, cases_eq, eq-eqb, ne_eqb}
 use Rattle.journal_layout.specs.declared.entry.Entry.{Entry}
 use Rattle.journal_layout.specs.Case.{Case, case_of}
@@ -52,15 +51,7 @@ pub numbered_ends : (low high : ℕ) (es : List (ℕ × Entry)) → AreNumbered 
 numbered_ends low high [] are = are
 numbered_ends low high (e ∷ es) are = (let rest = numbered_ends (e.0 + 1) high es are.2 in let first : low ≤ e.0 = are.0 in omega arith)
 
--- a number above all of them comes last
-pub insert_last : (low high k : ℕ) (v : Entry) (es : List (ℕ × Entry)) → AreNumbered low high es → high ≤ k → insert_entry nat_cmp es k v ≡ es ++ (k, v) ∷ []
-insert_last low high k v [] are above = refl
-insert_last low high k v (e ∷ es) are above =
-    let rest = numbered_ends (e.0 + 1) high es are.2 in
-    let past : e.0 < k = omega arith in
-    ap (λ (o : Ordering). match_ordering o ((k, v) ∷ e ∷ es) ((e.0, v) ∷ es) (e ∷ insert_entry nat_cmp es k v)) (sym (nat_cmp_is k e.0 Greater past))
-    ∙ ap (λ (xs : List (ℕ × Entry)). e ∷ xs) (insert_last (e.0 + 1) high k v es are.2 above)
-
+-- one more after the others
 pub numbered_push : (low high k : ℕ) (v : Entry) (es : List (ℕ × Entry)) → AreNumbered low high es → high ≤ k → v.seq ≡ k → AreNumbered low (k + 1) (es ++ (k, v) ∷ [])
 numbered_push low high k v [] are above number = (omega arith, number, omega arith)
 numbered_push low high k v (e ∷ es) are above number = (are.0, are.1, numbered_push (e.0 + 1) high k v es are.2 above number)
@@ -133,33 +124,16 @@ dropped_more s more (c ∷ cs) =
 
 -- a change of the entry of a number
 
-pub set_changed : (s : ℕ) (change : Entry → Entry) (found : Entry) (es : List (ℕ × Entry)) → Some found ≡ lookup (is_at (nat_cmp s)) es → set_value (is_at (nat_cmp s)) es (change found) ≡ changed_in s change es
-set_changed s change found [] is = absurd (cc)
-set_changed s change found (e ∷ es) is =
-    elim (cases_eq e.0 s) as (λ _. set_value (is_at (nat_cmp s)) (e ∷ es) (change found) ≡ changed_in s change (e ∷ es)) [
-      | inl same ↦ (
-          let here : Some found ≡ Some e.1 = is ∙ ap (λ t. cond t (Some e.1) (lookup (is_at (nat_cmp s)) es)) (test_same s e.0 same) in
-          let one : found ≡ e.1 = cc in
-          ap (λ t. cond t ((e.0, change found) ∷ es) (e ∷ set_value (is_at (nat_cmp s)) es (change found))) (test_same s e.0 same)
-          ∙ ap (λ (v : Entry). (e.0, change v) ∷ es) one
-          ∙ ap (λ t. cond t ((e.0, change e.1) ∷ es) (e ∷ changed_in s change es)) (sym (eq-eqb e.0 s same)))
-      | inr other ↦ (
-          let later : Some found ≡ lookup (is_at (nat_cmp s)) es = is ∙ ap (λ t. cond t (Some e.1) (lookup (is_at (nat_cmp s)) es)) (test_other s e.0 other) in
-          ap (λ t. cond t ((e.0, change found) ∷ es) (e ∷ set_value (is_at (nat_cmp s)) es (change found))) (test_other s e.0 other)
-          ∙ ap (λ (xs : List (ℕ × Entry)). e ∷ xs) (set_changed s change found es later)
-          ∙ ap (λ t. cond t ((e.0, change e.1) ∷ es) (e ∷ changed_in s change es)) (sym (ne_eqb e.0 s other)))
-    ]
-
-pub changed_missing : (s : ℕ) (change : Entry → Entry) (es : List (ℕ × Entry)) → None ≡ lookup (is_at (nat_cmp s)) es → changed_in s change es ≡ es
+pub changed_missing : (s : ℕ) (change : Entry → Entry) (es : List (ℕ × Entry)) → lookup (is_at (nat_cmp s)) es ≡ None → changed_in s change es ≡ es
 changed_missing s change [] is = refl
 changed_missing s change (e ∷ es) is =
     elim (cases_eq e.0 s) as (λ _. changed_in s change (e ∷ es) ≡ e ∷ es) [
       | inl same ↦ (
           let nothing : Option Entry = None in
-          let here : nothing ≡ Some e.1 = is ∙ ap (λ t. cond t (Some e.1) (lookup (is_at (nat_cmp s)) es)) (test_same s e.0 same) in
+          let here : nothing ≡ Some e.1 = sym is ∙ ap (λ t. cond t (Some e.1) (lookup (is_at (nat_cmp s)) es)) (test_same s e.0 same) in
           absurd (cc))
       | inr other ↦ (
-          let later : None ≡ lookup (is_at (nat_cmp s)) es = is ∙ ap (λ t. cond t (Some e.1) (lookup (is_at (nat_cmp s)) es)) (test_other s e.0 other) in
+          let later : lookup (is_at (nat_cmp s)) es ≡ None = sym (ap (λ t. cond t (Some e.1) (lookup (is_at (nat_cmp s)) es)) (test_other s e.0 other)) ∙ is in
           ap (λ t. cond t ((e.0, change e.1) ∷ es) (e ∷ changed_in s change es)) (ne_eqb e.0 s other)
           ∙ ap (λ (xs : List (ℕ × Entry)). e ∷ xs) (changed_missing s change es later))
     ]
@@ -204,7 +178,8 @@ changed_cases low high s change told says (e ∷ es) are =
           ∙ ap (λ t. cond t (told (case_of e.1)) (case_of e.1) ∷ map (changed_as s told) (cases_of es)) (sym (ne_eqb e.1.seq s (λ f. other (sym number ∙ f))))
     ]
 
-pub missing_is : (found : Option Entry) → not (is_some found) ≡ is_none (option_map case_of found)
+-- whether nothing is found of a number is whether no case has it
+pub missing_is : (found : Option (Bor Entry)) → not (is_some found) ≡ is_none (option_map case_of (option_copied found))
 missing_is None = refl
 missing_is (Some e) = refl
 

@@ -1,6 +1,5 @@
 -- What the working state says once a record is applied.
 use Rattle.std.proofs.Common.{◌≡◌, ℕ, ◌+◌, ◌^◌, ◌<◌, ◌≤◌, Bool, true, false, cond, List, [], ◌∷◌, ◌++◌, length, map, refl, sym, ap, ◌∙◌, subst, arith}
-use Rattle.std.specs.BTreeMap.{BTreeMap}
 use Rattle.std.specs.Str.{bytes_eq}
 use Rattle.std.proofs.lemmas.Slice.Eq.{bytes_eq-Decides}
 use Rattle.arrayvec.specs.ArrayVec.{ArrayVec}
@@ -12,6 +11,7 @@ use Rattle.journal_layout.specs.Folding.{Folded, after, used_blocks}
 use Rattle.journal_layout.specs.Soundness.{uses}
 use Rattle.journal_records.specs.declared.cases.Cases.{Cases}
 use Rattle.journal_records.specs.Live.{cases_of, AreNumbered, with_flag, with_text, changed_in}
+use Rattle.journal_records.specs.Stored.{Numbered}
 use Rattle.journal_records.specs.Taken.{Accounts, has_name}
 use Rattle.journal_records.specs.Kept.{said_by, bearers, AreKept, Says}
 use Rattle.journal_records.proofs.LiveLemmas.{numbered_up, numbered_changed, changed_as, changed_cases}
@@ -32,14 +32,15 @@ record IsChange (change : Entry → Entry) (told : Case → Case) : Type 0 where
 
 -- one entry changed
 changed_says : (old new : Cases) (s : ℕ) (change : Entry → Entry) (told : Case → Case) → IsChange change told → AreKept old → new.version ≡ old.version
-    → new.live.entries ≡ changed_in s change old.live.entries → new.names ≡ old.names → new.free ≡ old.free → new.next ≡ old.next
+    → new.live.entries ≡ changed_in s change old.live.entries → new.live.end ≡ old.live.end → new.names ≡ old.names → new.free ≡ old.free → new.next ≡ old.next
     → Says (record (said_by old) { cases = map (changed_as s told) (cases_of old.live.entries) }) (length old.free) new
-changed_says old new s change told is kept version live names free next =
+changed_says old new s change told is kept version live end names free next =
     let es = old.live.entries in
     let cases : cases_of new.live.entries ≡ cases_of (changed_in s change es) = ap cases_of live in
     record {
       kept = record {
         numbered = subst (λ (n : ℕ). AreNumbered 0 n new.live.entries) (sym next) (subst (AreNumbered 0 old.next) (sym live) (numbered_changed 0 old.next s change is.seq es kept.numbered));
+        end = (let a = kept.end in omega (arith, next, end, a));
         some = (let a = kept.some in omega (arith, next, a));
         bound = (let a = kept.bound in omega (arith, next, a));
         names = λ name.
@@ -62,29 +63,31 @@ changed_says old new s change told is kept version live names free next =
     }
 
 -- a case pinned or unpinned
-pub pin_says : (old new : Cases) (s : ℕ) (flag : Bool) → AreKept old → new.version ≡ old.version → new.live.entries ≡ changed_in s (with_flag flag) old.live.entries
+pub pin_says : (old new : Cases) (s : ℕ) (flag : Bool) → AreKept old → new.version ≡ old.version → new.live.entries ≡ changed_in s (with_flag flag) old.live.entries → new.live.end ≡ old.live.end
     → new.names ≡ old.names → new.free ≡ old.free → new.next ≡ old.next
     → Says (after (Pin s flag) (said_by old)) (length old.free) new
-pin_says old new s flag kept version live names free next =
+pin_says old new s flag kept version live end names free next =
     changed_says old new s (with_flag flag) (λ (c : Case). record c { pinned = flag }) (record { says = λ e. refl; seq = λ e. refl; name = λ e. refl; blocks = λ e. refl })
-    kept version live names free next
+    kept version live end names free next
 
 -- a case with a label
-pub label_says : (old new : Cases) (s : ℕ) (label : ArrayVec ℕ) → AreKept old → new.version ≡ old.version → new.live.entries ≡ changed_in s (with_text label) old.live.entries
+pub label_says : (old new : Cases) (s : ℕ) (label : ArrayVec ℕ) → AreKept old → new.version ≡ old.version → new.live.entries ≡ changed_in s (with_text label) old.live.entries → new.live.end ≡ old.live.end
     → new.names ≡ old.names → new.free ≡ old.free → new.next ≡ old.next
     → Says (after (Label s label.items) (said_by old)) (length old.free) new
-label_says old new s label kept version live names free next =
+label_says old new s label kept version live end names free next =
     changed_says old new s (with_text label) (λ (c : Case). record c { label = label.items }) (record { says = λ e. refl; seq = λ e. refl; name = λ e. refl; blocks = λ e. refl })
-    kept version live names free next
+    kept version live end names free next
 
 -- the next case gets another number
 pub next_says : (old new : Cases) (n : ℕ) → AreKept old → new.version ≡ old.version → new.live ≡ old.live → new.names ≡ old.names → new.free ≡ old.free → new.next ≡ n → old.next ≤ n → n ≤ 2 ^ 32
     → Says (after (Next n) (said_by old)) (length old.free) new
 next_says old new n kept version live names free next low high =
-    let entries = ap (λ (m : BTreeMap ℕ Entry). m.entries) live in
+    let entries = ap (λ (m : Numbered). m.entries) live in
+    let end = ap (λ (m : Numbered). m.end) live in
     record {
       kept = record {
         numbered = subst (λ (k : ℕ). AreNumbered 0 k new.live.entries) (sym next) (subst (AreNumbered 0 n) (sym entries) (numbered_up 0 old.next n old.live.entries low kept.numbered));
+        end = (let a = kept.end in omega (arith, next, end, a, low));
         some = (let a = kept.some in omega (arith, next, a, low));
         bound = omega (arith, next, high);
         names = λ name. ap (λ (es : List (ℕ × Entry)). bearers (cases_of es) name) entries ∙ kept.names name ∙ ap (λ m. one_if (has_name m name)) (sym names);
@@ -99,13 +102,14 @@ same_name a b is = (bytes_eq-Decides a b).0 is
 
 -- one case more
 pub store_says : (old new : Cases) (c : Case) → AreKept old → new.version ≡ old.version
-    → cases_of new.live.entries ≡ cases_of old.live.entries ++ c ∷ [] → AreNumbered 0 (c.seq + 1) new.live.entries → new.next ≡ c.seq + 1 → c.seq < 2 ^ 32
+    → cases_of new.live.entries ≡ cases_of old.live.entries ++ c ∷ [] → AreNumbered 0 (c.seq + 1) new.live.entries → new.live.end ≡ c.seq + 1 → new.next ≡ c.seq + 1 → c.seq < 2 ^ 32
     → ((q : List ℕ) → has_name new.names q ≡ cond (bytes_eq c.origin.name q) true (has_name old.names q)) → has_name old.names c.origin.name ≡ false
     → Accounts (used_blocks (cases_of old.live.entries) ++ c.blocks) new.free → length new.free ≡ length old.free
     → Says (after (Store c) (said_by old)) (length old.free) new
-store_says old new c kept version cases numbered next bound names fresh accounts size = record {
+store_says old new c kept version cases numbered end next bound names fresh accounts size = record {
   kept = record {
     numbered = subst (λ (k : ℕ). AreNumbered 0 k new.live.entries) (sym next) numbered;
+    end = omega (arith, next, end);
     some = omega (arith, next);
     bound = omega (arith, next, bound);
     names = λ name.

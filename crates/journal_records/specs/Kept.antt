@@ -37,6 +37,7 @@ pub record IsSpareMap (blocks : ℕ) (cases : List Case) (flags : List Bool) : T
 -- and each block is either one of an entry's, or free.
 pub record AreKept (c : Cases) : Type 0 where
   pub numbered : AreNumbered 0 c.next c.live.entries
+  pub end : c.live.end ≤ c.next
   pub some : 1 ≤ c.next
   pub bound : c.next ≤ 2 ^ 32
   pub names : AreNames (cases_of c.live.entries) c.names

@@ -3,4 +3,5 @@ pub mod Kept
 pub mod Live
 pub mod Said
 pub mod Spelling
+pub mod Stored
 pub mod Taken

@@ -1,5 +1,5 @@
 // What the records so far say, kept so that each look-up is short.
-ghost use Rattle.std.specs.Prelude.{◌≡◌, ℕ, ◌+◌, ◌*◌, ◌^◌, ◌<◌, ◌≤◌, ◌==◌, ◌∷◌, ◌++◌, [], List, IfOk, OnOk, length, slice_index};
+ghost use Rattle.std.specs.Prelude.{◌≡◌, ℕ, ◌+◌, ◌*◌, ◌^◌, ◌<◌, ◌≤◌, ◌==◌, ◌∷◌, ◌++◌, [], List, IfOk, OnOk, None, length, slice_index};
 ghost use Rattle.journal_layout.specs.Layout.{field};
 ghost use Rattle.journal_layout.specs.Case.{case_of};
 ghost use Rattle.journal_layout.specs.Record.{Store, Drop, Pin, Next, Label};
@@ -13,26 +13,27 @@ ghost use Rattle.journal_records.specs.Kept.{said_by, AreKept, Says, OnlyMemory,
 use crate::dropped::check_drop;
 use crate::head::check_head;
 use crate::kind::RecordKind;
-use crate::label::{check_label, label_at, set_label};
+use crate::label::{check_label, label_at};
+use crate::live_cases::LiveCases;
 use crate::names::{name_end, take_name};
 use crate::next::read_next;
 use crate::padding::check_padding;
-use crate::pin::{check_pin, set_pin};
+use crate::pin::check_pin;
 use crate::runs::read_runs;
 use crate::store::{check_facts, check_image, entry_at};
-use crate::{Live, u32_at};
+use crate::u32_at;
 use extents::FreeMap;
 use journal_layout::{Entry, Name, OpenFault};
 use std::alloc::Global;
-use std::collections::{BTreeMap, BTreeSet};
+use std::collections::BTreeSet;
 
 /// The version of the layout, the live cases, their names, the blocks that none of them holds, and the number of the next case.
 #[derive(Drop)]
 pub(crate) struct Cases {
     /// The version of the half's layout.
     pub version: u32,
-    /// The live cases by their numbers.
-    pub live: Live,
+    /// The live cases.
+    pub live: LiveCases,
     /// The names of the live cases.
     pub names: BTreeSet<Name>,
     /// The data blocks that no live case holds.
@@ -54,7 +55,7 @@ impl Cases {
         };
         Ok(Cases {
             version,
-            live: BTreeMap::new(alloc),
+            live: LiveCases::new(alloc),
             names: BTreeSet::new(alloc),
             free,
             next: 1,
@@ -62,35 +63,40 @@ impl Cases {
     }
 
     // Ends the case of this number, if there is one: its name and its blocks are free again.
-    fn drop_case(&mut self, seq: u32)
+    fn drop_case(&mut self, seq: u32) -> Result<(), OpenFault>
         requires { AreKept self.old }
-        ensures { Says (after (Drop (seq ∷ [])) (said_by self.old)) (length self.old.free) self.new }
+        ensures { Reads None (after (Drop (seq ∷ [])) (said_by self.old)) (length self.old.free) result self.new }
     {
-        if let Some(entry) = self.live.remove(&seq) {
-            self.names.remove(&entry.name);
-            self.free.give_back(entry.runs.runs());
-        }
+        let Some(entry) = self.live.find(seq) else {
+            return Ok(());
+        };
+        self.names.remove(&entry.name);
+        self.free.give_back(entry.runs.runs());
+        self.live.end_case(seq)
     }
 
     // Ends the cases whose numbers a Drop record tells.
-    fn drop_cases(&mut self, rest: &[u8])
+    fn drop_cases(&mut self, rest: &[u8]) -> Result<(), OpenFault>
         requires kept { AreKept self.old }
         requires in_half { 12 + 4 * seq_count_at rest.now ≤ length rest.now }
-        ensures { Says (after (Drop (drop_seqs rest.now)) (said_by self.old))
-            (length self.old.free) self.new }
+        ensures { Reads None (after (Drop (drop_seqs rest.now)) (said_by self.old))
+            (length self.old.free) result self.new }
     {
         for index in 0..u32_at(rest, 8) as usize {
-            self.drop_case(u32_at(rest, 12 + 4 * index));
+            self.drop_case(u32_at(rest, 12 + 4 * index))?;
         }
+        Ok(())
     }
 
     // Keeps a case under its number, which is not below the next one.
     fn push(&mut self, entry: Entry) -> Result<(), OpenFault>
         requires numbered { AreNumbered 0 self.old.next self.old.live.entries }
+        requires end { self.old.live.end ≤ self.old.next }
         requires number { self.old.next ≤ entry.seq }
         ensures cases { OnOk result (cases_of self.new.live.entries
             ≡ cases_of self.old.live.entries ++ case_of entry ∷ []) }
         ensures numbered { OnOk result (AreNumbered 0 (entry.seq + 1) self.new.live.entries) }
+        ensures end { OnOk result (self.new.live.end ≡ entry.seq + 1) }
         ensures next { OnOk result (self.new.next ≡ entry.seq + 1) }
         ensures bound { OnOk result (entry.seq < 2 ^ 32) }
         ensures version { self.new.version ≡ self.old.version }
@@ -99,9 +105,7 @@ impl Cases {
         ensures only { OnlyMemory result }
     {
         let seq = entry.seq;
-        let Ok(_) = self.live.insert(seq, entry) else {
-            return Err(OpenFault::OutOfMemory);
-        };
+        self.live.push(entry)?;
         self.next = u64::from(seq) + 1;
         Ok(())
     }
@@ -133,8 +137,7 @@ impl Cases {
             (after (Drop (drop_seqs rest.now)) (said_by self.old)) (length self.old.free) result self.new }
     {
         check_drop(&self.live, rest, at)?;
-        self.drop_cases(rest);
-        Ok(())
+        self.drop_cases(rest)
     }
 
     // Reads a Pin record.
@@ -147,7 +150,7 @@ impl Cases {
             (length self.old.free) result self.new }
     {
         check_pin(&self.live, rest, at)?;
-        set_pin(&mut self.live, u32_at(rest, 8), rest[12] == 1);
+        self.live.set_pin(u32_at(rest, 8), rest[12] == 1);
         Ok(())
     }
 
@@ -173,7 +176,7 @@ impl Cases {
             (length self.old.free) result self.new }
     {
         check_label(&self.live, rest, at)?;
-        set_label(&mut self.live, u32_at(rest, 8), label_at(rest));
+        self.live.set_label(u32_at(rest, 8), label_at(rest));
         Ok(())
     }
 

@@ -11,8 +11,9 @@ ghost use Rattle.journal_layout.specs.declared.faults.Field.TheVariants as named
 ghost use Rattle.journal_records.specs.Head.{IsHeaded};
 ghost use Rattle.journal_records.specs.Live.{AreNumbered, cases_of};
 
+use crate::live_cases::LiveCases;
 use crate::padding::check_padding;
-use crate::{Live, damaged, rounded, u32_at};
+use crate::{damaged, rounded, u32_at};
 use journal_layout::{Field, OpenFault};
 
 // A record tells at least one number, and as many as fit its length.
@@ -30,18 +31,18 @@ fn check_count(rest: &[u8], at: u64) -> Result<(), OpenFault>
 }
 
 // Whether a case may not be dropped: there is none of this number, or it is pinned.
-fn is_kept(live: &Live, seq: u32) -> bool
+fn is_kept(live: &LiveCases, seq: u32) -> bool
     requires { AreNumbered 0 (2 ^ 32) live.now.entries }
     ensures { result ≡ is_kept (case_numbered seq (cases_of live.now.entries)) }
 {
-    match live.get(&seq) {
+    match live.find(seq) {
         Some(entry) => entry.pinned,
         None => true,
     }
 }
 
 // Whether this number may not follow the number `last` in a Drop record.
-fn is_bad_seq(live: &Live, last: u32, seq: u32) -> bool
+fn is_bad_seq(live: &LiveCases, last: u32, seq: u32) -> bool
     requires { AreNumbered 0 (2 ^ 32) live.now.entries }
     ensures { result ≡ (nat_le seq last || is_kept (case_numbered seq (cases_of live.now.entries))) }
 {
@@ -49,7 +50,7 @@ fn is_bad_seq(live: &Live, last: u32, seq: u32) -> bool
 }
 
 // The numbers rise, and each is that of a live case that is not pinned.
-fn check_seqs(live: &Live, rest: &[u8], at: u64) -> Result<(), OpenFault>
+fn check_seqs(live: &LiveCases, rest: &[u8], at: u64) -> Result<(), OpenFault>
     requires numbered { AreNumbered 0 (2 ^ 32) live.now.entries }
     requires in_half { 12 + 4 * seq_count_at rest.now ≤ length rest.now }
     requires disk { at + length rest.now ≤ 2 ^ 63 }
@@ -69,7 +70,7 @@ fn check_seqs(live: &Live, rest: &[u8], at: u64) -> Result<(), OpenFault>
 }
 
 /// The checks of a Drop record.
-pub(crate) fn check_drop(live: &Live, rest: &[u8], at: u64) -> Result<(), OpenFault>
+pub(crate) fn check_drop(live: &LiveCases, rest: &[u8], at: u64) -> Result<(), OpenFault>
     requires numbered { AreNumbered 0 (2 ^ 32) live.now.entries }
     requires head { IsHeaded rest.now }
     requires disk { at + length rest.now ≤ 2 ^ 63 }

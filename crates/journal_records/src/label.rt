@@ -6,15 +6,16 @@ ghost use Rattle.journal_layout.specs.Layout.{field};
 ghost use Rattle.journal_layout.specs.Reading.{label_length_at, label_at};
 ghost use Rattle.journal_layout.specs.Checks.{label_fault};
 ghost use Rattle.journal_records.specs.Head.{IsHeaded};
-ghost use Rattle.journal_records.specs.Live.{AreNumbered, cases_of, with_text, changed_in};
+ghost use Rattle.journal_records.specs.Live.{AreNumbered, cases_of};
 
+use crate::live_cases::LiveCases;
 use crate::padding::check_padding;
 use crate::pin::is_missing;
-use crate::{Live, damaged, rounded, u16_at, u32_at};
+use crate::{damaged, rounded, u16_at, u32_at};
 use journal_layout::{Field, Label, OpenFault};
 
 /// The checks of a Label record.
-pub(crate) fn check_label(live: &Live, rest: &[u8], at: u64) -> Result<(), OpenFault>
+pub(crate) fn check_label(live: &LiveCases, rest: &[u8], at: u64) -> Result<(), OpenFault>
     requires head { IsHeaded rest.now }
     requires disk { at + length rest.now ≤ 2 ^ 63 }
     requires numbered { AreNumbered 0 (2 ^ 32) live.now.entries }
@@ -47,13 +48,4 @@ pub(crate) fn label_at(rest: &[u8]) -> Label
 {
     let length = u16_at(rest, 12) as usize;
     Label::try_from(&rest[16..16 + length]).unwrap()
-}
-
-/// Gives the case of this number a label. Where there is none, nothing changes.
-pub(crate) fn set_label(live: &mut Live, seq: u32, label: Label)
-    ensures { live.new.entries ≡ changed_in seq (with_text label) live.old.entries }
-{
-    if let Some(entry) = live.get_mut(&seq) {
-        entry.label = label;
-    }
 }

@@ -8,6 +8,7 @@ mod fields;
 mod head;
 mod kind;
 mod label;
+mod live_cases;
 mod names;
 mod next;
 mod padding;
@@ -18,13 +19,8 @@ mod spelling;
 mod store;
 
 pub(crate) use fields::{damaged, rounded, u16_at, u32_at, u64_at};
-use journal_layout::Entry;
 pub use reading::{Replayed, replay};
 pub use spelling::{
     GATE_OPEN, PIN_SIZE, case_size, drop_record, drop_size, label_record, label_size, next_record,
     pin_record, spell_label, spell_store, store_record, store_size,
 };
-use std::collections::BTreeMap;
-
-// The live cases by their numbers.
-pub(crate) type Live = BTreeMap<u32, Entry>;

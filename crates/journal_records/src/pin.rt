@@ -7,22 +7,23 @@ ghost use Rattle.journal_layout.specs.Soundness.{case_numbered};
 ghost use Rattle.journal_layout.specs.Layout.{field};
 ghost use Rattle.journal_layout.specs.Checks.{pin_fault};
 ghost use Rattle.journal_records.specs.Head.{IsHeaded};
-ghost use Rattle.journal_records.specs.Live.{AreNumbered, cases_of, with_flag, changed_in};
+ghost use Rattle.journal_records.specs.Live.{AreNumbered, cases_of};
 
+use crate::live_cases::LiveCases;
 use crate::padding::check_padding;
-use crate::{Live, damaged, u32_at};
+use crate::{damaged, u32_at};
 use journal_layout::{Field, OpenFault};
 
 /// Whether there is no live case of this number.
-pub(crate) fn is_missing(live: &Live, seq: u32) -> bool
+pub(crate) fn is_missing(live: &LiveCases, seq: u32) -> bool
     requires { AreNumbered 0 (2 ^ 32) live.now.entries }
     ensures { result ≡ is_none (case_numbered seq (cases_of live.now.entries)) }
 {
-    !live.contains_key(&seq)
+    live.find(seq).is_none()
 }
 
 /// The checks of a Pin record.
-pub(crate) fn check_pin(live: &Live, rest: &[u8], at: u64) -> Result<(), OpenFault>
+pub(crate) fn check_pin(live: &LiveCases, rest: &[u8], at: u64) -> Result<(), OpenFault>
     requires head { IsHeaded rest.now }
     requires disk { at + length rest.now ≤ 2 ^ 63 }
     requires numbered { AreNumbered 0 (2 ^ 32) live.now.entries }
@@ -39,13 +40,4 @@ pub(crate) fn check_pin(live: &Live, rest: &[u8], at: u64) -> Result<(), OpenFau
         return Err(damaged(at, Field::Flag, 12));
     }
     check_padding(rest, at, 13)
-}
-
-/// Pins the case of this number, or unpins it. Where there is none, nothing changes.
-pub(crate) fn set_pin(live: &mut Live, seq: u32, flag: bool)
-    ensures { live.new.entries ≡ changed_in seq (with_flag flag) live.old.entries }
-{
-    if let Some(entry) = live.get_mut(&seq) {
-        entry.pinned = flag;
-    }
 }

@@ -1,17 +1,16 @@
 // The records of a half, one after another.
 ghost use Rattle.std.specs.Prelude.{◌≡◌, ◌+◌, ◌^◌, ◌<◌, ◌≤◌, length, map, IfOk, IfErr, IfSome};
-ghost use Rattle.std.specs.Map.{values_of};
 ghost use Rattle.journal_layout.specs.Case.{case_of};
 ghost use Rattle.journal_layout.specs.Folding.{nothing_yet};
 ghost use Rattle.journal_records.specs.Kept.{Says, AreNames, IsSpareMap};
 ghost use Rattle.journal_records.specs.Said.{said_of, EndsIn, TellsFaulty, ReadsAll};
 ghost use Rattle.journal_layout.specs.Stands.{AreRead};
 
+use crate::GATE_OPEN;
 use crate::cases::Cases;
-use crate::{GATE_OPEN, Live};
 use extents::FreeMap;
 use journal_layout::{Entry, Name, OpenFault};
-use std::alloc::{AllocError, Global};
+use std::alloc::Global;
 use std::collections::BTreeSet;
 
 /// What the records of a half say.
@@ -54,13 +53,6 @@ fn read_records(
     Ok((last, size))
 }
 
-// The live cases, in the order of their numbers.
-fn entries_of(alloc: Global, live: Live) -> Result<Vec<Entry>, AllocError>
-    ensures { IfOk result (λ entries. entries.items ≡ values_of live.entries) }
-{
-    live.into_values().collect(alloc)
-}
-
 /// Reads the records of a half. `bytes` are the bytes of the half after its header, and `at` is their place on the disk,
 /// in bytes; `version` is that of its layout, and `data_blocks` the number of the archive's data blocks.
 ///
@@ -91,11 +83,8 @@ pub fn replay(
         free,
         next,
     } = cases;
-    let Ok(entries) = entries_of(alloc, live) else {
-        return Err(OpenFault::OutOfMemory);
-    };
     Ok(Replayed {
-        entries,
+        entries: live.into_entries(),
         names,
         free,
         next,

@@ -1,13 +1,14 @@
-use Rattle.std.proofs.Common.{sym, ap, ◌∙◌, not}
-use Rattle.std.specs.Option.{is_none}
-use Rattle.std.specs.Map.{lookup}
-use Rattle.std.specs.BTreeMap.{is_at}
-use Rattle.std.specs.Ordering.{nat_cmp}
+use Rattle.std.proofs.Common.{Option, sym, ap, ◌∙◌}
+use Rattle.std.specs.Option.{option_map, is_none, is_some}
+use Rattle.journal_layout.specs.declared.entry.Entry.{Entry}
+use Rattle.journal_layout.specs.Case.{case_of}
 use Rattle.journal_records.proofs.LiveLemmas.{numbered_found, missing_is}
+use Rattle.journal_records.proofs.NameLemmas.{not_back}
 use Rattle.journal_records.proofs.pin.is_missing.Goals as goal
 
 pub returns : goal.returns
 returns c =
-    ap not c.contains_key.ensures
-    ∙ missing_is (lookup (is_at (nat_cmp c.args.seq)) c.args.live.now.entries)
+    not_back c.is_none.result (is_some c.find.result) c.is_none.ensures
+    ∙ missing_is c.find.result
+    ∙ ap (λ (o : Option Entry). is_none (option_map case_of o)) c.find.ensures.value
     ∙ ap is_none (sym (numbered_found 0 4294967296 c.args.seq c.args.live.now.entries c.requires))

@@ -16,25 +16,25 @@ pub returns-clause-read : goal.returns-clause-read
 returns-clause-read c =
     let cases = c.read_records.new.cases in
     let v = c.args.version in
-    let said : Folded = record { version = v; cases = map case_of c.in-Ok.entries.items; next = cases.next } in
+    let said : Folded = record { version = v; cases = map case_of c.into_entries.result.items; next = cases.next } in
     let through = c.in_ok-last.ensures in
     let made : c.in_ok-cases.cases.version ≡ v = ap (λ (f : Folded). f.version) c.in_ok-cases.ensures.says.says in
     let same : said_by cases ≡ said =
-    folded_same cases.version v (cases_of cases.live.entries) (map case_of c.in-Ok.entries.items) cases.next cases.next (through.version_is ∙ made)
-    (cases_values cases.live.entries ∙ ap (map case_of) (sym c.in-Ok.ensures)) refl in
+    folded_same cases.version v (cases_of cases.live.entries) (map case_of c.into_entries.result.items) cases.next cases.next (through.version_is ∙ made)
+    (cases_values cases.live.entries ∙ ap (map case_of) (sym c.into_entries.ensures)) refl in
     subst (λ (n : ℕ). AreRead n c.args.bytes.now (nothing_yet v) said c.in_ok-last.size) c.in_ok-cases.ensures.says.size
     (subst (λ (w : ℕ). AreRead (length c.in_ok-cases.cases.free) c.args.bytes.now (nothing_yet w) said c.in_ok-last.size) made
     (read_all (length c.in_ok-cases.cases.free) c.in_ok-cases.cases.version c.args.bytes.now (said_by cases) said c.in_ok-last.last c.in_ok-last.size through.along through.closed same))
 
 pub returns-clause-names : goal.returns-clause-names
-returns-clause-names c = subst (λ (cs : List Case). AreNames cs c.read_records.new.cases.names) (cases_values c.read_records.new.cases.live.entries ∙ ap (map case_of) (sym c.in-Ok.ensures)) c.in_ok-last.ensures.kept.names
+returns-clause-names c = subst (λ (cs : List Case). AreNames cs c.read_records.new.cases.names) (cases_values c.read_records.new.cases.live.entries ∙ ap (map case_of) (sym c.into_entries.ensures)) c.in_ok-last.ensures.kept.names
 
 pub returns-clause-free : goal.returns-clause-free
 returns-clause-free c =
     let cases = c.read_records.new.cases in
     record {
       size = c.in_ok-last.ensures.free ∙ c.in_ok-cases.ensures.says.size;
-      accounts = subst (λ (cs : List Case). Accounts (used_blocks cs) cases.free) (cases_values cases.live.entries ∙ ap (map case_of) (sym c.in-Ok.ensures)) c.in_ok-last.ensures.kept.accounts;
+      accounts = subst (λ (cs : List Case). Accounts (used_blocks cs) cases.free) (cases_values cases.live.entries ∙ ap (map case_of) (sym c.into_entries.ensures)) c.in_ok-last.ensures.kept.accounts;
     }
 
 pub returns-clause-last : goal.returns-clause-last

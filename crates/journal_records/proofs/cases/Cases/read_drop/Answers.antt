@@ -1,11 +1,11 @@
-use Rattle.std.proofs.Common.{sym, length}
+use Rattle.std.proofs.Common.{None, refl, sym, length}
 use Rattle.journal_layout.specs.Checks.{drop_fault}
 use Rattle.journal_layout.specs.Reading.{drop_seqs}
 use Rattle.journal_layout.specs.Record.{Drop}
 use Rattle.journal_layout.specs.Folding.{after}
 use Rattle.journal_records.specs.Kept.{said_by}
 use Rattle.journal_records.proofs.LiveLemmas.{numbered_up}
-use Rattle.journal_records.proofs.FaultLemmas.{handed_on, tells, drop_only}
+use Rattle.journal_records.proofs.FaultLemmas.{handed_on, tells, drop_only, reads_as}
 use Rattle.journal_records.proofs.cases.Cases.read_drop.Goals as goal
 
 pub check_drop-requires-clause-numbered : goal.check_drop-requires-clause-numbered
@@ -20,4 +20,8 @@ returns-in_err-check_drop c =
     (tells fault c.in_err-check_drop.field-0.0 (drop_only c.args.at rest (said_by old)) (c.in_err-check_drop.ensures.fault (said_by old)))
 
 pub returns : goal.returns
-returns c = (sym (c.in_ok-check_drop.ensures.fault (said_by c.args.self.now)), c.drop_cases.ensures)
+returns c =
+    let old = c.args.self.now in
+    let rest = c.args.rest.now in
+    let said = after (Drop (drop_seqs rest)) (said_by old) in
+    reads_as None (drop_fault c.args.at rest (said_by old)) said said (length old.free) c.drop_cases.result c.drop_cases.new.self (sym (c.in_ok-check_drop.ensures.fault (said_by old))) refl c.drop_cases.ensures

@@ -28,8 +28,8 @@ returns c =
     let old = c.args.self.now in
     let rest = c.args.rest.now in
     let label = c.label_at.result in
-    let new : Cases = record old { live = c.set_label.new.live } in (
+    let new : Cases = record old { live = c.set_label.new.self } in (
       sym (c.in_ok-check_label.ensures.fault (said_by old)),
       subst (λ (l : List ℕ). Says (after (Label (field rest 8 4) l) (said_by old)) (length old.free) new) c.label_at.ensures
-          (label_says old new (field rest 8 4) label c.requires.kept refl (c.set_label.ensures ∙ ap (λ s. changed_in s (with_text label) old.live.entries) c.u32_at.ensures) refl refl refl),
+          (label_says old new (field rest 8 4) label c.requires.kept refl (c.set_label.ensures.entries ∙ ap (λ s. changed_in s (with_text label) old.live.entries) c.u32_at.ensures) c.set_label.ensures.end refl refl refl),
     )

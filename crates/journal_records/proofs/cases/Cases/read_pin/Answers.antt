@@ -27,7 +27,7 @@ returns c =
     let old = c.args.self.now in
     let rest = c.args.rest.now in
     let flag = nat_eq (slice_index rest 12) 1 in
-    let new : Cases = record old { live = c.set_pin.new.live } in (
+    let new : Cases = record old { live = c.set_pin.new.self } in (
       sym (c.in_ok-check_pin.ensures.fault (said_by old)),
-      pin_says old new (field rest 8 4) flag c.requires.kept refl (c.set_pin.ensures ∙ ap (λ s. changed_in s (with_flag flag) old.live.entries) c.u32_at.ensures) refl refl refl,
+      pin_says old new (field rest 8 4) flag c.requires.kept refl (c.set_pin.ensures.entries ∙ ap (λ s. changed_in s (with_flag flag) old.live.entries) c.u32_at.ensures) c.set_pin.ensures.end refl refl refl,
     )

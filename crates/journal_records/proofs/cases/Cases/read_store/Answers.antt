@@ -116,7 +116,7 @@ returns c =
           (sym (c.in_ok-check_padding.ensures ∙ ap (padding_fault c.args.at rest) c.name_end.ensures)),
       subst (λ (k : Case). Says (after (Store k) f) limit new) e
           (store_says old new (case_of entry) c.requires.kept push.version
-          push.cases push.numbered push.next push.bound
+          push.cases push.numbered push.end push.next push.bound
           (λ q. ap (λ (names : BTreeSet (ArrayVec ℕ)). has_name names q) push.names ∙ c.in_ok-name.ensures.2 q
           ∙ ap (λ (n : List ℕ). cond (bytes_eq n q) true (has_name old.names q)) (sym same_name))
           (ap (has_name old.names) same_name ∙ fresh_name c.args.at rest old.names c.in_ok-name.ensures.0)
