@@ -19,8 +19,8 @@ use crate::front::{ArchiveFront, read_front, read_part};
 use crate::live_entries::LiveEntries;
 use disk_model::Disk;
 use extents::FreeMap;
-use journal_layout::{Name, OpenFault};
-use journal_records::replay;
+use journal_layout::OpenFault;
+use journal_records::{NameKey, replay};
 use std::alloc::Global;
 use std::collections::BTreeSet;
 
@@ -77,7 +77,7 @@ pub struct Opened {
     /// The place of the gate of its last record, if it has one.
     pub last_gate: Option<u64>,
     /// The names of its cases.
-    pub names: BTreeSet<Name>,
+    pub names: BTreeSet<NameKey>,
     /// The data blocks that no case of it has.
     pub free: FreeMap,
 }

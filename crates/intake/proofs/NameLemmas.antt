@@ -25,7 +25,7 @@ use Rattle.intake.specs.Room.{SlotReply}
 use Rattle.intake.specs.Slots.{stream_at}
 use Rattle.intake.specs.Sound.{is_called, streams_named}
 use Rattle.intake.specs.Step.{is_taken, has_name as is_name_in, is_named}
-use Rattle.journal_records.specs.Taken.{has_name}
+use Rattle.journal_records.specs.Named.{has_name}
 use Rattle.case_journal.specs.Append.{StoreRefused}
 use Rattle.case_journal.specs.Journaled.{Journaled}
 use Rattle.case_journal.specs.declared.faults.JournalFault.{JournalFault}
@@ -73,7 +73,7 @@ some_taken a name e = of (is_named name a.journal.standing.cases) refl
         omega (arith, s)
 
 -- whether the set has a name, where it has those that are taken
-pub taken_is : {D : Type 0} (a : Parts D) (names : BTreeSet (ArrayVec ℕ)) (name : List ℕ) → AreTaken a.journal.standing.cases a.streams names → has_name names name ≡ is_taken (state_of a) name
+pub taken_is : {D : Type 0} (a : Parts D) (names : BTreeSet (ℕ × ArrayVec ℕ)) (name : List ℕ) → AreTaken a.journal.standing.cases a.streams names → has_name names name ≡ is_taken (state_of a) name
 taken_is a names name are = of (is_taken (state_of a) name) refl
   where
     of : (t : Bool) → is_taken (state_of a) name ≡ t → has_name names name ≡ t
@@ -94,7 +94,7 @@ slot_there streams slot s is =
     elim (cases_lt slot (length streams)) as (λ _. slot < length streams) [ inl lt ↦ lt | inr high ↦ absurd (let e : None ≡ Some s = sym (get_or_past streams slot None high) ∙ is in cc) ]
 
 -- a stream is begun, and its name kept
-pub taken_begun : (cases : List Case) (streams streams' : List (Option StreamParts)) (slot : ℕ) (s : StreamParts) (a b : BTreeSet (ArrayVec ℕ)) → AreTaken cases streams a → slot < length streams → stream_at streams slot ≡ None
+pub taken_begun : (cases : List Case) (streams streams' : List (Option StreamParts)) (slot : ℕ) (s : StreamParts) (a b : BTreeSet (ℕ × ArrayVec ℕ)) → AreTaken cases streams a → slot < length streams → stream_at streams slot ≡ None
     → streams' ≡ slice_set streams slot (Some s) → has_name a s.facts.origin.name ≡ false → KeepsName (Ok tt) s.facts.origin.name a b → AreTaken cases streams' b
 taken_begun cases streams streams' slot s a b are below none now fresh keeps = subst (λ (x : List (Option StreamParts)). AreTaken cases x b) (sym now) each
   where
@@ -115,7 +115,7 @@ taken_begun cases streams streams' slot s a b are below none now fresh keeps = s
             omega (arith, n, c, h, are q)
 
 -- a stream is dropped, and its name forgotten
-pub taken_dropped : (cases : List Case) (streams streams' : List (Option StreamParts)) (slot : ℕ) (s : StreamParts) (a b : BTreeSet (ArrayVec ℕ)) → AreTaken cases streams a → stream_at streams slot ≡ Some s
+pub taken_dropped : (cases : List Case) (streams streams' : List (Option StreamParts)) (slot : ℕ) (s : StreamParts) (a b : BTreeSet (ℕ × ArrayVec ℕ)) → AreTaken cases streams a → stream_at streams slot ≡ Some s
     → streams' ≡ slice_set streams slot None → ForgetsName s.facts.origin.name a b → AreTaken cases streams' b
 taken_dropped cases streams streams' slot s a b are is now forgets = subst (λ (x : List (Option StreamParts)). AreTaken cases x b) (sym now) each
   where
@@ -135,7 +135,7 @@ taken_dropped cases streams streams' slot s a b are is now forgets = subst (λ (
             omega (arith, n, c, h, are q)
 
 -- another stream of the same name stands in the slot
-pub taken_grown : (cases : List Case) (streams streams' : List (Option StreamParts)) (slot : ℕ) (s s' : StreamParts) (a : BTreeSet (ArrayVec ℕ)) → AreTaken cases streams a → stream_at streams slot ≡ Some s
+pub taken_grown : (cases : List Case) (streams streams' : List (Option StreamParts)) (slot : ℕ) (s s' : StreamParts) (a : BTreeSet (ℕ × ArrayVec ℕ)) → AreTaken cases streams a → stream_at streams slot ≡ Some s
     → streams' ≡ slice_set streams slot (Some s') → s'.facts.origin.name ≡ s.facts.origin.name → AreTaken cases streams' a
 taken_grown cases streams streams' slot s s' a are is now same = subst (λ (x : List (Option StreamParts)). AreTaken cases x a) (sym now)
     (λ q. (let n = named_with streams slot (Some s) (Some s') q (slot_there streams slot s is) is in
@@ -143,7 +143,7 @@ taken_grown cases streams streams' slot s s' a are is now same = subst (λ (x : 
     omega (arith, n, e, are q)))
 
 -- the free part of a slot's block was lent
-pub taken_lent : (cases : List Case) (streams : List (Option StreamParts)) (slot : ℕ) (b : Bool) (r : Result (Unit {0}) ArchiveFault) (ws : List ℕ) (a : BTreeSet (ArrayVec ℕ)) → AreTaken cases streams a
+pub taken_lent : (cases : List Case) (streams : List (Option StreamParts)) (slot : ℕ) (b : Bool) (r : Result (Unit {0}) ArchiveFault) (ws : List ℕ) (a : BTreeSet (ℕ × ArrayVec ℕ)) → AreTaken cases streams a
     → SlotReply b streams slot r → AreTaken cases (slots_left streams slot r ws) a
 taken_lent cases streams slot b (Err f) ws a are reply = are
 taken_lent cases streams slot b (Ok u) ws a are reply = here (stream_at streams slot) refl
@@ -155,7 +155,7 @@ taken_lent cases streams slot b (Ok u) ws a are reply = here (stream_at streams 
         (taken_grown cases streams (slice_set streams slot (Some (with_room ws s))) slot s (with_room ws s) a are is refl refl)
 
 -- a stream became the last case
-pub taken_stored : (cases : List Case) (streams streams' : List (Option StreamParts)) (slot : ℕ) (s : StreamParts) (x : Case) (a : BTreeSet (ArrayVec ℕ)) → AreTaken cases streams a → stream_at streams slot ≡ Some s
+pub taken_stored : (cases : List Case) (streams streams' : List (Option StreamParts)) (slot : ℕ) (s : StreamParts) (x : Case) (a : BTreeSet (ℕ × ArrayVec ℕ)) → AreTaken cases streams a → stream_at streams slot ≡ Some s
     → streams' ≡ slice_set streams slot None → x.origin.name ≡ s.facts.origin.name → AreTaken (cases ++ x ∷ []) streams' a
 taken_stored cases streams streams' slot s x a are is now called = subst (λ (xs : List (Option StreamParts)). AreTaken (cases ++ x ∷ []) xs a) (sym now)
     (λ q. (let n = named_with streams slot (Some s) None q (slot_there streams slot s is) is in
@@ -168,7 +168,7 @@ none_called : (n : ℕ) (q : List ℕ) → streams_named (replicate n None) q �
 none_called zero q = refl
 none_called (suc n) q = (let s = sum_by-cons (λ (x : Option StreamParts). one_if (is_called q x)) None (replicate n None) in omega (arith, s, none_called n q))
 
-pub taken_opened : (cases : List Case) (streams : List (Option StreamParts)) (a : BTreeSet (ArrayVec ℕ)) → AreNames cases a → streams ≡ replicate 8 None → AreTaken cases streams a
+pub taken_opened : (cases : List Case) (streams : List (Option StreamParts)) (a : BTreeSet (ℕ × ArrayVec ℕ)) → AreNames cases a → streams ≡ replicate 8 None → AreTaken cases streams a
 taken_opened cases streams a are none = subst (λ (x : List (Option StreamParts)). AreTaken cases x a) (sym none)
     (λ q. (let n = none_called 8 q in let h = are q in omega (arith, n, h)))
 
@@ -177,11 +177,11 @@ pub still_open : (f : ArchiveFault) (old new : List (Option StreamParts)) (b : B
 still_open fault.Disk old new b ends on = absurd (let e : true ≡ false = sym ends.0 ∙ on in cc)
 still_open _ old new b ends on = ends.1
 
-pub taken_still : (f : ArchiveFault) (cases : List Case) (old new : List (Option StreamParts)) (b : Bool) (a : BTreeSet (ArrayVec ℕ)) → EndsStreams f old b new → AreTaken cases old a → b ≡ false → AreTaken cases new a
+pub taken_still : (f : ArchiveFault) (cases : List Case) (old new : List (Option StreamParts)) (b : Bool) (a : BTreeSet (ℕ × ArrayVec ℕ)) → EndsStreams f old b new → AreTaken cases old a → b ≡ false → AreTaken cases new a
 taken_still f cases old new b a ends are on = subst (λ (x : List (Option StreamParts)). AreTaken cases x a) (sym (still_open f old new b ends on)) are
 
 -- the names of the cases that are left, once those of the dropped ones are forgotten
-pub names_left : (seqs : List ℕ) (cases : List Case) (streams : List (Option StreamParts)) (names : List (ArrayVec ℕ)) (a b : BTreeSet (ArrayVec ℕ)) → AreTaken cases streams a → map items_of names ≡ names_gone seqs cases → ForgetsNames names a b → AreTaken (dropped seqs cases) streams b
+pub names_left : (seqs : List ℕ) (cases : List Case) (streams : List (Option StreamParts)) (names : List (ArrayVec ℕ)) (a b : BTreeSet (ℕ × ArrayVec ℕ)) → AreTaken cases streams a → map items_of names ≡ names_gone seqs cases → ForgetsNames names a b → AreTaken (dropped seqs cases) streams b
 names_left seqs cases streams names a b are same forgets q = of (is_one_of names q) refl
   where
     among : is_named q (gone seqs cases) ≡ is_one_of names q
@@ -201,10 +201,10 @@ names_left seqs cases streams names a b are same forgets q = of (is_one_of names
         let h : one_if (has_name b q) ≡ one_if (has_name a q) = ap one_if (forgets q ∙ ap (λ t. cond t false (has_name a q)) e) in
         omega (arith, all, none, h, are q)
 
-pub names_pinned : (seq : ℕ) (flag : Bool) (cases : List Case) (streams : List (Option StreamParts)) (a : BTreeSet (ArrayVec ℕ)) → AreTaken cases streams a → AreTaken (with_pin seq flag cases) streams a
+pub names_pinned : (seq : ℕ) (flag : Bool) (cases : List Case) (streams : List (Option StreamParts)) (a : BTreeSet (ℕ × ArrayVec ℕ)) → AreTaken cases streams a → AreTaken (with_pin seq flag cases) streams a
 names_pinned seq flag cases streams a are q = ap (λ n. n + streams_named streams q) (named_pinned seq flag cases q) ∙ are q
 
-pub names_labelled : (seq : ℕ) (text : List ℕ) (cases : List Case) (streams : List (Option StreamParts)) (a : BTreeSet (ArrayVec ℕ)) → AreTaken cases streams a → AreTaken (with_label seq text cases) streams a
+pub names_labelled : (seq : ℕ) (text : List ℕ) (cases : List Case) (streams : List (Option StreamParts)) (a : BTreeSet (ℕ × ArrayVec ℕ)) → AreTaken cases streams a → AreTaken (with_label seq text cases) streams a
 names_labelled seq text cases streams a are q = ap (λ n. n + streams_named streams q) (named_labelled seq text cases q) ∙ are q
 
 -- a refused record leaves the cases
@@ -236,7 +236,7 @@ any_push P (y ∷ ys) x h = either (P y) (any_push P ys x h)
     either true rest = none (P x)
     either false rest = rest
 
-pub forgotten_more : (names : List (ArrayVec ℕ)) (i : ℕ) (n : ArrayVec ℕ) (a b c : BTreeSet (ArrayVec ℕ)) → i < length names → n ≡ get_or names i n → ForgetsNames (take i names) a b → ForgetsName n.items b c → ForgetsNames (take (i + 1) names) a c
+pub forgotten_more : (names : List (ArrayVec ℕ)) (i : ℕ) (n : ArrayVec ℕ) (a b c : BTreeSet (ℕ × ArrayVec ℕ)) → i < length names → n ≡ get_or names i n → ForgetsNames (take i names) a b → ForgetsName n.items b c → ForgetsNames (take (i + 1) names) a c
 forgotten_more names i n a b c within is before now q =
     let push : take (i + 1) names ≡ take i names ++ n ∷ [] = take_more names i n within ∙ ap (λ (m : ArrayVec ℕ). take i names ++ m ∷ []) (sym is) in
     now q ∙ ap (λ t. cond (bytes_eq n.items q) false t) (before q)

@@ -23,7 +23,9 @@ use crate::ArchiveFault;
 use crate::blocks::{append_case, grow, release, seal, stops};
 use crate::buffer::Buffer;
 use crate::dropping::{hold_listed, release_listed};
-use crate::names::{copied, forget_name, forget_names, is_name_kept, keep_name, names_of};
+use crate::names::{
+    copied, forget_name, forget_names, has_name, is_name_kept, keep_name, names_of,
+};
 use crate::opening::open_parts;
 use crate::part::read_part;
 use crate::ranges::{ByteRange, ranges_of};
@@ -36,6 +38,7 @@ use case_journal::Journal;
 use disk_model::Disk;
 use extents::{FreeMap, RunList};
 use journal_layout::{Entry, Kind, Name, OpenFault};
+use journal_records::NameKey;
 use retention::{Decision, Policy, a_decision_is_one};
 use std::alloc::Global;
 use std::collections::BTreeSet;
@@ -57,7 +60,7 @@ pub struct Archive<D: Disk> {
     alloc: Global,
     settings: Settings,
     // The names of the cases and of the open streams.
-    names: BTreeSet<Name>,
+    names: BTreeSet<NameKey>,
     // The data blocks that no case and no stream has.
     free: FreeMap,
     slots: Slots,
@@ -183,7 +186,7 @@ impl<D: Disk> Archive<D> {
         if self.slots.is_open(slot) {
             return Err(ArchiveFault::SlotBusy);
         }
-        if self.names.contains(&name) {
+        if has_name(&self.names, &name) {
             return Err(ArchiveFault::NameTaken);
         }
         let block = Buffer::zeros(self.alloc)?;

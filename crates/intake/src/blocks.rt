@@ -30,7 +30,8 @@ use crate::stream::Stream;
 use case_journal::{Journal, data_blocks_keep};
 use disk_model::Disk;
 use extents::{FreeMap, RunList};
-use journal_layout::{BLOCK, Entry, Name, Shape};
+use journal_layout::{BLOCK, Entry, Shape};
+use journal_records::NameKey;
 use std::collections::BTreeSet;
 
 /// Where a data block begins on the disk, in bytes.
@@ -214,7 +215,7 @@ fn make_stable<D: Disk>(disk: &mut D) -> Result<(), ArchiveFault>
 pub(crate) fn append_case<D: Disk>(
     journal: &mut Journal,
     disk: &mut D,
-    names: &mut BTreeSet<Name>,
+    names: &mut BTreeSet<NameKey>,
     free: &mut FreeMap,
     entry: Entry,
 ) -> Result<u32, ArchiveFault>

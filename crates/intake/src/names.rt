@@ -1,5 +1,6 @@
 // The names of the live cases and of the open streams, kept in a set so that a name is looked up without going over these.
 ghost use Rattle.std.specs.Prelude.{◌≡◌, ◌++◌, ◌∷◌, [], ◌≤◌, Err, IfOk, OnOk, IfErr, map, length};
+ghost use Rattle.journal_records.specs.Named.{has_name};
 ghost use Rattle.intake.specs.Names.{KeepsName, ForgetsName, ForgetsNames, items_of, names_gone};
 ghost use Rattle.journal_layout.specs.Case.{case_of};
 ghost use Rattle.journal_layout.specs.Soundness.{Rise};
@@ -8,6 +9,7 @@ ghost use Rattle.intake.specs.declared.faults.ArchiveFault.TheVariants as fault;
 
 use crate::ArchiveFault;
 use journal_layout::{Entry, Name};
+use journal_records::{NameKey, name_key};
 use journal_snapshot::is_listed;
 use std::alloc::{AllocError, Global};
 use std::collections::BTreeSet;
@@ -19,26 +21,33 @@ pub(crate) fn copied(name: &Name) -> Name
     Name::try_from(name.as_slice()).unwrap()
 }
 
+/// Whether a name is one of these.
+pub(crate) fn has_name(names: &BTreeSet<NameKey>, name: &Name) -> bool
+    ensures { result ≡ has_name names.now name.now.items }
+{
+    names.contains(&name_key(name))
+}
+
 /// Keeps a name. Answers `OutOfMemory` alone.
-pub(crate) fn keep_name(names: &mut BTreeSet<Name>, name: &Name) -> Result<(), ArchiveFault>
+pub(crate) fn keep_name(names: &mut BTreeSet<NameKey>, name: &Name) -> Result<(), ArchiveFault>
     ensures names { KeepsName result name.now.items names.old names.new }
     ensures only { IfErr result (λ f. f ≡ fault.OutOfMemory) }
 {
-    match names.insert(copied(name)) {
+    match names.insert(name_key(name)) {
         Ok(_) => Ok(()),
         Err(_) => Err(ArchiveFault::OutOfMemory),
     }
 }
 
 /// Forgets a name.
-pub(crate) fn forget_name(names: &mut BTreeSet<Name>, name: &Name)
+pub(crate) fn forget_name(names: &mut BTreeSet<NameKey>, name: &Name)
     ensures { ForgetsName name.now.items names.old names.new }
 {
-    names.remove(name);
+    names.remove(&name_key(name));
 }
 
 /// Forgets these names.
-pub(crate) fn forget_names(names: &mut BTreeSet<Name>, gone: &[Name])
+pub(crate) fn forget_names(names: &mut BTreeSet<NameKey>, gone: &[Name])
     ensures { ForgetsNames gone.now names.old names.new }
 {
     for name in gone {

@@ -8,7 +8,8 @@ use Rattle.journal_layout.specs.declared.faults.Field.TheVariants as named
 use Rattle.journal_layout.specs.Folding.{is_among}
 use Rattle.journal_layout.specs.Reading.{name_at, name_place}
 use Rattle.journal_layout.specs.Checks.{damaged}
-use Rattle.journal_records.specs.Taken.{has_name, fault_of_name}
+use Rattle.journal_records.specs.Taken.{fault_of_name}
+use Rattle.journal_records.specs.Named.{has_name}
 
 same_zero : (b : ℕ) → nat_eq b 0 ≡ nat_eq 0 b
 same_zero b =
@@ -24,7 +25,7 @@ among_zero (b ∷ rest) =
     ap (λ t. t || list_any (λ (c : ℕ). nat_eq c 0) rest) (same_zero b) ∙ ap (λ t. nat_eq 0 b || t) (among_zero rest)
 
 -- a name with no NUL: whether it is new
-pub name_fault : (at : ℕ) (rest : List ℕ) (names : BTreeSet (ArrayVec ℕ)) → is_among (name_at rest) 0 ≡ false
+pub name_fault : (at : ℕ) (rest : List ℕ) (names : BTreeSet (ℕ × ArrayVec ℕ)) → is_among (name_at rest) 0 ≡ false
     → fault_of_name at rest names ≡ cond (has_name names (name_at rest)) (Some (damaged at named.Name (name_place rest))) None
 name_fault at rest names clean =
     ap (λ t. cond (t || has_name names (name_at rest)) (Some (damaged at named.Name (name_place rest))) None) clean

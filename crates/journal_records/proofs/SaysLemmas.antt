@@ -12,7 +12,8 @@ use Rattle.journal_layout.specs.Soundness.{uses}
 use Rattle.journal_records.specs.declared.cases.Cases.{Cases}
 use Rattle.journal_records.specs.Live.{cases_of, AreNumbered, with_flag, with_text, changed_in}
 use Rattle.journal_records.specs.Stored.{Numbered}
-use Rattle.journal_records.specs.Taken.{Accounts, has_name}
+use Rattle.journal_records.specs.Taken.{Accounts}
+use Rattle.journal_records.specs.Named.{has_name}
 use Rattle.journal_records.specs.Kept.{said_by, bearers, AreKept, Says}
 use Rattle.journal_records.proofs.LiveLemmas.{numbered_up, numbered_changed, changed_as, changed_cases}
 use Rattle.journal_records.proofs.KeptLemmas.{sum_changed, uses_cases, used_push, bearers_push, names_more}

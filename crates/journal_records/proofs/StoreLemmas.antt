@@ -11,7 +11,8 @@ use Rattle.journal_layout.specs.Folding.{Folded, is_among, is_name_of}
 use Rattle.journal_layout.specs.Soundness.{blocks_for}
 use Rattle.journal_layout.specs.Checks.{damaged, first_failing, store_checks, runs_fault, block_count, padding_fault, store_fault}
 use Rattle.journal_records.specs.Head.{TellsFault}
-use Rattle.journal_records.specs.Taken.{has_name, fault_of_name}
+use Rattle.journal_records.specs.Taken.{fault_of_name}
+use Rattle.journal_records.specs.Named.{has_name}
 use Rattle.journal_records.proofs.FaultLemmas.{tells_first, tells_second}
 
 abbrev pub facts_part : ℕ → List ℕ → Folded → Option OpenFault
@@ -96,7 +97,7 @@ store_passes limit at rest f facts runs image name end =
     (or_none (name_part at rest f) (end_part at rest) name end)))
 
 -- the name's part, where the set of names tells which are taken
-pub name_part_is : (at : ℕ) (rest : List ℕ) (f : Folded) (names : BTreeSet (ArrayVec ℕ)) → is_name_of f.cases (name_at rest) ≡ has_name names (name_at rest) → name_part at rest f ≡ fault_of_name at rest names
+pub name_part_is : (at : ℕ) (rest : List ℕ) (f : Folded) (names : BTreeSet (ℕ × ArrayVec ℕ)) → is_name_of f.cases (name_at rest) ≡ has_name names (name_at rest) → name_part at rest f ≡ fault_of_name at rest names
 name_part_is at rest f names same = ap (λ t. cond (is_among (name_at rest) 0 || t) (Some (damaged at named.Name (name_place rest))) None) same
 
 passed_name : (s t : Bool) (x : OpenFault) → cond (s || t) (Some x) None ≡ None → t ≡ false
@@ -104,5 +105,5 @@ passed_name true t x is = absurd (let h : Some x ≡ None = is in cc)
 passed_name false true x is = absurd (let h : Some x ≡ None = is in cc)
 passed_name false false x is = refl
 
-pub fresh_name : (at : ℕ) (rest : List ℕ) (names : BTreeSet (ArrayVec ℕ)) → fault_of_name at rest names ≡ None → has_name names (name_at rest) ≡ false
+pub fresh_name : (at : ℕ) (rest : List ℕ) (names : BTreeSet (ℕ × ArrayVec ℕ)) → fault_of_name at rest names ≡ None → has_name names (name_at rest) ≡ false
 fresh_name at rest names none = passed_name (is_among (name_at rest) 0) (has_name names (name_at rest)) (damaged at named.Name (name_place rest)) none

@@ -14,7 +14,8 @@ use Rattle.journal_layout.specs.Checks.{record_fault}
 use Rattle.journal_records.specs.declared.cases.Cases.{Cases}
 use Rattle.journal_records.specs.Head.{IsHeaded, TellsFault}
 use Rattle.journal_records.specs.Live.{cases_of, AreNumbered}
-use Rattle.journal_records.specs.Taken.{Accounts, has_name}
+use Rattle.journal_records.specs.Taken.{Accounts}
+use Rattle.journal_records.specs.Named.{has_name}
 
 -- the version, the cases and the next number
 abbrev pub said_by : Cases → Folded
@@ -25,7 +26,7 @@ abbrev pub bearers : List Case → List ℕ → ℕ
 bearers cases name = count_by (λ (c : Case). bytes_eq c.origin.name name) cases
 
 -- the set has a name exactly where one of the cases has it, and no two of them have one name
-abbrev pub AreNames : List Case → BTreeSet (ArrayVec ℕ) → Type 0
+abbrev pub AreNames : List Case → BTreeSet (ℕ × ArrayVec ℕ) → Type 0
 AreNames cases names = (name : List ℕ) → bearers cases name ≡ one_if (has_name names name)
 
 -- These are the flags of `blocks` data blocks, each of which is either one of the cases', once, or free.

@@ -1,6 +1,8 @@
 pub mod Head
 pub mod Kept
 pub mod Live
+pub mod Named
+pub mod NamedLaws
 pub mod Said
 pub mod Spelling
 pub mod Stored

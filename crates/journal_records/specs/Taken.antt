@@ -2,9 +2,7 @@
 use Rattle.std.specs.Prelude.{◌≡◌, ℕ, ◌+◌, Bool, true, false, if◌then◌else◌, nat_lt, ◌||◌, List, ◌++◌, length, Option, None, Some, Result, Ok, Err}
 use Rattle.std.specs.Str.{bytes_eq}
 use Rattle.std.specs.Option.{option_map}
-use Rattle.std.specs.BTreeSet.{BTreeSet, contains_by}
-use Rattle.std.specs.Ordering.{nat_cmp}
-use Rattle.std.specs.Cmp.Lexicographic.{slice_cmp}
+use Rattle.std.specs.BTreeSet.{BTreeSet}
 use Rattle.arrayvec.specs.ArrayVec.{ArrayVec}
 use Rattle.extents.specs.declared.run_list.Run.{Run}
 use Rattle.extents.specs.Runs.{run_blocks, blocks_of}
@@ -16,6 +14,7 @@ use Rattle.journal_layout.specs.Folding.{is_among}
 use Rattle.journal_layout.specs.Reading.{store_runs, name_at, name_place}
 use Rattle.journal_layout.specs.Checks.{damaged, is_bad_run, first_bad_run, block_count}
 use Rattle.journal_records.specs.Head.{TellsFault}
+use Rattle.journal_records.specs.Named.{has_name}
 
 -- each block is either one of these, once, or free
 abbrev pub Accounts : List ℕ → List Bool → Type 0
@@ -40,15 +39,11 @@ abbrev pub TakesRuns : ℕ → List ℕ → List ℕ → List Bool → Result (L
 TakesRuns at rest used old (Ok taken) new = (fault_of_runs (length old) at rest used ≡ None) × AreTaken used rest taken.0 taken.1 new
 TakesRuns at rest used old (Err e) new = TellsFault (fault_of_runs (length old) at rest used) e
 
--- whether it is one of the names
-abbrev pub has_name : BTreeSet (ArrayVec ℕ) → List ℕ → Bool
-has_name names name = contains_by (λ (n : ArrayVec ℕ). slice_cmp nat_cmp name n.items) names
-
 -- what is wrong with the name of a Store record where these names are taken
-abbrev pub fault_of_name : ℕ → List ℕ → BTreeSet (ArrayVec ℕ) → Option OpenFault
+abbrev pub fault_of_name : ℕ → List ℕ → BTreeSet (ℕ × ArrayVec ℕ) → Option OpenFault
 fault_of_name at rest names = if is_among (name_at rest) 0 || has_name names (name_at rest) then Some (damaged at named.Name (name_place rest)) else None
 
-abbrev pub TakesName : ℕ → List ℕ → BTreeSet (ArrayVec ℕ) → Result (ArrayVec ℕ) OpenFault → BTreeSet (ArrayVec ℕ) → Type 0
+abbrev pub TakesName : ℕ → List ℕ → BTreeSet (ℕ × ArrayVec ℕ) → Result (ArrayVec ℕ) OpenFault → BTreeSet (ℕ × ArrayVec ℕ) → Type 0
 TakesName at rest old (Ok name) new =
     (fault_of_name at rest old ≡ None) × (name.items ≡ name_at rest)
     × ((q : List ℕ) → has_name new q ≡ (if bytes_eq (name_at rest) q then true else has_name old q))

@@ -15,7 +15,7 @@ use crate::head::check_head;
 use crate::kind::RecordKind;
 use crate::label::{check_label, label_at};
 use crate::live_cases::LiveCases;
-use crate::names::{name_end, take_name};
+use crate::names::{NameKey, name_end, name_key, take_name};
 use crate::next::read_next;
 use crate::padding::check_padding;
 use crate::pin::check_pin;
@@ -23,7 +23,7 @@ use crate::runs::read_runs;
 use crate::store::{check_facts, check_image, entry_at};
 use crate::u32_at;
 use extents::FreeMap;
-use journal_layout::{Entry, Name, OpenFault};
+use journal_layout::{Entry, OpenFault};
 use std::alloc::Global;
 use std::collections::BTreeSet;
 
@@ -35,7 +35,7 @@ pub(crate) struct Cases {
     /// The live cases.
     pub live: LiveCases,
     /// The names of the live cases.
-    pub names: BTreeSet<Name>,
+    pub names: BTreeSet<NameKey>,
     /// The data blocks that no live case holds.
     pub free: FreeMap,
     /// The number of the next case.
@@ -70,7 +70,7 @@ impl Cases {
         let Some(entry) = self.live.find(seq) else {
             return Ok(());
         };
-        self.names.remove(&entry.name);
+        self.names.remove(&name_key(&entry.name));
         self.free.give_back(entry.runs.runs());
         self.live.end_case(seq)
     }

@@ -19,6 +19,7 @@ mod spelling;
 mod store;
 
 pub(crate) use fields::{damaged, rounded, u16_at, u32_at, u64_at};
+pub use names::{NameKey, name_key};
 pub use reading::{Replayed, replay};
 pub use spelling::{
     GATE_OPEN, PIN_SIZE, case_size, drop_record, drop_size, label_record, label_size, next_record,

@@ -5,11 +5,35 @@ ghost use Rattle.journal_layout.specs.declared.faults.Field.TheVariants as named
 ghost use Rattle.journal_layout.specs.Reading.{name_place, name_at, name_length_at};
 ghost use Rattle.journal_layout.specs.Checks.{damaged};
 ghost use Rattle.journal_layout.specs.Folding.{is_among};
-ghost use Rattle.journal_records.specs.Taken.{has_name, TakesName};
+ghost use Rattle.journal_records.specs.Taken.{TakesName};
+ghost use Rattle.journal_records.specs.Named.{has_name, key_of, last_number};
 
 use crate::{damaged, u16_at, u32_at};
+use byteorder::{BigEndian, ByteOrder};
 use journal_layout::{Field, Name, OpenFault};
 use std::collections::BTreeSet;
+
+/// A name as a set of names keeps it, behind a number that tells it from most others. Many names begin alike and end in
+/// other digits, so the number is that of the last bytes.
+pub type NameKey = (u64, Name);
+
+// The number that the last eight bytes spell, the highest first. Fewer bytes give 0.
+fn last_number(bytes: &[u8]) -> u64
+    ensures { result ≡ last_number bytes.now }
+{
+    if bytes.len() < 8 {
+        return 0;
+    }
+    BigEndian::read_u64(bytes.split_at(bytes.len() - 8).1)
+}
+
+/// A name as a set of names keeps it.
+pub fn name_key(name: &Name) -> NameKey
+    ensures { result ≡ key_of name.now.items }
+{
+    let bytes = name.as_slice();
+    (last_number(bytes), Name::try_from(bytes).unwrap())
+}
 
 /// Where the name of a Store record ends.
 pub(crate) fn name_end(rest: &[u8]) -> usize
@@ -31,7 +55,11 @@ fn name_at(rest: &[u8]) -> Name
 }
 
 /// The name of a Store record, which has no NUL and is none of these. It is one of them from here on.
-pub(crate) fn take_name(names: &mut BTreeSet<Name>, rest: &[u8], at: u64) -> Result<Name, OpenFault>
+pub(crate) fn take_name(
+    names: &mut BTreeSet<NameKey>,
+    rest: &[u8],
+    at: u64,
+) -> Result<Name, OpenFault>
     requires in_half { name_place rest.now + name_length_at rest.now ≤ length rest.now }
     requires short { name_length_at rest.now ≤ 128 }
     requires disk { at + length rest.now ≤ 2 ^ 63 }
@@ -41,7 +69,7 @@ pub(crate) fn take_name(names: &mut BTreeSet<Name>, rest: &[u8], at: u64) -> Res
     if name.as_slice().contains(&0) {
         return Err(damaged(at, Field::Name, 48 + 8 * u32_at(rest, 40) as usize));
     }
-    match names.insert(name_at(rest)) {
+    match names.insert(name_key(&name)) {
         Ok(true) => Ok(name),
         Ok(false) => Err(damaged(at, Field::Name, 48 + 8 * u32_at(rest, 40) as usize)),
         Err(_) => Err(OpenFault::OutOfMemory),

@@ -8,8 +8,9 @@ ghost use Rattle.journal_layout.specs.Stands.{AreRead};
 
 use crate::GATE_OPEN;
 use crate::cases::Cases;
+use crate::names::NameKey;
 use extents::FreeMap;
-use journal_layout::{Entry, Name, OpenFault};
+use journal_layout::{Entry, OpenFault};
 use std::alloc::Global;
 use std::collections::BTreeSet;
 
@@ -19,7 +20,7 @@ pub struct Replayed {
     /// The live cases, in the order of their numbers.
     pub entries: Vec<Entry>,
     /// The names of the live cases.
-    pub names: BTreeSet<Name>,
+    pub names: BTreeSet<NameKey>,
     /// The data blocks that no live case has.
     pub free: FreeMap,
     /// The number of the next case, 1 to 2^32.

@@ -1,11 +1,11 @@
 -- What is known of the records behind a fault.
-use Rattle.std.proofs.Common.{◌≡◌, ◌⊎◌, inl, inr, true, ℕ, List, subst, sym, arith}
+use Rattle.std.proofs.Common.{◌≡◌, ◌⊎◌, inl, inr, true, ℕ, List, subst, sym}
 use Rattle.std.specs.BTreeSet.{contains}
 use Rattle.std.specs.List.{Contains}
 use Rattle.std.specs.Ordering.{nat_cmp}
 use Rattle.journal_layout.specs.Case.{Case, Origin, case_of}
 use Rattle.journal_layout.specs.declared.shape.Shape.{Shape}
-use Rattle.journal_records.specs.Taken.{has_name}
+use Rattle.journal_records.specs.Named.{has_name}
 use Rattle.salvage.specs.Alone.{IsPast, IsWithinOther, between}
 use Rattle.salvage.specs.Cases.{IsSameCase}
 use Rattle.salvage.specs.Contests.{AreUsed, IsBehind, Knows, OfEachBehind, taken_end, taken_start}

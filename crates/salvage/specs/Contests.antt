@@ -6,7 +6,7 @@ use Rattle.std.specs.Ordering.{nat_cmp}
 use Rattle.journal_layout.specs.Case.{Case, case_of}
 use Rattle.journal_layout.specs.Layout.{half_length, half_start}
 use Rattle.journal_layout.specs.declared.shape.Shape.{Shape}
-use Rattle.journal_records.specs.Taken.{has_name}
+use Rattle.journal_records.specs.Named.{has_name}
 use Rattle.salvage.specs.Alone.{IsPast, IsWithinOther, StoresCase, between, was_open}
 use Rattle.salvage.specs.Doubting.{taken_half}
 use Rattle.salvage.specs.declared.doubts.Doubts.{Doubts}

@@ -12,7 +12,8 @@ ghost use Rattle.salvage.specs.Doubting.{IsBound, bound_at, bound_by, generation
 use crate::choosing::Blocks;
 use crate::finding::is_of_front;
 use crate::records::{Read, Span, byte_at, number_at, reads_alone};
-use journal_layout::{Entry, Field, Half, Name, OpenFault, Shape};
+use journal_layout::{Entry, Field, Half, OpenFault, Shape};
+use journal_records::{NameKey, name_key};
 use std::alloc::{AllocError, Global};
 use std::collections::BTreeSet;
 
@@ -26,7 +27,7 @@ pub(crate) struct Doubts {
     pub(crate) bound: u64,
     // The numbers, the names and the blocks of the cases that records behind the fault store.
     numbers: BTreeSet<u32>,
-    names: BTreeSet<Name>,
+    names: BTreeSet<NameKey>,
     blocks: Blocks,
 }
 
@@ -201,7 +202,7 @@ impl Doubts {
         ensures stay { OnOk result (StayKnown self.old self.new) }
     {
         self.numbers.insert(entry.seq)?;
-        self.names.insert(entry.name.clone()?)?;
+        self.names.insert(name_key(&entry.name))?;
         self.blocks.take(entry.runs.runs());
         Ok(())
     }
@@ -246,7 +247,7 @@ impl Doubts {
         if self.numbers.contains(&entry.seq) {
             return true;
         }
-        if self.names.contains(&entry.name) {
+        if self.names.contains(&name_key(&entry.name)) {
             return true;
         }
         self.blocks.has_any(entry.runs.runs())

@@ -1,7 +1,7 @@
 use Rattle.std.proofs.Common.{◌≡◌, ℕ, List, [], ◌∷◌, Bool, Some, length, sym, ap, ◌∙◌, subst, refl, arith, cond, false}
-use Rattle.std.proofs.lemmas.Map.Text.{is_eq-slice_cmp}
 use Rattle.std.specs.BTreeMap.{is_at}
-use Rattle.std.specs.Ordering.{nat_cmp}
+use Rattle.std.specs.Ordering.{nat_cmp, is_eq}
+use Rattle.arrayvec.specs.ArrayVec.{ArrayVec}
 use Rattle.std.specs.Map.{lookup, remove_entry}
 use Rattle.std.specs.Str.{bytes_eq}
 use Rattle.extents.specs.Runs.{runs_of, blocks_of}
@@ -12,7 +12,9 @@ use Rattle.journal_layout.specs.Folding.{Folded, used_blocks, after}
 use Rattle.journal_layout.specs.Record.{Drop}
 use Rattle.journal_layout.specs.Case.{Case}
 use Rattle.journal_records.specs.Live.{cases_of, AreNumbered}
-use Rattle.journal_records.specs.Taken.{Accounts, has_name}
+use Rattle.journal_records.specs.Taken.{Accounts}
+use Rattle.journal_records.specs.Named.{has_name, key_of, key_cmp}
+use Rattle.journal_records.specs.NamedLaws.{same_key}
 use Rattle.journal_records.specs.Kept.{bearers, said_by}
 use Rattle.journal_records.specs.declared.cases.Cases.{Cases}
 use Rattle.journal_records.proofs.FaultLemmas.{reads_none}
@@ -47,8 +49,9 @@ returns c =
             ap (λ (l : List (ℕ × Entry)). bearers (cases_of l) name) less
             ∙ names_removed (bytes_eq v.name.items name) (has_name old.names name) (bearers (cases_of (remove_entry test es)) name) (bearers (cases_of es) name)
             (bearers_removed name test v es found) (c.requires.names name)
-            ∙ ap (λ t. one_if (cond t false (has_name old.names name))) (sym (is_eq-slice_cmp v.name.items name))
-            ∙ ap one_if (sym (c.remove.ensures.updates.0 (record { items = name })));
+            ∙ ap (λ t. one_if (cond t false (has_name old.names name))) (sym (same_key v.name.items name))
+            ∙ ap (λ (k : ℕ × ArrayVec ℕ). one_if (cond (is_eq (key_cmp k (key_of name))) false (has_name old.names name))) (sym c.name_key.ensures)
+            ∙ ap one_if (sym (c.remove.ensures.updates.0 (key_of name)));
         accounts = subst (λ (flags : List Bool). Accounts (used_blocks (cases_of new.live.entries)) flags) (sym freed)
             (subst (λ (l : List (ℕ × Entry)). Accounts (used_blocks (cases_of l)) (with_runs old.free (runs_of v.runs))) (sym less)
             (accounts_less (used_blocks (cases_of es)) (used_blocks (cases_of (remove_entry test es))) v.runs old.free c.requires.accounts

@@ -10,7 +10,8 @@ use Rattle.journal_layout.specs.Folding.{after, used_blocks, is_name_of}
 use Rattle.journal_layout.specs.Soundness.{blocks_for}
 use Rattle.journal_layout.specs.Checks.{store_fault, store_checks, padding_fault, block_count}
 use Rattle.journal_records.specs.Head.{TellsFault}
-use Rattle.journal_records.specs.Taken.{Accounts, has_name}
+use Rattle.journal_records.specs.Taken.{Accounts}
+use Rattle.journal_records.specs.Named.{has_name}
 use Rattle.journal_records.specs.Kept.{said_by, Says}
 use Rattle.journal_records.proofs.FaultLemmas.{handed_on, tells, checks_only, image_only, padding_only, OnlyDamaged}
 use Rattle.journal_records.proofs.StoreLemmas.{facts_part, image_part, end_part, facts_told, runs_told, image_told, name_told, end_told, store_passes, name_part_is, fresh_name}
@@ -117,7 +118,7 @@ returns c =
       subst (λ (k : Case). Says (after (Store k) f) limit new) e
           (store_says old new (case_of entry) c.requires.kept push.version
           push.cases push.numbered push.end push.next push.bound
-          (λ q. ap (λ (names : BTreeSet (ArrayVec ℕ)). has_name names q) push.names ∙ c.in_ok-name.ensures.2 q
+          (λ q. ap (λ (names : BTreeSet (ℕ × ArrayVec ℕ)). has_name names q) push.names ∙ c.in_ok-name.ensures.2 q
           ∙ ap (λ (n : List ℕ). cond (bytes_eq n q) true (has_name old.names q)) (sym same_name))
           (ap (has_name old.names) same_name ∙ fresh_name c.args.at rest old.names c.in_ok-name.ensures.0)
           (subst (λ (flags : List Bool). Accounts (used_blocks f.cases ++ (case_of entry).blocks) flags) (sym push.free)
