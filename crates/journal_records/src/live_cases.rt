@@ -136,7 +136,7 @@ fn entry_of<'a>(stored: &'a [Entry], ended: &BTreeSet<u32>, seq: u32) -> Option<
     }
 }
 
-// Takes out the cases of these numbers.
+// Takes out the cases of these numbers, and gives back the memory that they leave.
 fn take_out(stored: &mut Vec<Entry>, ended: &BTreeSet<u32>)
     ensures { stored.new.items
         ≡ filter (λ (e : Entry). not (has_number ended.now e.seq)) stored.old.items }
@@ -145,4 +145,5 @@ fn take_out(stored: &mut Vec<Entry>, ended: &BTreeSet<u32>)
         return;
     }
     stored.retain(|entry| !ended.contains(&entry.seq));
+    stored.shrink_to_fit();
 }
