@@ -1,4 +1,4 @@
-// The name of a Store record.
+// The name of a Store record, and names as a set keeps them.
 ghost use Rattle.std.specs.Prelude.{◌≡◌, ℕ, ◌+◌, ◌*◌, ◌^◌, ◌<◌, ◌≤◌, ◌||◌, List, Some, None, if◌then◌else◌, length, IsTrue};
 ghost use Rattle.std.specs.Str.{bytes_eq};
 ghost use Rattle.journal_layout.specs.declared.faults.Field.TheVariants as named;
