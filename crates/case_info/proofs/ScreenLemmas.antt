@@ -1,5 +1,5 @@
 -- What a screen of a core is made of.
-use Rattle.std.proofs.Common.{◌≡◌, ◌≤◌, ℕ, Bool, false, List, length, Result, Ok, Err, IfOk, ap, refl, sym, subst, ◌∙◌, arith}
+use Rattle.std.proofs.Common.{◌≡◌, ◌≤◌, ℕ, false, List, length, Result, Ok, Err, IfOk, ap, refl, sym, subst, ◌∙◌, arith}
 use Rattle.std.proofs.lemmas.List.{length-take}
 use Rattle.address_space.specs.Source.{ExecutableView}
 use Rattle.case_queries.specs.Collecting.{CollectsAll, wanted_of}
@@ -19,6 +19,7 @@ use Rattle.image_replies.specs.declared.core_image.CoreImage.{CoreImage}
 use Rattle.intake.specs.Parts.{Parts, state_of}
 use Rattle.intake.specs.State.{ArchiveState}
 use Rattle.case_info.specs.Fronts.{IsFront}
+use Rattle.case_info.specs.declared.case.InfoWords.{InfoWords}
 use Rattle.case_info.specs.Screens.{AsksCore, FindsFacts, shown_count}
 
 -- the bytes of a core that was read
@@ -31,12 +32,12 @@ pub says_same : {D : Type 0} (g : disk.Ghosts D) (old new : Parts D) (seq : ℕ)
 says_same g old new seq front size long xs ys n m facts is_long are is_many says =
     subst (λ k. SaysFacts g old seq front k ys m facts new) is_long (subst (λ (zs : List ExecutableView). SaysFacts g old seq front size zs m facts new) are (subst (λ k. SaysFacts g old seq front size xs k facts new) is_many says))
 
-module _ {D : Type 0} (g : disk.Ghosts D) (old mid : Parts D) (seq : ℕ) (image : List ℕ) (all : Bool) (a : CoreAnswers) where
-  pub asks_none : (r : Result CoreImage CoreFault) (f : CoreFault) → r ≡ Err f → AsksCore g old mid seq image all r a mid
-  asks_none r f is = subst (λ q. AsksCore g old mid seq image all q a mid) (sym is) refl
+module _ {D : Type 0} (g : disk.Ghosts D) (old mid : Parts D) (seq : ℕ) (image : List ℕ) (words : InfoWords) (a : CoreAnswers) where
+  pub asks_none : (r : Result CoreImage CoreFault) (f : CoreFault) → r ≡ Err f → AsksCore g old mid seq image words r a mid
+  asks_none r f is = subst (λ q. AsksCore g old mid seq image words q a mid) (sym is) refl
 
-  pub asks_some : (r : Result CoreImage CoreFault) (core : CoreImage) (new : Parts D) → r ≡ Ok core → FindsFacts g old mid seq image (core_bytes core) (shown_count all (notes_in image)) a new → AsksCore g old mid seq image all r a new
-  asks_some r core new is finds = subst (λ q. AsksCore g old mid seq image all q a new) (sym is) finds
+  pub asks_some : (r : Result CoreImage CoreFault) (core : CoreImage) (new : Parts D) → r ≡ Ok core → FindsFacts g old mid seq image (core_bytes core) (shown_count words (notes_in image)) a new → AsksCore g old mid seq image words r a new
+  asks_some r core new is finds = subst (λ q. AsksCore g old mid seq image words q a new) (sym is) finds
 
 module _ {D : Type 0} (g : disk.Ghosts D) (old mid : Parts D) (seq size : ℕ) (image front : List ℕ) (has : HasSize (state_of old) seq size) (sees : SeesImage g old seq image mid) (is : IsFront Core front image) where
   -- what is seen stops nothing

@@ -38,10 +38,14 @@ use Rattle.case_info.specs.declared.case.InfoWords.{InfoWords}
 abbrev pub held : Collected → List ℕ
 held c = c.text.items
 
--- how many threads are shown of a core with these notes: each, or the first, if there is one; none, if it has a fault
-abbrev pub shown_count : Bool → Result (List NoteView) CoreFault → ℕ
-shown_count all (Ok notes) = if all then thread_count (all_descs 1 notes) else min (thread_count (all_descs 1 notes)) 1
-shown_count all (Err fault) = 0
+-- how many threads are shown at most: one, or with `--threads` 256, and in JSON each
+abbrev pub most_threads : InfoWords → ℕ
+most_threads words = if words.all_threads then (if words.is_json then 18446744073709551615 else 256) else 1
+
+-- how many threads are shown of a core with these notes; none, if it has a fault
+abbrev pub shown_count : InfoWords → Result (List NoteView) CoreFault → ℕ
+shown_count words (Ok notes) = min (thread_count (all_descs 1 notes)) (most_threads words)
+shown_count words (Err fault) = 0
 
 -- A screen takes what was found.
 pub record AreFactsOf (f : CoreFacts) (a : CoreAnswers) : Type 0 where
@@ -59,32 +63,32 @@ pub record FindsFacts {D : Type 0} (g : disk.Ghosts D) (old mid : Parts D) (seq 
   pub are : AreFactsOf facts a
 
 -- nothing more is read of a core that has a fault
-abbrev pub AsksCore : {D : Type 0} → disk.Ghosts D → Parts D → Parts D → ℕ → List ℕ → Bool → Result CoreImage CoreFault → CoreAnswers → Parts D → Type 0
-AsksCore g old mid seq image all (Ok core) a new = FindsFacts g old mid seq image (core_bytes core) (shown_count all (notes_in image)) a new
-AsksCore g old mid seq image all (Err fault) a new = new ≡ mid
+abbrev pub AsksCore : {D : Type 0} → disk.Ghosts D → Parts D → Parts D → ℕ → List ℕ → InfoWords → Result CoreImage CoreFault → CoreAnswers → Parts D → Type 0
+AsksCore g old mid seq image words (Ok core) a new = FindsFacts g old mid seq image (core_bytes core) (shown_count words (notes_in image)) a new
+AsksCore g old mid seq image words (Err fault) a new = new ≡ mid
 
 -- the screen of a case by what is asked of it, in an archive
 abbrev pub IsScreenBy : {D : Type 0} → Parts D → ℕ → CaseAnswers → Collected → Type 0
 IsScreenBy a seq answers text = (c : Case) × HasCase (state_of a) seq c × (held text ≡ info_answer c (state_of a).cases answers)
 
 -- The image of a core is seen. What it says, and what is found in its memory, is shown.
-abbrev pub ShowsCore : {D : Type 0} → disk.Ghosts D → Parts D → ℕ → Bool → Collected → Parts D → Type 0
-ShowsCore {D} g old seq all text new =
+abbrev pub ShowsCore : {D : Type 0} → disk.Ghosts D → Parts D → ℕ → InfoWords → Collected → Parts D → Type 0
+ShowsCore {D} g old seq words text new =
     (image : List ℕ) × (mid : Parts D) × SeesImage g old seq image mid
-    × (a : CoreAnswers) × SaysCore image a.core a.whole a.unread × AsksCore g old mid seq image all a.core a new × IsScreenBy new seq (Core a) text
+    × (a : CoreAnswers) × SaysCore image a.core a.whole a.unread × AsksCore g old mid seq image words a.core a new × IsScreenBy new seq (Core a) text
 
 -- The image of an executable is seen, and its file header is shown.
 abbrev pub ShowsExec : {D : Type 0} → disk.Ghosts D → Parts D → ℕ → Collected → Parts D → Type 0
 ShowsExec g old seq text new = (image : List ℕ) × SeesImage g old seq image new × IsScreenBy new seq (Exec (header_in image)) text
 
 -- the screen of a case of that kind
-abbrev pub ShowsKind : {D : Type 0} → disk.Ghosts D → Parts D → ℕ → Bool → Collected → Parts D → Kind → Type 0
-ShowsKind g old seq all text new kind.Core = ShowsCore g old seq all text new
-ShowsKind g old seq all text new kind.Exec = ShowsExec g old seq text new
+abbrev pub ShowsKind : {D : Type 0} → disk.Ghosts D → Parts D → ℕ → InfoWords → Collected → Parts D → Kind → Type 0
+ShowsKind g old seq words text new kind.Core = ShowsCore g old seq words text new
+ShowsKind g old seq words text new kind.Exec = ShowsExec g old seq text new
 
 -- The screen of a case, by its kind. JSON is left out.
 abbrev pub ShowsCase : {D : Type 0} → disk.Ghosts D → Parts D → ℕ → InfoWords → Collected → Type 0
-ShowsCase {D} g old seq words text = words.is_json ≡ false → (c : Case) × HasCase (state_of old) seq c × (new : Parts D) × ShowsKind g old seq words.all_threads text new c.origin.kind
+ShowsCase {D} g old seq words text = words.is_json ≡ false → (c : Case) × HasCase (state_of old) seq c × (new : Parts D) × ShowsKind g old seq words text new c.origin.kind
 
 -- by the archive that was opened, or why it was not
 abbrev pub ShowsBy : {D : Type 0} → disk.Ghosts D → ℕ → InfoWords → Result (Parts D) (OpenFault × D) → Result Collected Refusal → Type 0

@@ -32,7 +32,7 @@ use unlocked_reading::{Places, Reads, find_cases, stay};
 /// What the words of `info` ask for.
 #[derive(Clone, Copy, Debug)]
 pub struct InfoWords {
-    /// The frames of each thread are shown.
+    /// The frames of each thread are shown, in a text those of the first 256.
     pub all_threads: bool,
     /// It is told as JSON.
     pub is_json: bool,
@@ -137,7 +137,7 @@ fn core_screen<D: Disk>(
     seq: u32,
     words: InfoWords,
 ) -> Result<Collected, Refusal>
-    ensures { IfOk result (λ text. words.is_json ≡ false → ShowsCore D.Disk archive.old seq words.all_threads text archive.new) }
+    ensures { IfOk result (λ text. words.is_json ≡ false → ShowsCore D.Disk archive.old seq words text archive.new) }
 {
     let size = size_of(seq, archive)?;
     let front = front_of(alloc, seq, size, Want::Core, archive)?;
@@ -146,15 +146,7 @@ fn core_screen<D: Disk>(
         return Ok(put_core(alloc, archive, seq, said, no_frames(), None, words.is_json)?);
     };
     let executables = executables_of(alloc, &core, archive)?;
-    let facts = facts_of(
-        alloc,
-        seq,
-        size,
-        &core,
-        &executables,
-        words.all_threads,
-        archive,
-    )?;
+    let facts = facts_of(alloc, seq, size, &core, &executables, words, archive)?;
     Ok(put_core(
         alloc,
         archive,

@@ -9,12 +9,13 @@ ghost use Rattle.elf_view.specs.declared.faults.Want.TheVariants as want;
 ghost use Rattle.image_replies.specs.CoreWords.{core_bytes};
 ghost use Rattle.intake.specs.Parts.{Parts, state_of};
 ghost use Rattle.case_info.specs.Fronts.{IsFront};
-ghost use Rattle.case_info.specs.Screens.{shown_count};
+ghost use Rattle.case_info.specs.Screens.{most_threads, shown_count};
 
+use crate::case::InfoWords;
 use archive_files::Refusal;
 use build_replies::BuildAnswer;
 use case_queries::{CoreFacts, StoredExecutable, WalkFault, core_facts, stored_executables};
-use case_screens::thread_count;
+use case_screens::{MOST_THREADS, thread_count};
 use disk_model::Disk;
 use image_replies::CoreImage;
 use intake::Archive;
@@ -45,16 +46,16 @@ pub(crate) fn facts_of<'a, D: Disk>(
     size: usize,
     core: &CoreImage<'a>,
     executables: &'a [StoredExecutable],
-    all_threads: bool,
+    words: InfoWords,
     archive: &mut Archive<D>,
 ) -> Result<CoreFacts<'a>, Refusal>
     requires has { HasSize (state_of archive.old) seq size }
     requires short { length (core_bytes core.now) ≤ size }
     requires read { (before : Parts D) × ReadsFront D.Disk before seq (core_bytes core.now) archive.old }
     ensures { IfOk result (λ facts. (before : Parts D) → ReadsFront D.Disk before seq (core_bytes core.now) archive.old
-        → SaysFacts D.Disk before seq (core_bytes core.now) size (map executable_view executables.now) (shown_count all_threads (notes_read (Ok core.now))) facts archive.new) }
+        → SaysFacts D.Disk before seq (core_bytes core.now) size (map executable_view executables.now) (shown_count words (notes_read (Ok core.now))) facts archive.new) }
 {
-    let count = shown_count(core, all_threads);
+    let count = shown_count(core, words);
     match core_facts(alloc, seq, size, core, executables, count, archive) {
         Ok(facts) => Ok(facts),
         Err(WalkFault::Unread(fault)) => Err(Refusal::Call(fault)),
@@ -72,10 +73,20 @@ pub(crate) fn builds_in<'s, 'a>(facts: &'s CoreFacts<'a>) -> Option<&'s [BuildAn
     }
 }
 
-// How many threads of a core are shown.
-fn shown_count(core: &CoreImage<'_>, all_threads: bool) -> u64
-    ensures { result ≡ shown_count all_threads (notes_read (Ok core.now)) }
+// How many threads are shown at most.
+fn most_threads(words: InfoWords) -> u64
+    ensures { result ≡ most_threads words }
 {
-    let count = thread_count(core);
-    if all_threads { count } else { count.min(1) }
+    match (words.all_threads, words.is_json) {
+        (false, _) => 1,
+        (true, false) => MOST_THREADS as u64,
+        (true, true) => u64::MAX,
+    }
+}
+
+// How many threads of a core are shown.
+fn shown_count(core: &CoreImage<'_>, words: InfoWords) -> u64
+    ensures { result ≡ shown_count words (notes_read (Ok core.now)) }
+{
+    thread_count(core).min(most_threads(words))
 }

@@ -1,5 +1,5 @@
 -- What is shown of the frames of a thread of a core that is read piece by piece.
-use Rattle.std.proofs.Common.{◌≡◌, ◌≤◌, inl, inr, ℕ, ◌-◌, List, [], ◌++◌, take, length, replicate, Option, None, Some, Ok, Err, refl, ap, sym, ◌∙◌, arith}
+use Rattle.std.proofs.Common.{◌≡◌, ◌≤◌, inl, inr, ℕ, ◌-◌, List, [], ◌++◌, take, length, replicate, Option, None, Some, Ok, Err, refl, ap, sym, subst, ◌∙◌, arith}
 use Rattle.std.specs.Prelude.{codes, slice_get}
 use Rattle.std.proofs.lemmas.List.{length-append, length-replicate}
 use Rattle.std.proofs.Math.Seq.{take-append_seam}
@@ -11,6 +11,7 @@ use Rattle.elf_view.specs.declared.faults.Want.{Want}
 use Rattle.elf_view.specs.declared.faults.Want.TheVariants.{Core}
 use Rattle.core_notes.specs.Typed.{all_descs, first_desc}
 use Rattle.address_space.specs.Source.{ExecutableView}
+use Rattle.address_space.specs.SpaceWords.{core_of}
 use Rattle.address_space.specs.Whole.{IsFrontOf}
 use Rattle.build_replies.specs.Choosing.{choice_for}
 use Rattle.build_replies.specs.ChoosingLaws.{chosen_same, places_same}
@@ -24,16 +25,16 @@ use Rattle.frame_replies.specs.WalkLaws.{frame_missing, unwind_missing, walk_beg
 use Rattle.frame_replies.specs.declared.process.UnwoundProcess.{UnwoundProcess}
 use Rattle.frame_replies.specs.declared.walk.Walk as frames
 use Rattle.intake.specs.Parts.{Parts, state_of}
-use Rattle.memory_replies.specs.Answers.{AnswersWith, is_done, memory_reply}
+use Rattle.memory_replies.specs.Answers.{AnswersWith, is_done}
 use Rattle.memory_replies.specs.declared.outcome.Outcome.{Outcome}
 use Rattle.script_streams.specs.Replies.{Telling, TellsOutcome, TellsReply, no_reply, reply_of}
-use Rattle.unwind.specs.declared.faults.Stop.{Stop}
-use Rattle.case_queries.specs.Asking.{Asking, for_frames, frames_answer}
+use Rattle.case_queries.specs.Asking.{for_frames, frames_answer}
 use Rattle.case_queries.specs.Finding.{ShowsFound, found_reply}
 use Rattle.case_queries.specs.FrontIds.{IsChoiceAt}
 use Rattle.case_queries.specs.Fronts.{HasSize, IsSoundFront, ReadsFront}
 use Rattle.case_queries.specs.Pieces.{BeginsWith, FindsFrames, SeesMore, SeesPieces}
-use Rattle.case_queries.specs.Unwound.{FindsThread}
+use Rattle.case_queries.specs.Unwound.{BeginsWalks, FindsThread, MissesThread, SeesCore}
+use Rattle.case_queries.specs.declared.frames.UnwoundCore.{UnwoundCore}
 use Rattle.case_queries.specs.declared.frames.UnwoundThread.{UnwoundThread}
 use Rattle.case_queries.specs.declared.walk.CaseImage.{CaseImage}
 use Rattle.case_queries.specs.declared.walk.WalkFault.{WalkFault}
@@ -83,38 +84,55 @@ module _ (notes : NotesLaw) (o : CaseImage) (sound : IsSoundFront Core o.front.n
       walk_begins o.front.now image xs (choice_view c) t p w own (choice_same xs ps places c are is image has) (enough_shows _ law o.front.now image (inr (front.1, sound))) (start_same image front) (state_same image front) begins
 
   -- a thread that is not there
-  pub missing_found : {D : Type 0} (g : disk.Ghosts D) (before now : Parts D) (xs : List ExecutableView) → HasSize (state_of now) o.seq o.size → length o.front.now ≤ o.size → ReadsFront g before o.seq o.front.now now → thread_state o.front.now t ≡ None → FindsThread g before o xs t (Ok None) now
-  missing_found g before now xs sized short reads none =
+  pub missing_in : (image : List ℕ) → IsFrontOf o.front.now o.size image → thread_state o.front.now t ≡ None → thread_state image t ≡ None
+  missing_in image front none = sym (state_same image front) ∙ none
+
+  pub missing_found : {D : Type 0} (g : disk.Ghosts D) (before now : Parts D) → HasSize (state_of now) o.seq o.size → length o.front.now ≤ o.size → ReadsFront g before o.seq o.front.now now → thread_state o.front.now t ≡ None → MissesThread g before o t now
+  missing_found g before now sized short reads none =
       let x = some_seen g before o now now o.front.now 0 o.front.now sized reads (at_start g before o now reads short) in
-      (x.0, x.1, x.2, sym (state_same x.0 x.2) ∙ none)
+      (x.0, x.1, x.2, missing_in x.0 x.2 none)
 
 module _ {D : Type 0} (g : disk.Ghosts D) (before new : Parts D) (o : CaseImage) (xs : List ExecutableView) (t : ℕ) where
   -- a walk that stopped
-  pub stop_found : (p : UnwoundProcess) (w : frames.Walk) (f : WalkFault) → FindsFrames g before o xs t p (Err f) w new → FindsThread g before o xs t (Err f) new
+  pub stop_found : (p : UnwoundProcess) (w : frames.Walk) (f : WalkFault) → FindsFrames g before o xs t p (Err f) w new → FindsThread g before o xs t p (Err f) new
   stop_found p w (Unread f) finds = finds
   stop_found p w OutOfMemory finds = finds
 
-  -- a piece that can't be read
-  pub fault_found : (A : Type 0) (ps : List Part) (f : WalkFault) → SeesMore {A = A} g before o ps (Err f) new → FindsThread g before o xs t (Err f) new
-  fault_found A ps (Unread f) sees = sees
-  fault_found A ps OutOfMemory sees = sees
-
   module _ (frame : Option ℕ) where
     -- the frames that were found are told
-    pub frames_shown : (u : UnwoundThread) (outcome : Outcome) (tell : Telling) → (finds : FindsThread g before o xs t (Ok (Some u)) new) → TellsReply tell (AnswersWith outcome (frames_answer finds.0 xs t frame)) → TellsOutcome tell (λ text. ShowsFound g before o xs (for_frames t frame) text new) (is_done outcome)
-    frames_shown u outcome tell finds told =
+    pub frames_shown : (p : UnwoundProcess) (u : UnwoundThread) (outcome : Outcome) (tell : Telling) → (finds : FindsThread g before o xs t p (Ok u) new) → TellsReply tell (AnswersWith outcome (frames_answer finds.0 xs t frame)) → TellsOutcome tell (λ text. ShowsFound g before o xs (for_frames t frame) text new) (is_done outcome)
+    frames_shown p u outcome tell finds told =
         let answer = frames_answer finds.0 xs t frame in
         (told.0, (Ok finds.0, finds.1, (finds.2, answered outcome answer told.0 told.1)), outcome_with outcome answer told.0 told.1, told.2)
 
-    pub missing_shown : FindsThread g before o xs t (Ok None) new → ShowsFound g before o xs (for_frames t frame) (no_reply (codes "NoThread")) new
+    pub missing_shown : MissesThread g before o t new → ShowsFound g before o xs (for_frames t frame) (no_reply (codes "NoThread")) new
     missing_shown finds = (Ok finds.0, finds.1, (finds.2, inl (no_thread t finds.0 xs frame finds.3)))
 
-    pub stop_shown : (f : WalkFault) → FindsThread g before o xs t (Err f) new → ShowsFound g before o xs (for_frames t frame) (found_reply (Err f)) new
-    stop_shown (Unread f) finds = (Err f, finds, refl)
-    stop_shown OutOfMemory finds = (Ok finds.0, finds.1, (finds.2, inr refl))
+    pub stop_shown : (p : UnwoundProcess) (f : WalkFault) → FindsThread g before o xs t p (Err f) new → ShowsFound g before o xs (for_frames t frame) (found_reply (Err f)) new
+    stop_shown p (Unread f) finds = (Err f, finds, refl)
+    stop_shown p OutOfMemory finds = (Ok finds.0, finds.1, (finds.2, inr refl))
 
 -- nothing but the first bytes is read
 pub no_pieces : {D : Type 0} (g : disk.Ghosts D) (before now : Parts D) (o : CaseImage) → HasSize (state_of now) o.seq o.size → length o.front.now ≤ o.size → ReadsFront g before o.seq o.front.now now → SeesPieces g before o [] now
 no_pieces g before now o sized short reads =
     let x = some_seen g before o now now o.front.now 0 o.front.now sized reads (at_start g before o now reads short) in
     (x.0, x.1, (x.2, tt))
+
+-- a piece that can't be read
+pub fault_found : {D : Type 0} (g : disk.Ghosts D) (before new : Parts D) (o : CaseImage) (A : Type 0) (ps : List Part) (f : WalkFault) → SeesMore {A = A} g before o ps (Err f) new → SeesCore g before o (Err f) new
+fault_found g before new o A ps (Unread f) sees = sees
+fault_found g before new o A ps OutOfMemory sees = sees
+
+-- what was not found of a core is shown
+pub core_shown : {D : Type 0} (g : disk.Ghosts D) (before new : Parts D) (o : CaseImage) (xs : List ExecutableView) (t : ℕ) (frame : Option ℕ) (f : WalkFault) → SeesCore g before o (Err f) new → ShowsFound g before o xs (for_frames t frame) (found_reply (Err f)) new
+core_shown g before new o xs t frame (Unread f) sees = (Err f, sees, refl)
+core_shown g before new o xs t frame OutOfMemory sees = (Ok sees.0, sees.1, (sees.2, inr refl))
+
+-- what the walks begin with, if it stays
+pub walks_same : (o : CaseImage) (xs : List ExecutableView) (u v : UnwoundCore) → v.process ≡ u.process → v.pieces.items ≡ u.pieces.items → BeginsWalks o xs u → BeginsWalks o xs v
+walks_same o xs u v process pieces walks = record {
+  own = subst (λ p. o.front.now ≡ core_of p.space) (sym process) walks.own;
+  some = subst (λ ps. (image : List ℕ) × BeginsWith o ps image) (sym pieces) walks.some;
+  begins = λ t w begins image has.
+      subst (λ p. IsWalkOf image xs t p w) (sym process) (walks.begins t w begins image (subst (λ ps. BeginsWith o ps image) pieces has));
+}

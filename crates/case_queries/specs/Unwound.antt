@@ -1,28 +1,45 @@
 -- The frames of a thread of a core that is read piece by piece.
-use Rattle.std.specs.Prelude.{◌≡◌, ℕ, List, Option, None, Some, Result, Ok, Err}
+use Rattle.std.specs.Prelude.{◌≡◌, ℕ, List, None, Result, Ok, Err}
 use Rattle.address_space.specs.Source.{ExecutableView}
+use Rattle.address_space.specs.SpaceWords.{core_of}
 use Rattle.address_space.specs.Whole.{IsFrontOf}
 use Rattle.disk_model.specs.declared.disk.Disk as disk
 use Rattle.frame_replies.specs.Processes.{state_of}
-use Rattle.frame_replies.specs.Walking.{HasFound, IsWalkOf}
+use Rattle.frame_replies.specs.Walking.{BeginsAt, HasFound, IsWalkOf}
+use Rattle.frame_replies.specs.declared.process.UnwoundProcess.{UnwoundProcess}
+use Rattle.frame_replies.specs.declared.walk.Walk.{Walk}
 use Rattle.intake.specs.Parts.{Parts}
+use Rattle.case_queries.specs.Pieces.{BeginsWith, SeesPieces}
 use Rattle.case_queries.specs.Seeing.{LooksAt, SeesImage}
+use Rattle.case_queries.specs.declared.frames.UnwoundCore.{UnwoundCore}
 use Rattle.case_queries.specs.declared.frames.UnwoundThread.{UnwoundThread}
 use Rattle.case_queries.specs.declared.walk.CaseImage.{CaseImage}
 use Rattle.case_queries.specs.declared.walk.WalkFault.{WalkFault}
 use Rattle.case_queries.specs.declared.walk.WalkFault.TheVariants.{Unread, OutOfMemory}
 
--- all frames of the thread are found
-abbrev pub IsUnwound : List ℕ → List ExecutableView → ℕ → UnwoundThread → Type 0
-IsUnwound image xs t u = IsWalkOf image xs t u.process u.walk × HasFound u.walk u.stop
+-- The image that is seen has these pieces; or why it can't be read.
+abbrev pub SeesCore : {D : Type 0} → disk.Ghosts D → Parts D → CaseImage → Result UnwoundCore WalkFault → Parts D → Type 0
+SeesCore g before o (Ok u) now = SeesPieces g before o u.pieces.items now
+SeesCore g before o (Err (Unread f)) now = LooksAt g before o.seq (Err f) now
+SeesCore g before o (Err OutOfMemory) now = (image : List ℕ) × SeesImage g before o.seq image now × IsFrontOf o.front.now o.size image
 
--- or it is not there
-abbrev pub IsUnwoundIf : List ℕ → List ExecutableView → ℕ → Option UnwoundThread → Type 0
-IsUnwoundIf image xs t None = state_of image t ≡ None
-IsUnwoundIf image xs t (Some u) = IsUnwound image xs t u
+-- Each walk that begins through the frames of a thread is one through those of any image that begins so and has these pieces, and there is
+-- such an image.
+pub record BeginsWalks (o : CaseImage) (xs : List ExecutableView) (u : UnwoundCore) : Type 0 where
+  pub own : o.front.now ≡ core_of u.process.space
+  pub some : (image : List ℕ) × BeginsWith o u.pieces.items image
+  pub begins : (t : ℕ) (w : Walk) → BeginsAt (state_of o.front.now t) w → (image : List ℕ) → BeginsWith o u.pieces.items image → IsWalkOf image xs t u.process w
+
+-- all frames of the thread are found
+abbrev pub IsUnwound : List ℕ → List ExecutableView → ℕ → UnwoundProcess → UnwoundThread → Type 0
+IsUnwound image xs t p u = IsWalkOf image xs t p u.walk × HasFound u.walk u.stop
 
 -- they are found of the image that is seen; or why it can't be read
-abbrev pub FindsThread : {D : Type 0} → disk.Ghosts D → Parts D → CaseImage → List ExecutableView → ℕ → Result (Option UnwoundThread) WalkFault → Parts D → Type 0
-FindsThread g before o xs t (Ok u) now = (image : List ℕ) × SeesImage g before o.seq image now × IsFrontOf o.front.now o.size image × IsUnwoundIf image xs t u
-FindsThread g before o xs t (Err (Unread f)) now = LooksAt g before o.seq (Err f) now
-FindsThread g before o xs t (Err OutOfMemory) now = (image : List ℕ) × SeesImage g before o.seq image now × IsFrontOf o.front.now o.size image
+abbrev pub FindsThread : {D : Type 0} → disk.Ghosts D → Parts D → CaseImage → List ExecutableView → ℕ → UnwoundProcess → Result UnwoundThread WalkFault → Parts D → Type 0
+FindsThread g before o xs t p (Ok u) now = (image : List ℕ) × SeesImage g before o.seq image now × IsFrontOf o.front.now o.size image × IsUnwound image xs t p u
+FindsThread g before o xs t p (Err (Unread f)) now = LooksAt g before o.seq (Err f) now
+FindsThread g before o xs t p (Err OutOfMemory) now = (image : List ℕ) × SeesImage g before o.seq image now × IsFrontOf o.front.now o.size image
+
+-- the image that is seen has no such thread
+abbrev pub MissesThread : {D : Type 0} → disk.Ghosts D → Parts D → CaseImage → ℕ → Parts D → Type 0
+MissesThread g before o t now = (image : List ℕ) × SeesImage g before o.seq image now × IsFrontOf o.front.now o.size image × (state_of image t ≡ None)

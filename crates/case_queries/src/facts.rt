@@ -1,6 +1,7 @@
 // What a screen shows of a core beside its notes, as values.
-ghost use Rattle.std.specs.Prelude.{◌≡◌, ◌≤◌, ℕ, List, IfOk, length, map};
+ghost use Rattle.std.specs.Prelude.{◌≡◌, ◌≤◌, ℕ, List, IfOk, OnOk, length, map};
 ghost use Rattle.address_space.specs.Source.{ExecutableView};
+ghost use Rattle.address_space.specs.SpaceWords.{core_of};
 ghost use Rattle.elf_view.specs.declared.faults.Want.TheVariants.{Core};
 ghost use Rattle.frame_replies.specs.FrameValues.{frames_of, frames_view};
 ghost use Rattle.image_replies.specs.CoreWords.{core_bytes};
@@ -8,18 +9,20 @@ ghost use Rattle.intake.specs.Parts.{Parts, state_of};
 ghost use Rattle.memory_replies.specs.Memory.{attached_view};
 ghost use Rattle.std.specs.Option.{option_map};
 ghost use Rattle.case_queries.specs.CollectingWords.{executable_view};
-ghost use Rattle.case_queries.specs.Facts.{AreFramesOf, SaysFacts};
+ghost use Rattle.case_queries.specs.Facts.{AreFramesOf, AreOfThread, SaysFacts};
 ghost use Rattle.case_queries.specs.Fronts.{HasSize, IsSoundFront, ReadsFront};
-ghost use Rattle.case_queries.specs.Unwound.{IsUnwoundIf};
+ghost use Rattle.case_queries.specs.Pieces.{BeginsWith, SeesPieces};
+ghost use Rattle.case_queries.specs.Unwound.{BeginsWalks};
 
 use crate::builds::compare_in_core;
 use crate::collect_executables::{StoredExecutable, lent};
-use crate::frames::{UnwoundThread, unwind_in_core};
+use crate::frames::{UnwoundCore, process_in_core, walk_thread};
 use crate::walk::{CaseImage, WalkFault};
 use address_space::Attached;
 use build_replies::BuildAnswer;
 use disk_model::Disk;
-use frame_replies::FramesAnswer;
+use elf_view::a_sound_front_is_enough;
+use frame_replies::{FramesAnswer, Walk};
 use image_replies::CoreImage;
 use intake::Archive;
 use std::alloc::{AllocError, Global};
@@ -33,24 +36,42 @@ pub struct CoreFacts<'a> {
     pub builds: Option<Vec<BuildAnswer<'a>>>,
 }
 
-// The frames that were found, as values. The error is that there is no memory.
-fn frames_if<'a>(
+// The frames of a thread, as values. `None` where the core has no thread of that number.
+fn thread_frames<'a, D: Disk>(
     alloc: Global,
-    unwound: Option<UnwoundThread<'a>>,
-) -> Result<Option<FramesAnswer<'a>>, AllocError>
-    ensures { IfOk result (λ a. (image : List ℕ) (executables : List ExecutableView) (thread : ℕ) → IsUnwoundIf image executables thread unwound.entry
-        → frames_of image executables thread ≡ option_map frames_view a) }
+    image: CaseImage<'_>,
+    core: &CoreImage<'a>,
+    found: &mut UnwoundCore<'a>,
+    thread: u64,
+    archive: &mut Archive<D>,
+) -> Result<Option<FramesAnswer<'a>>, WalkFault>
+    requires has { HasSize (state_of archive.old) image.seq image.size }
+    requires short { length image.front.now ≤ image.size }
+    requires front { core_bytes core.now ≡ image.front.now }
+    requires sound { IsSoundFront Core image.front.now }
+    requires own { image.front.now ≡ core_of found.old.process.space }
+    requires some { (b : List ℕ) × BeginsWith image found.old.pieces.items b }
+    ensures told { IfOk result (λ u. (before : Parts D) (stored : List ExecutableView) → BeginsWalks image.entry stored found.old
+        → SeesPieces D.Disk before image.entry found.old.pieces.items archive.old
+        → AreOfThread D.Disk before image.entry.seq image.entry.front.now image.entry.size stored thread u) }
+    ensures process { found.new.process ≡ found.old.process }
+    ensures pieces { OnOk result (found.new.pieces.items ≡ found.old.pieces.items) }
+    ensures sees { OnOk result ((before : Parts D) → SeesPieces D.Disk before image.entry found.old.pieces.items archive.old
+        → SeesPieces D.Disk before image.entry found.old.pieces.items archive.new) }
+    ensures has { OnOk result (HasSize (state_of archive.new) image.entry.seq image.entry.size) }
 {
-    match unwound {
-        Some(unwound) => {
-            let frames = unwound.process.frames(alloc, &unwound.walk, unwound.stop)?;
-            Ok(Some(frames))
-        }
-        None => Ok(None),
+    a_sound_front_is_enough();
+    let Some(begun) = Walk::begin(alloc, core, thread) else {
+        return Ok(None);
+    };
+    let unwound = walk_thread(alloc, image, found, begun, archive)?;
+    match found.process.frames(alloc, &unwound.walk, unwound.stop) {
+        Ok(frames) => Ok(Some(frames)),
+        Err(_) => Err(WalkFault::OutOfMemory),
     }
 }
 
-// The frames of this many threads.
+// The frames of this many threads. What all of them stand on is made once.
 fn unwind_threads<'a, D: Disk>(
     alloc: Global,
     image: CaseImage<'_>,
@@ -71,12 +92,10 @@ fn unwind_threads<'a, D: Disk>(
     ensures count { IfOk result (λ all. length all.items ≡ threads) }
     ensures has { IfOk result (λ all. HasSize (state_of archive.new) image.entry.seq image.entry.size) }
 {
+    let mut found = process_in_core(alloc, image, core, attached, archive)?;
     let mut all = Vec::new(alloc);
     for thread in 0..threads {
-        let unwound = unwind_in_core(alloc, image, core, attached, thread, archive)?;
-        let Ok(frames) = frames_if(alloc, unwound) else {
-            return Err(WalkFault::OutOfMemory);
-        };
+        let frames = thread_frames(alloc, image, core, &mut found, thread, archive)?;
         let Ok(()) = all.push(frames) else {
             return Err(WalkFault::OutOfMemory);
         };

@@ -1,11 +1,9 @@
 // The frames of a thread, and the answers to `unwind` and `frame`, of a core that is read piece by piece.
-ghost use Rattle.std.specs.Prelude.{◌≡◌, ◌≤◌, ℕ, List, length, map};
+ghost use Rattle.std.specs.Prelude.{◌≡◌, ◌≤◌, ◌++◌, ℕ, List, length, map, IfOk, OnOk};
 ghost use Rattle.address_space.specs.Source.{ExecutableView};
 ghost use Rattle.address_space.specs.SpaceWords.{core_of};
-ghost use Rattle.build_replies.specs.ChoosingWords.{choice_view};
 ghost use Rattle.elf_view.specs.declared.faults.Want.TheVariants.{Core};
-ghost use Rattle.frame_replies.specs.Walking.{IsProcessOf, IsWalkOf, WalksOn, process_by};
-ghost use Rattle.frame_replies.specs.declared.process.UnwoundProcess as processes;
+ghost use Rattle.frame_replies.specs.Walking.{IsWalkOf, WalksOn, process_by};
 ghost use Rattle.image_replies.specs.CoreWords.{core_bytes};
 ghost use Rattle.intake.specs.Parts.{Parts, state_of};
 ghost use Rattle.memory_replies.specs.Answers.{AnswersWith, is_done};
@@ -15,7 +13,8 @@ ghost use Rattle.case_queries.specs.Asking.{for_frames, frames_answer};
 ghost use Rattle.case_queries.specs.Finding.{ShowsFound};
 ghost use Rattle.case_queries.specs.Fronts.{HasSize, IsSoundFront, ReadsFront};
 ghost use Rattle.case_queries.specs.Pieces.{BeginsWith, FindsFrames, SeesPieces, WalkedTo};
-ghost use Rattle.case_queries.specs.Unwound.{FindsThread, IsUnwound};
+ghost use Rattle.case_queries.specs.Unwound.{BeginsWalks, FindsThread, IsUnwound, SeesCore};
+ghost use Rattle.case_queries.specs.declared.window.Part as windows;
 
 use crate::chosen::choose;
 use crate::found::tell_found;
@@ -23,7 +22,7 @@ use crate::pieces::{MOST, lent_pieces, read_more};
 use crate::walk::{CaseImage, WalkFault};
 use crate::window::Part;
 use address_space::Attached;
-use build_replies::{ChosenExecutables, FrontPlaces};
+use build_replies::FrontPlaces;
 use disk_model::Disk;
 use elf_view::a_sound_front_is_enough;
 use frame_replies::{UnwoundProcess, Walk, tell_walked, tell_walked_frame};
@@ -34,10 +33,16 @@ use script_streams::{Output, Reply, tell_no};
 use std::alloc::Global;
 use unwind::Stop;
 
+// What the frames of each thread of a core are found with: its process, and the pieces of its image by which the executables were chosen.
+#[derive(Drop)]
+pub(crate) struct UnwoundCore<'a> {
+    pub(crate) process: UnwoundProcess<'a>,
+    pieces: Vec<Part>,
+}
+
 // The frames of a thread, all of which are found.
 #[derive(Drop)]
-pub(crate) struct UnwoundThread<'a> {
-    pub(crate) process: UnwoundProcess<'a>,
+pub(crate) struct UnwoundThread {
     pub(crate) walk: Walk,
     pub(crate) stop: Stop,
 }
@@ -71,9 +76,13 @@ fn walk_frames<D: Disk>(
     requires has { HasSize (state_of archive.old) image.seq image.size }
     requires own { image.front.now ≡ core_of process.now.space }
     requires some { (b : List ℕ) × BeginsWith image pieces.old.items b }
-    ensures { (before : Parts D) (stored : List ExecutableView) (thread : ℕ) → SeesPieces D.Disk before image.entry pieces.old.items archive.old
+    ensures finds { (before : Parts D) (stored : List ExecutableView) (thread : ℕ) → SeesPieces D.Disk before image.entry pieces.old.items archive.old
         → ((b : List ℕ) → BeginsWith image.entry pieces.old.items b → IsWalkOf b stored thread process.now walk.old)
         → FindsFrames D.Disk before image.entry stored thread process.now result walk.new archive.new }
+    ensures behind { OnOk result ((more : List windows.Part) × (pieces.new.items ≡ pieces.old.items ++ more)) }
+    ensures sees { OnOk result ((before : Parts D) → SeesPieces D.Disk before image.entry pieces.old.items archive.old
+        → SeesPieces D.Disk before image.entry pieces.old.items archive.new) }
+    ensures has { OnOk result (HasSize (state_of archive.new) image.entry.seq image.entry.size) }
 {
     for _count in 0..MOST {
         match go_on(alloc, image, process, pieces, walk) {
@@ -87,81 +96,107 @@ fn walk_frames<D: Disk>(
     Err(WalkFault::OutOfMemory)
 }
 
-// Walks through the frames of a thread with the executables that are chosen. These pieces of the core's image are read.
-fn walk_chosen<'a, D: Disk>(
-    alloc: Global,
-    image: CaseImage<'_>,
-    core: &CoreImage<'a>,
-    chosen: ChosenExecutables<'a>,
-    begun: Walk,
-    pieces: &mut Vec<Part>,
-    archive: &mut Archive<D>,
-) -> Result<Option<UnwoundThread<'a>>, WalkFault>
-    requires has { HasSize (state_of archive.old) image.seq image.size }
-    requires front { core_bytes core.now ≡ image.front.now }
-    requires some { (b : List ℕ) × BeginsWith image pieces.old.items b }
-    ensures { (before : Parts D) (stored : List ExecutableView) (thread : ℕ) → SeesPieces D.Disk before image.entry pieces.old.items archive.old
-        → ((b : List ℕ) (process : processes.UnwoundProcess) → BeginsWith image.entry pieces.old.items b → IsProcessOf image.entry.front.now (choice_view chosen.entry) process → IsWalkOf b stored thread process begun)
-        → FindsThread D.Disk before image.entry stored thread result archive.new }
-{
-    let Ok(process) = UnwoundProcess::of(alloc, core, chosen) else {
-        return Err(WalkFault::OutOfMemory);
-    };
-    let mut walk = begun;
-    match walk_frames(alloc, image, &process, &mut walk, pieces, archive) {
-        Ok(stop) => Ok(Some(UnwoundThread {
-            process,
-            walk,
-            stop,
-        })),
-        Err(fault) => Err(fault),
-    }
-}
-
-// The frames of a thread of a core of which the first bytes are at hand, or `None` where it has fewer threads. The image is read piece by
-// piece. First it is read which of the executables are used.
-pub(crate) fn unwind_in_core<'a, D: Disk>(
+// What the frames of the threads of a core are found with. The first bytes of its image are at hand. The image is read piece by piece, as far
+// as it tells which of the executables are used.
+pub(crate) fn process_in_core<'a, D: Disk>(
     alloc: Global,
     image: CaseImage<'_>,
     core: &CoreImage<'a>,
     attached: &[Attached<'a>],
-    thread: u64,
     archive: &mut Archive<D>,
-) -> Result<Option<UnwoundThread<'a>>, WalkFault>
+) -> Result<UnwoundCore<'a>, WalkFault>
     requires has { HasSize (state_of archive.old) image.seq image.size }
     requires short { length image.front.now ≤ image.size }
     requires front { core_bytes core.now ≡ image.front.now }
     requires sound { IsSoundFront Core image.front.now }
-    ensures { (before : Parts D) → ReadsFront D.Disk before image.entry.seq image.entry.front.now archive.old
-        → FindsThread D.Disk before image.entry (map attached_view attached.now) thread result archive.new }
+    ensures sees { (before : Parts D) → ReadsFront D.Disk before image.entry.seq image.entry.front.now archive.old
+        → SeesCore D.Disk before image.entry result archive.new }
+    ensures walks { IfOk result (BeginsWalks image.entry (map attached_view attached.now)) }
+    ensures has { OnOk result (HasSize (state_of archive.new) image.entry.seq image.entry.size) }
 {
     a_sound_front_names_the_files();
     a_sound_front_is_enough();
     let Ok(fronts) = FrontPlaces::of_core(alloc, core, image.size as u64) else {
         return Err(WalkFault::OutOfMemory);
     };
-    let Some(begun) = Walk::begin(alloc, core, thread) else {
-        return Ok(None);
-    };
     let mut pieces = Vec::new(alloc);
-    match choose(alloc, image, &fronts, attached, &mut pieces, archive) {
-        Ok(chosen) => walk_chosen(alloc, image, core, chosen, begun, &mut pieces, archive),
-        Err(fault) => Err(fault),
-    }
+    let chosen = choose(alloc, image, &fronts, attached, &mut pieces, archive)?;
+    let Ok(process) = UnwoundProcess::of(alloc, core, chosen) else {
+        return Err(WalkFault::OutOfMemory);
+    };
+    Ok(UnwoundCore { process, pieces })
+}
+
+// Finds the frames of a thread, whose walk has begun. What is read for them is given back.
+pub(crate) fn walk_thread<D: Disk>(
+    alloc: Global,
+    image: CaseImage<'_>,
+    core: &mut UnwoundCore<'_>,
+    begun: Walk,
+    archive: &mut Archive<D>,
+) -> Result<UnwoundThread, WalkFault>
+    requires has { HasSize (state_of archive.old) image.seq image.size }
+    requires own { image.front.now ≡ core_of core.old.process.space }
+    requires some { (b : List ℕ) × BeginsWith image core.old.pieces.items b }
+    ensures finds { (before : Parts D) (stored : List ExecutableView) (thread : ℕ) → SeesPieces D.Disk before image.entry core.old.pieces.items archive.old
+        → ((b : List ℕ) → BeginsWith image.entry core.old.pieces.items b → IsWalkOf b stored thread core.old.process begun)
+        → FindsThread D.Disk before image.entry stored thread core.old.process result archive.new }
+    ensures process { core.new.process ≡ core.old.process }
+    ensures pieces { OnOk result (core.new.pieces.items ≡ core.old.pieces.items) }
+    ensures sees { OnOk result ((before : Parts D) → SeesPieces D.Disk before image.entry core.old.pieces.items archive.old → SeesPieces D.Disk before image.entry core.old.pieces.items archive.new) }
+    ensures has { OnOk result (HasSize (state_of archive.new) image.entry.seq image.entry.size) }
+{
+    let first = core.pieces.len();
+    let mut walk = begun;
+    let stop = walk_frames(
+        alloc,
+        image,
+        &core.process,
+        &mut walk,
+        &mut core.pieces,
+        archive,
+    )?;
+    core.pieces.truncate(first);
+    Ok(UnwoundThread { walk, stop })
 }
 
 // Tells the frames of a thread, or the registers of the one of that number.
 fn tell_frames<O: Output>(
     reply: &mut Reply<'_, O>,
-    unwound: &UnwoundThread<'_>,
+    process: &UnwoundProcess<'_>,
+    unwound: &UnwoundThread,
     frame: Option<u64>,
 ) -> Outcome
-    ensures { (image : List ℕ) (executables : List ExecutableView) (thread : ℕ) → IsUnwound image executables thread unwound.now
+    ensures { (image : List ℕ) (executables : List ExecutableView) (thread : ℕ) → IsUnwound image executables thread process.now unwound.now
         → TellsReply (telling O.Output reply.old reply.new) (AnswersWith result (frames_answer image executables thread frame)) }
 {
     match frame {
         Some(frame) => tell_walked_frame(reply, &unwound.walk, frame),
-        None => tell_walked(reply, &unwound.process, &unwound.walk, unwound.stop),
+        None => tell_walked(reply, process, &unwound.walk, unwound.stop),
+    }
+}
+
+// Finds the frames of a thread, whose walk has begun, and tells them, or the registers of the one of that number.
+fn frames_of_walk<O: Output, D: Disk>(
+    alloc: Global,
+    image: CaseImage<'_>,
+    found: UnwoundCore<'_>,
+    begun: Walk,
+    frame: Option<u64>,
+    reply: &mut Reply<'_, O>,
+    archive: &mut Archive<D>,
+) -> Outcome
+    requires has { HasSize (state_of archive.old) image.seq image.size }
+    requires own { image.front.now ≡ core_of found.process.space }
+    requires some { (b : List ℕ) × BeginsWith image found.pieces.items b }
+    ensures { (before : Parts D) (stored : List ExecutableView) (thread : ℕ) → SeesPieces D.Disk before image.entry found.entry.pieces.items archive.old
+        → ((b : List ℕ) → BeginsWith image.entry found.entry.pieces.items b → IsWalkOf b stored thread found.entry.process begun)
+        → TellsOutcome (telling O.Output reply.old reply.new) (λ text. ShowsFound D.Disk before image.entry stored (for_frames thread frame) text archive.new) (is_done result) }
+{
+    let mut core = found;
+    match walk_thread(alloc, image, &mut core, begun, archive) {
+        Ok(unwound) => tell_frames(reply, &core.process, &unwound, frame),
+        Err(fault) => tell_found(reply, Err(fault)),
     }
 }
 
@@ -184,12 +219,13 @@ pub(crate) fn frames_in_core<'a, O: Output, D: Disk>(
     ensures { (before : Parts D) → ReadsFront D.Disk before image.entry.seq image.entry.front.now archive.old
         → TellsOutcome (telling O.Output reply.old reply.new) (λ text. ShowsFound D.Disk before image.entry (map attached_view attached.now) (for_frames thread frame) text archive.new) (is_done result) }
 {
-    match unwind_in_core(alloc, image, core, attached, thread, archive) {
-        Ok(Some(unwound)) => tell_frames(reply, &unwound, frame),
-        Ok(None) => {
-            tell_no(reply, b"NoThread");
-            Outcome::Refused
-        }
+    a_sound_front_is_enough();
+    let Some(begun) = Walk::begin(alloc, core, thread) else {
+        tell_no(reply, b"NoThread");
+        return Outcome::Refused;
+    };
+    match process_in_core(alloc, image, core, attached, archive) {
+        Ok(found) => frames_of_walk(alloc, image, found, begun, frame, reply, archive),
         Err(fault) => tell_found(reply, Err(fault)),
     }
 }

@@ -1,9 +1,10 @@
 // Pieces of a core's image that are read one by one, as they are wanted.
-ghost use Rattle.std.specs.Prelude.{◌≡◌, ◌+◌, ◌-◌, ◌<◌, ◌≤◌, ℕ, List, IfOk, OnOk, length, map};
+ghost use Rattle.std.specs.Prelude.{◌≡◌, ◌+◌, ◌-◌, ◌<◌, ◌≤◌, ◌++◌, ℕ, List, IfOk, OnOk, length, map};
 ghost use Rattle.intake.specs.Parts.{Parts, state_of};
 ghost use Rattle.case_queries.specs.Fronts.{HasSize};
 ghost use Rattle.case_queries.specs.Pieces.{ApartFrom, AreApart, AreBeside, BeginsWith, HasRead, IsBesidePiece, ReadsPiece, SeesMore, SeesPieces, piece_view};
 ghost use Rattle.case_queries.specs.PieceWords.{lent_view};
+ghost use Rattle.case_queries.specs.declared.window.Part as windows;
 
 use crate::walk::{CaseImage, WalkFault};
 use crate::window::Part;
@@ -127,6 +128,7 @@ pub(crate) fn read_more<D: Disk>(
     requires within { place < image.size }
     ensures sees { (before : Parts D) → SeesPieces D.Disk before image.entry pieces.old.items archive.old → SeesMore D.Disk before image.entry pieces.new.items result archive.new }
     ensures read { HasRead image.entry pieces.old.items result pieces.new.items }
+    ensures behind { OnOk result ((more : List windows.Part) × (pieces.new.items ≡ pieces.old.items ++ more)) }
     ensures has { OnOk result (HasSize (state_of archive.new) image.entry.seq image.entry.size) }
 {
     if pieces.len() as u64 >= MOST {

@@ -1,12 +1,17 @@
 -- Texts that are told one behind the other, and numbers that are handed on.
-use Rattle.std.proofs.Common.{◌≡◌, ◌≤◌, ◌==◌, ℕ, Bool, true, false, if◌then◌else◌, List, [], ◌∷◌, ◌++◌, length, sym, ap, ◌∙◌, refl, append_assoc, arith, ℤ, SFits, to_z, of_z}
+use Rattle.std.proofs.Common.{◌≡◌, ◌≤◌, ◌<◌, ◌==◌, ◌-◌, ℕ, Bool, min, take, true, false, if◌then◌else◌, List, [], ◌∷◌, ◌++◌, length, sym, ap, ◌∙◌, refl, append_assoc, arith, ℤ, SFits, to_z, of_z}
 use Rattle.std.specs.List.{flat_map}
 use Rattle.std.specs.Int.{Width}
+use Rattle.std.proofs.lemmas.Bool.{ltb-true, ltb-false}
 use Rattle.std.proofs.lemmas.Int.{to_z-of_z}
-use Rattle.std.proofs.lemmas.List.{append-nil, length-append}
+use Rattle.std.proofs.lemmas.List.{append-nil, length-append, length-take}
+use Rattle.std.specs.Prelude.{nat_lt, codes}
 use Rattle.script_streams.specs.TellLaws.{tells_then, tells_as, tells_nothing}
 use Rattle.script_streams.specs.Telling.{Sink, Tells}
 use Rattle.script_words.specs.Printing.{escape, prints_itself, shown, shown_byte}
+use Rattle.case_screens.specs.Files.{store_text}
+use Rattle.case_screens.specs.Quotes.{quoted}
+use Rattle.case_screens.specs.Texts.{more_words, name_text}
 
 -- of a whole text all was told but what is left
 pub record TellsFront (old new : Sink) (whole left : List ℕ) : Type 0 where
@@ -52,3 +57,40 @@ pub shown_long : (t : List ℕ) → length t ≤ length (shown t)
 shown_long [] = omega arith
 shown_long (c ∷ []) = one_long (c == 45) c
 shown_long (c ∷ d ∷ cs) = bytes_long (c ∷ d ∷ cs)
+
+cut_long : (cut : Bool) (t : List ℕ) → nat_lt 256 (length t) ≡ cut → min (length t) 256 ≤ length (if cut then shown (take 256 t) ++ more_words (length t - 256) else shown t)
+cut_long true t e =
+    let all = length-append (shown (take 256 t)) (more_words (length t - 256)) in
+    let front = shown_long (take 256 t) in
+    let count = length-take 256 t in
+    omega (arith, all, front, count)
+cut_long false t e = let all = shown_long t in omega (arith, all)
+
+-- a name prints as no fewer bytes than are shown of it
+pub name_long : (t : List ℕ) → min (length t) 256 ≤ length (name_text t)
+name_long t = cut_long (nat_lt 256 (length t)) t refl
+
+cut_short : (cut : Bool) (t : List ℕ) → nat_lt 256 (length t) ≡ cut → length t ≤ 256 → (if cut then shown (take 256 t) ++ more_words (length t - 256) else shown t) ≡ shown t
+cut_short true t e few = let many = ltb-true 256 (length t) e in absurd (omega (arith, many, few))
+cut_short false t e few = refl
+
+-- a name that is short is shown whole
+pub name_short : (t : List ℕ) → length t ≤ 256 → name_text t ≡ shown t
+name_short t few = cut_short (nat_lt 256 (length t)) t refl few
+
+cut_here : (cut : Bool) (t : List ℕ) → nat_lt 256 (length t) ≡ cut → 256 < length t → (if cut then shown (take 256 t) ++ more_words (length t - 256) else shown t) ≡ shown (take 256 t) ++ more_words (length t - 256)
+cut_here true t e many = refl
+cut_here false t e many = let few = ltb-false 256 (length t) e in absurd (omega (arith, few, many))
+
+-- of a long one its first bytes
+pub name_cut : (t : List ℕ) → 256 < length t → name_text t ≡ shown (take 256 t) ++ more_words (length t - 256)
+name_cut t many = cut_here (nat_lt 256 (length t)) t refl many
+
+store_here : (long : Bool) (t : List ℕ) → nat_lt 128 (length t) ≡ long → length t ≤ 128
+    → (if long then codes "not stored: its name has over 128 bytes" else codes "not stored: corekeep store ARCHIVE FILE --exec " ++ quoted (shown t)) ≡ codes "not stored: corekeep store ARCHIVE FILE --exec " ++ quoted (shown t)
+store_here true t e few = let many = ltb-true 128 (length t) e in absurd (omega (arith, many, few))
+store_here false t e few = refl
+
+-- the command that stores a file whose name a case can have
+pub store_some : (t : List ℕ) → length t ≤ 128 → store_text t ≡ codes "not stored: corekeep store ARCHIVE FILE --exec " ++ quoted (shown t)
+store_some t few = store_here (nat_lt 128 (length t)) t refl few

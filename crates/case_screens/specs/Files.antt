@@ -1,5 +1,5 @@
 -- The files that a core had mapped, and which of them are stored.
-use Rattle.std.specs.Prelude.{ℕ, if◌then◌else◌, List, [], ◌∷◌, ◌++◌, find, Option, None, Some, Result, Ok, Err, codes, decimal}
+use Rattle.std.specs.Prelude.{ℕ, nat_lt, if◌then◌else◌, List, [], ◌∷◌, ◌++◌, length, take, find, Option, None, Some, Result, Ok, Err, codes, decimal}
 use Rattle.std.specs.Str.{bytes_eq}
 use Rattle.build_replies.specs.Builds.{BuildValue}
 use Rattle.build_replies.specs.Compared.{build_view}
@@ -15,7 +15,7 @@ use Rattle.case_tables.specs.Table.{left_text}
 use Rattle.case_tables.specs.Wanted.{is_same_kind}
 use Rattle.case_screens.specs.Quotes.{quoted}
 use Rattle.case_screens.specs.Reasons.{core_reason, missing}
-use Rattle.case_screens.specs.Texts.{label_at, refused_line}
+use Rattle.case_screens.specs.Texts.{label_at, margin, name_text, refused_line, rest_after}
 
 -- the number of the case, if it is an executable
 abbrev pub exec_number : Option Case → Option ℕ
@@ -32,17 +32,21 @@ build_text (Some core) (Some stored) = if bytes_eq core stored then [] else code
 build_text (Some core) None = codes ", no build ID"
 build_text None stored = []
 
+-- the command that stores a file, with its name whole; no case has a name of over 128 bytes
+abbrev pub store_text : List ℕ → List ℕ
+store_text name = if nat_lt 128 (length name) then codes "not stored: its name has over 128 bytes" else codes "not stored: corekeep store ARCHIVE FILE --exec " ++ quoted (shown name)
+
 abbrev pub stored_text : Option ℕ → BuildValue → List ℕ
 stored_text (Some seq) v = codes "stored as case " ++ (decimal seq ++ build_text v.core v.stored)
-stored_text None v = codes "not stored: corekeep store ARCHIVE FILE --exec " ++ quoted (shown v.name)
+stored_text None v = store_text v.name
 
 -- a mapped file
 abbrev pub file_row : List Case → ℕ → BuildAnswer → List ℕ
 file_row cases k r =
-    label_at (codes "files     ") k ++ (left_text 34 (shown r.front.name.now) ++ (stored_text (stored_number cases r.front.name.now) (build_view r) ++ 10 ∷ []))
+    label_at (codes "files     ") k ++ (left_text 34 (name_text r.front.name.now) ++ (stored_text (stored_number cases r.front.name.now) (build_view r) ++ 10 ∷ []))
 
--- those of a core, or why they are not shown
+-- those of a core, at most 256, or why they are not shown
 abbrev pub files_text : List Case → Result (List NoteView) CoreFault → Option (List BuildAnswer) → List ℕ
 files_text cases (Err fault) rows = refused_line (codes "files     ") (core_reason fault)
 files_text cases (Ok notes) None = refused_line (codes "files     ") missing
-files_text cases (Ok notes) (Some rows) = numbered_lines (file_row cases) 0 rows
+files_text cases (Ok notes) (Some rows) = numbered_lines (file_row cases) 0 (take 256 rows) ++ rest_after margin 256 (length rows)

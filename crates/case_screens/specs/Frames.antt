@@ -6,17 +6,17 @@ use Rattle.core_notes.specs.Descriptor.{pr_reg, status_pid}
 use Rattle.core_notes.specs.FileList.{FileView, is_mapping}
 use Rattle.core_notes.specs.Typed.{all_descs, first_desc}
 use Rattle.elf_view.specs.NoteList.{NoteView}
-use Rattle.frame_replies.specs.FrameLines.{place_text, stop_line}
-use Rattle.frame_replies.specs.FrameValues.{frame_view}
+use Rattle.frame_replies.specs.FrameLines.{stop_line}
 use Rattle.frame_replies.specs.declared.values.FrameAnswer.{FrameAnswer}
 use Rattle.frame_replies.specs.declared.values.FramesAnswer.{FramesAnswer}
 use Rattle.image_replies.specs.Lines.{numbered_lines}
 use Rattle.image_replies.specs.declared.core_image.CoreFault.{CoreFault}
-use Rattle.script_words.specs.Printing.{hexadecimal, shown}
+use Rattle.memory_replies.specs.declared.named.Location.{Location}
+use Rattle.script_words.specs.Printing.{hexadecimal}
 use Rattle.case_tables.specs.Table.{left_text}
 use Rattle.case_screens.specs.Core.{files_in}
 use Rattle.case_screens.specs.Reasons.{core_reason, no_thread}
-use Rattle.case_screens.specs.Texts.{margin, label_at, refused_line}
+use Rattle.case_screens.specs.Texts.{margin, label_at, name_text, refused_line, rest_after}
 
 -- the name of the first file that is mapped at an address
 abbrev pub file_at : List FileView → Option ℕ → Option (List ℕ)
@@ -27,10 +27,19 @@ file_at files (Some a) = option_map (λ (f : FileView). f.name) (find (is_mappin
 abbrev pub frame_file : List FileView → FrameAnswer → Option (List ℕ)
 frame_file files f = file_at files f.looked_up
 
+-- a place in a function, if it is known
+abbrev pub function_text : Option Location → List ℕ
+function_text None = codes "?"
+function_text (Some l) = name_text l.name.now ++ (codes "+" ++ hexadecimal l.distance)
+
+-- where a frame is: that a signal handler returns there, or a place in a function
+abbrev pub place_text : FrameAnswer → List ℕ
+place_text f = if f.signal then codes "signal" else function_text f.function
+
 -- where a frame is, and its file, if that is known
 abbrev pub where_text : FrameAnswer → Option (List ℕ) → List ℕ
-where_text f None = place_text (frame_view f)
-where_text f (Some name) = left_text 24 (place_text (frame_view f)) ++ shown name
+where_text f None = place_text f
+where_text f (Some name) = left_text 24 (place_text f) ++ name_text name
 
 abbrev pub frame_row : List FileView → ℕ → FrameAnswer → List ℕ
 frame_row files k f =
@@ -56,11 +65,11 @@ frames_text files None = refused_line (codes "frames    ") no_thread
 
 -- the function and the file of a thread's pc, as far as they are known
 abbrev pub in_function : FrameAnswer → List ℕ
-in_function f = if f.signal || is_some f.function then codes " in " ++ place_text (frame_view f) else []
+in_function f = if f.signal || is_some f.function then codes " in " ++ place_text f else []
 
 abbrev pub in_file : Option (List ℕ) → List ℕ
 in_file None = []
-in_file (Some name) = codes " (" ++ (shown name ++ codes ")")
+in_file (Some name) = codes " (" ++ (name_text name ++ codes ")")
 
 abbrev pub first_place : List FileView → List FrameAnswer → List ℕ
 first_place files [] = []
@@ -86,11 +95,16 @@ each_thread files count (d ∷ descs) (frames ∷ unwound) = thread_text files c
 abbrev pub thread_count : List (List ℕ) → ℕ
 thread_count descs = min (length descs) 18446744073709551615
 
--- the threads that are shown, of a core with these notes
+-- how many threads are not shown, if more than one is
+abbrev pub threads_rest : ℕ → ℕ → List ℕ
+threads_rest count unwound = if nat_lt 1 unwound then rest_after (codes "thread    ") (min unwound 256) count else []
+
+-- the threads that are shown, of a core with these notes: at most 256
 abbrev pub shown_threads : List NoteView → List (Option FramesAnswer) → List ℕ
 shown_threads notes [] = codes "thread    the core has no thread" ++ 10 ∷ []
 shown_threads notes (frames ∷ unwound) =
-    each_thread (files_in (first_desc 0x46494c45 notes)) (thread_count (all_descs 1 notes)) (all_descs 1 notes) (frames ∷ unwound)
+    each_thread (files_in (first_desc 0x46494c45 notes)) (thread_count (all_descs 1 notes)) (all_descs 1 notes) (take 256 (frames ∷ unwound))
+    ++ threads_rest (thread_count (all_descs 1 notes)) (length (frames ∷ unwound))
 
 abbrev pub threads_text : Result (List NoteView) CoreFault → List (Option FramesAnswer) → List ℕ
 threads_text (Ok notes) unwound = shown_threads notes unwound

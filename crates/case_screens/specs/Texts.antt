@@ -1,8 +1,8 @@
 -- The small texts of a screen.
-use Rattle.std.specs.Prelude.{ℕ, ◌-◌, ◌==◌, ◌&&◌, ◌||◌, Bool, nat_lt, if◌then◌else◌, List, [], ◌∷◌, ◌++◌, length, take, slice_index, codes}
+use Rattle.std.specs.Prelude.{ℕ, ◌-◌, ◌==◌, ◌&&◌, ◌||◌, Bool, nat_lt, if◌then◌else◌, List, [], ◌∷◌, ◌++◌, length, take, slice_index, codes, decimal}
 use Rattle.std.specs.List.{flat_map}
 use Rattle.std.specs.Str.{bytes_eq}
-use Rattle.script_words.specs.Printing.{shown_byte}
+use Rattle.script_words.specs.Printing.{shown, shown_byte}
 use Rattle.case_screens.specs.Reasons.{Reason, named}
 
 -- what stands before a line that continues the one above it
@@ -25,6 +25,22 @@ without_space text = if nat_lt 0 (length text) && slice_index text (length text 
 abbrev pub plain_text : List ℕ → List ℕ
 plain_text [] = codes "-"
 plain_text (c ∷ cs) = flat_map plain_byte (without_space (c ∷ cs))
+
+-- how many more there are than are shown
+abbrev pub more_words : ℕ → List ℕ
+more_words n = codes ".. and " ++ (decimal n ++ codes " more")
+
+-- a name as a script prints it: its first 256 bytes, and how many more it has
+abbrev pub name_text : List ℕ → List ℕ
+name_text name = if nat_lt 256 (length name) then shown (take 256 name) ++ more_words (length name - 256) else shown name
+
+-- a line that says how many more there are, behind that label
+abbrev pub rest_line : List ℕ → ℕ → List ℕ
+rest_line label n = label ++ (more_words n ++ 10 ∷ [])
+
+-- the same where more than that many are shown
+abbrev pub rest_after : List ℕ → ℕ → ℕ → List ℕ
+rest_after label most n = if nat_lt most n then rest_line label (n - most) else []
 
 -- the fields by which a file is of another machine
 abbrev pub is_of_another_machine : List ℕ → Bool

@@ -1,22 +1,29 @@
 // The files that a core had mapped, and which of them are stored.
-ghost use Rattle.std.specs.Prelude.{◌≡◌, map, option_map};
+ghost use Rattle.std.specs.Prelude.{◌≡◌, ◌++◌, length, map, option_map, take};
 ghost use Rattle.build_replies.specs.Compared.{build_view};
 ghost use Rattle.image_replies.specs.Lines.{numbered_lines};
 ghost use Rattle.journal_layout.specs.Case.{case_of};
 ghost use Rattle.script_streams.specs.Replies.{TellsText, telling};
 ghost use Rattle.case_screens.specs.Core.{notes_read};
-ghost use Rattle.case_screens.specs.Files.{build_text, exec_number, file_row, files_text, stored_number, stored_text};
+ghost use Rattle.case_screens.specs.Files.{build_text, store_text, exec_number, file_row, files_text, stored_number, stored_text};
+ghost use Rattle.case_screens.specs.Texts.{margin, rest_after};
 
 use crate::quotes::tell_quoted;
 use crate::reason::{core_reason, missing};
-use crate::texts::{room_after, tell_label, tell_refused};
+use crate::texts::{MARGIN, room_after, tell_label, tell_name, tell_refused, tell_rest_after};
 use build_replies::BuildAnswer;
 use case_tables::{case_of_name, tell_spaces};
 use image_replies::{CoreFault, CoreImage};
 use journal_layout::{Entry, Kind};
 use script_streams::{Output, Reply};
 
-// Tells the files that a core had mapped, or why they are not shown.
+// How many files are shown at most.
+const MOST: usize = 256;
+
+// The longest name of a case, in bytes.
+const CASE_NAME: usize = 128;
+
+// Tells the files that a core had mapped, at most 256, or why they are not shown.
 pub(crate) fn tell_files<O: Output>(
     reply: &mut Reply<'_, O>,
     cases: &[Entry],
@@ -27,9 +34,17 @@ pub(crate) fn tell_files<O: Output>(
 {
     match (core, builds) {
         (Err(fault), _) => tell_refused(reply, b"files     ", &core_reason(*fault)),
-        (Ok(_), Some(rows)) => tell_rows(reply, cases, rows),
+        (Ok(_), Some(rows)) => tell_first(reply, cases, rows),
         (Ok(_), None) => tell_refused(reply, b"files     ", &missing()),
     }
+}
+
+fn tell_first<O: Output>(reply: &mut Reply<'_, O>, cases: &[Entry], rows: &[BuildAnswer<'_>])
+    ensures { TellsText (telling O.Output reply.old reply.new) (numbered_lines (file_row (map case_of cases.now)) 0 (take 256 rows.now) ++ rest_after margin 256 (length rows.now)) }
+{
+    let (first, _) = rows.split_at(rows.len().min(MOST));
+    tell_rows(reply, cases, first);
+    tell_rest_after(reply, MARGIN, MOST, rows.len());
 }
 
 fn tell_rows<O: Output>(reply: &mut Reply<'_, O>, cases: &[Entry], rows: &[BuildAnswer<'_>])
@@ -50,7 +65,7 @@ fn tell_row<O: Output>(
 {
     let name = file.front.name;
     tell_label(reply, b"files     ", row);
-    reply.tell_text(name);
+    tell_name(reply, name);
     tell_spaces(reply, room_after(34, name, 0));
     reply.tell(b"  ");
     tell_stored(reply, stored_number(cases, name), file);
@@ -66,10 +81,19 @@ fn tell_stored<O: Output>(reply: &mut Reply<'_, O>, number: Option<u32>, file: &
             reply.tell_decimal(u128::from(number));
             reply.tell(build_words(file.front.id(), file.stored));
         }
-        None => {
-            reply.tell(b"not stored: corekeep store ARCHIVE FILE --exec ");
-            tell_quoted(reply, file.front.name);
-        }
+        None => tell_store_text(reply, file.front.name),
+    }
+}
+
+// Tells the command that stores a file under its name, if a case can have that name.
+fn tell_store_text<O: Output>(reply: &mut Reply<'_, O>, name: &[u8])
+    ensures { TellsText (telling O.Output reply.old reply.new) (store_text name.now) }
+{
+    if name.len() > CASE_NAME {
+        reply.tell(b"not stored: its name has over 128 bytes");
+    } else {
+        reply.tell(b"not stored: corekeep store ARCHIVE FILE --exec ");
+        tell_quoted(reply, name);
     }
 }
 

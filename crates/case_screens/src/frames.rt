@@ -2,18 +2,17 @@
 ghost use Rattle.std.specs.Prelude.{◌≡◌, ◌-◌, find, length, option_map};
 ghost use Rattle.core_notes.specs.FileList.{FileView, is_mapping};
 ghost use Rattle.core_notes.specs.FileWords.{files_bytes, files_left};
-ghost use Rattle.frame_replies.specs.FrameLines.{place_text};
-ghost use Rattle.frame_replies.specs.FrameValues.{frame_view};
 ghost use Rattle.image_replies.specs.Lines.{numbered_lines};
 ghost use Rattle.script_streams.specs.Replies.{TellsText, telling};
 ghost use Rattle.case_screens.specs.Core.{files_in};
 ghost use Rattle.case_screens.specs.Frames as spec;
 
 use crate::reason::no_thread;
-use crate::texts::{MARGIN, room_after, tell_label, tell_left, tell_refused};
+use crate::texts::{MARGIN, room_after, tell_label, tell_left, tell_name, tell_refused};
 use case_tables::tell_spaces;
 use core_notes::{FileMaps, Files};
-use frame_replies::{FrameAnswer, FramesAnswer, tell_frame_place, tell_stop};
+use frame_replies::{FrameAnswer, FramesAnswer, tell_stop};
+use memory_replies::Location;
 use script_streams::{Output, Reply};
 use script_words::{print_decimal, print_hexadecimal};
 
@@ -80,21 +79,45 @@ fn tell_row<O: Output>(
     reply.tell(b"\n");
 }
 
+// Tells where a frame is: that a signal handler returns there, or a place in a function.
+pub(crate) fn tell_place<O: Output>(reply: &mut Reply<'_, O>, frame: &FrameAnswer<'_>)
+    ensures { TellsText (telling O.Output reply.old reply.new) (spec.place_text frame.now) }
+{
+    if frame.signal {
+        reply.tell(b"signal");
+    } else {
+        tell_function(reply, frame.function);
+    }
+}
+
+fn tell_function<O: Output>(reply: &mut Reply<'_, O>, function: Option<Location<'_>>)
+    ensures { TellsText (telling O.Output reply.old reply.new) (spec.function_text function.entry) }
+{
+    match function {
+        Some(place) => {
+            tell_name(reply, place.name);
+            reply.tell(b"+");
+            reply.tell_hexadecimal(place.distance);
+        }
+        None => reply.tell(b"?"),
+    }
+}
+
 // Tells where a frame is, and its file, if that is known.
 fn tell_where<O: Output>(reply: &mut Reply<'_, O>, frame: &FrameAnswer<'_>, file: Option<&[u8]>)
     ensures { TellsText (telling O.Output reply.old reply.new) (spec.where_text frame.now (option_map (λ n. n.now) file.entry)) }
 {
-    tell_frame_place(reply, frame);
+    tell_place(reply, frame);
     if let Some(name) = file {
         tell_spaces(reply, room_of(frame));
         reply.tell(b"  ");
-        reply.tell_text(name);
+        tell_name(reply, name);
     }
 }
 
 // How many spaces stand behind the place of a frame, in a column of 24.
 fn room_of(frame: &FrameAnswer<'_>) -> usize
-    ensures { result ≡ 24 - length (place_text (frame_view frame.now)) }
+    ensures { result ≡ 24 - length (spec.place_text frame.now) }
 {
     if frame.signal {
         return 18;

@@ -33,4 +33,5 @@ pub use laws::quoted_names_are_read_again;
 pub use rows::{refusal_json, rows_json};
 pub use screen::tell_case_screen;
 pub use tally::{Tally, tally_of};
+pub use threads::MOST_THREADS;
 pub use told_notes::thread_count;

@@ -1,12 +1,11 @@
 // The small texts of a screen.
-ghost use Rattle.std.specs.Prelude.{◌≡◌, ◌+◌, ◌-◌, ◌≤◌, length};
+ghost use Rattle.std.specs.Prelude.{◌≡◌, ◌+◌, ◌-◌, ◌<◌, ◌≤◌, length};
 ghost use Rattle.std.specs.List.{flat_map};
 ghost use Rattle.case_tables.specs.Table.{left_text};
-ghost use Rattle.script_words.specs.Printing.{shown};
 ghost use Rattle.script_streams.specs.Replies.{TellsText, telling};
 ghost use Rattle.case_screens.specs.Reasons.{named};
 ghost use Rattle.case_screens.specs.ReasonWords.{reason_view};
-ghost use Rattle.case_screens.specs.Texts.{is_of_another_machine, label_at, plain_byte, plain_text, refusal_text, refused_line, without_space};
+ghost use Rattle.case_screens.specs.Texts.{is_of_another_machine, label_at, more_words, name_text, plain_byte, plain_text, refusal_text, refused_line, rest_after, rest_line, without_space};
 
 use crate::reason::Reason;
 use case_tables::{shown_length, tell_spaces};
@@ -15,6 +14,9 @@ use script_words::print_byte;
 
 // What stands before a line that continues the one above it.
 pub(crate) const MARGIN: &[u8] = b"          ";
+
+// How many bytes of a name are shown at most.
+const NAME_BYTES: usize = 256;
 
 // Tells a line's label at the first of its rows, and as many spaces at the others.
 pub(crate) fn tell_label<O: Output>(reply: &mut Reply<'_, O>, label: &[u8], row: usize)
@@ -36,16 +38,58 @@ pub(crate) fn tell_left<O: Output>(reply: &mut Reply<'_, O>, width: usize, text:
     reply.tell(b"  ");
 }
 
-// How many spaces stand in a column of that width behind a text, as a script prints it, and so many bytes more.
-pub(crate) fn room_after(width: usize, text: &[u8], more: usize) -> usize
-    requires { width ≤ 128 }
-    ensures { result ≡ width - (length (shown text.now) + more) }
+// Tells a name as a script prints it: its first bytes, and how many more it has.
+pub(crate) fn tell_name<O: Output>(reply: &mut Reply<'_, O>, name: &[u8])
+    ensures { TellsText (telling O.Output reply.old reply.new) (name_text name.now) }
 {
-    if text.len() >= width {
+    if name.len() > NAME_BYTES {
+        reply.tell_text(&name[..NAME_BYTES]);
+        tell_more(reply, name.len() - NAME_BYTES);
+    } else {
+        reply.tell_text(name);
+    }
+}
+
+fn tell_more<O: Output>(reply: &mut Reply<'_, O>, count: usize)
+    ensures { TellsText (telling O.Output reply.old reply.new) (more_words count) }
+{
+    reply.tell(b".. and ");
+    reply.tell_decimal(count as u128);
+    reply.tell(b" more");
+}
+
+// Tells how many more there are than that many, if there are more.
+pub(crate) fn tell_rest_after<O: Output>(
+    reply: &mut Reply<'_, O>,
+    label: &[u8],
+    most: usize,
+    count: usize,
+)
+    ensures { TellsText (telling O.Output reply.old reply.new) (rest_after label.now most count) }
+{
+    if count > most {
+        tell_rest(reply, label, count - most);
+    }
+}
+
+fn tell_rest<O: Output>(reply: &mut Reply<'_, O>, label: &[u8], count: usize)
+    ensures { TellsText (telling O.Output reply.old reply.new) (rest_line label.now count) }
+{
+    reply.tell(label);
+    tell_more(reply, count);
+    reply.tell(b"\n");
+}
+
+// How many spaces stand in a column of that width behind a name, and so many bytes more.
+pub(crate) fn room_after(width: usize, name: &[u8], more: usize) -> usize
+    requires { width ≤ 128 }
+    ensures { result ≡ width - (length (name_text name.now) + more) }
+{
+    if name.len() >= width {
         return 0;
     }
     width
-        .saturating_sub(shown_length(text))
+        .saturating_sub(shown_length(name))
         .saturating_sub(more)
 }
 

@@ -9,17 +9,20 @@ ghost use Rattle.thread_regs.specs.ThreadWords.{thread_bytes, threads_left};
 ghost use Rattle.case_screens.specs.Core.{files_in, notes_read};
 ghost use Rattle.case_screens.specs.Frames as spec;
 
-use crate::frames::{frame_file, tell_frames};
+use crate::frames::{frame_file, tell_frames, tell_place as tell_frame_place};
 use crate::reason::core_reason;
-use crate::texts::tell_refused;
+use crate::texts::{tell_name, tell_refused, tell_rest_after};
 use crate::told_notes::{pc_of, thread_count};
 use core_notes::Files;
-use frame_replies::{FrameAnswer, FramesAnswer, tell_frame_place};
+use frame_replies::{FrameAnswer, FramesAnswer};
 use image_replies::{CoreFault, CoreImage};
 use script_streams::{Output, Reply};
 use thread_regs::{Thread, ThreadList, threads};
 
-// Tells the threads that are shown and their frames, by the core and by the replies to `unwind`.
+/// How many threads a screen shows at most.
+pub const MOST_THREADS: usize = 256;
+
+// Tells the threads that are shown, at most 256, and their frames, by the core and the frames that were found.
 pub(crate) fn tell_threads<O: Output>(
     reply: &mut Reply<'_, O>,
     core: &Result<CoreImage<'_>, CoreFault>,
@@ -48,13 +51,30 @@ fn tell_shown<O: Output>(
         reply.tell(b"thread    the core has no thread\n");
         return;
     }
+    let count = thread_count(core);
+    let (shown, _) = unwound.split_at(unwound.len().min(MOST_THREADS));
     tell_each(
         reply,
         core.notes().files(),
-        thread_count(core),
+        count,
         threads(core.notes()),
-        unwound,
+        shown,
     );
+    tell_threads_rest(reply, count, unwound.len());
+}
+
+// Tells how many threads are not shown, if more than one is.
+fn tell_threads_rest<O: Output>(reply: &mut Reply<'_, O>, count: u64, unwound: usize)
+    ensures { TellsText (telling O.Output reply.old reply.new) (spec.threads_rest count unwound) }
+{
+    if unwound > 1 {
+        tell_rest_after(
+            reply,
+            b"thread    ",
+            unwound.min(MOST_THREADS),
+            count as usize,
+        );
+    }
 }
 
 // Tells as many threads as were unwound.
@@ -136,7 +156,7 @@ fn tell_file<O: Output>(reply: &mut Reply<'_, O>, file: Option<&[u8]>)
 {
     if let Some(name) = file {
         reply.tell(b" (");
-        reply.tell_text(name);
+        tell_name(reply, name);
         reply.tell(b")");
     }
 }

@@ -39,13 +39,13 @@ returns-in_default g c = λ plain.
     let says = (rw c.deref.ensures.value at c.core_in-said.ensures.says) seen.0 seen.2 in
     let said = c.core_in-said.result in
     let a : CoreAnswers = record { core = said.core; unwound = c.no_frames.result; builds = None; whole = said.whole; unread = said.unread } in
-    (seen.0, mid, seen.1, a, says, asks_none g.D.Disk c.args.archive.now mid c.args.seq seen.0 c.args.words.all_threads a said.core _ c.in_default.is, c.in_ok-put_core.ensures plain)
+    (seen.0, mid, seen.1, a, says, asks_none g.D.Disk c.args.archive.now mid c.args.seq seen.0 c.args.words a said.core _ c.in_default.is, c.in_ok-put_core.ensures plain)
 
 pub returns : goal.returns
 returns g c = λ plain.
     let old = c.args.archive.now in
     let seq = c.args.seq in
-    let all = c.args.words.all_threads in
+    let all = c.args.words in
     let size = c.in_ok-size.size in
     let has = c.in_ok-size.ensures in
     let seen = c.in_ok-front.ensures in

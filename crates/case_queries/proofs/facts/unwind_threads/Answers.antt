@@ -1,33 +1,60 @@
-use Rattle.std.proofs.Common.{List, Option, map, sym, subst, ◌∙◌, arith, rules}
+use Rattle.std.proofs.Common.{List, Option, map, refl, sym, subst, ◌∙◌, arith, rules}
 use Rattle.frame_replies.specs.declared.values.FramesAnswer.{FramesAnswer}
-use Rattle.intake.specs.State.{ArchiveState}
+use Rattle.intake.specs.Parts.{Parts}
 use Rattle.memory_replies.specs.Memory.{attached_view}
 use Rattle.case_queries.specs.Facts.{AreFramesOf}
-use Rattle.case_queries.specs.Fronts.{HasSize}
+use Rattle.case_queries.specs.Pieces.{SeesPieces}
 use Rattle.case_queries.proofs.FactLemmas.{frames_more}
+use Rattle.case_queries.proofs.FramesLemmas.{walks_same}
 use Rattle.case_queries.proofs.WindowLemmas.{seen_reads}
 use Rattle.case_queries.proofs.facts.unwind_threads.Goals as goal
+
+pub loop-thread-init : goal.loop-thread-init
+loop-thread-init g c =
+    let o = c.args.image in
+    let found = c.in_ok-found.ensures in
+    record {
+      has = found.has;
+      walks = found.walks;
+      pieces = refl;
+      sees = λ before seen. seen;
+      told = λ before seen. subst (λ (us : List (Option FramesAnswer)). AreFramesOf g.D.Disk before o.seq o.front.now o.size (map attached_view c.args.attached.now) 0 us) (sym c.new-all.ensures.items) tt;
+      count = search (rules, c.new-all.ensures.items);
+    }
+
+pub thread_frames-requires-clause-own : goal.thread_frames-requires-clause-own
+thread_frames-requires-clause-own g c = c.loop-thread.invariant.walks.own
+
+pub thread_frames-requires-clause-some : goal.thread_frames-requires-clause-some
+thread_frames-requires-clause-some g c = c.loop-thread.invariant.walks.some
 
 pub loop-thread-preserved : goal.loop-thread-preserved
 loop-thread-preserved g c =
     let o = c.args.image in
-    let seq = o.seq in
-    let front = o.front.now in
-    let size = o.size in
     let xs = map attached_view c.args.attached.now in
     let so_far = c.loop-thread.invariant in
     let thread = c.loop-thread.thread in
-    let new = c.unwind_in_core.new.archive in
-    let last = c.in_ok-unwound.ensures so_far.read.0 so_far.read.1 in
+    let new = c.thread_frames.new.archive in
+    let last = c.in_ok-frames.ensures in
+    let start = c.process_in_core.new.archive in
+    let first = c.in_ok-found.found.pieces.items in
+    let now = λ (before : Parts g.row.D.Denot) (seen : SeesPieces g.D.Disk before o first start). subst (λ ps. SeesPieces g.D.Disk before o ps c.loop-thread.archive) (sym so_far.pieces) (so_far.sees before seen) in
     record {
-      has = subst (λ (s : ArchiveState). HasSize s seq size) (so_far.read.1.state ∙ sym last.1.state) so_far.has;
-      read = (so_far.read.0, seen_reads g.D.Disk so_far.read.0 new seq last.0 front last.1 last.2.1);
-      told = λ before reads.
-          let found = c.in_ok-unwound.ensures before (so_far.reads before reads) in
-          subst (λ (us : List (Option FramesAnswer)). AreFramesOf g.D.Disk before seq front size xs 0 us) (sym c.in-Ok-push.ensures.items)
-          (frames_more g.D.Disk before seq front size xs 0 thread c.loop-thread.all.items c.in-Ok.frames (so_far.told before reads) (omega (arith, so_far.count)) (found.0, found.1.own, found.2, c.in-Ok.ensures found.0 xs thread found.3));
-      reads = λ before reads.
-          let found = c.in_ok-unwound.ensures before (so_far.reads before reads) in
-          seen_reads g.D.Disk before new seq found.0 front found.1 found.2.1;
-      count = search (rules, c.in-Ok-push.ensures.items, so_far.count);
+      has = last.has;
+      walks = walks_same o xs c.loop-thread.found c.thread_frames.new.found last.process last.pieces so_far.walks;
+      pieces = last.pieces ∙ so_far.pieces;
+      sees = λ before seen. subst (λ ps. SeesPieces g.D.Disk before o ps new) so_far.pieces (last.sees before (now before seen));
+      told = λ before seen.
+          subst (λ (us : List (Option FramesAnswer)). AreFramesOf g.D.Disk before o.seq o.front.now o.size xs 0 us) (sym c.in-Ok.ensures.items)
+          (frames_more g.D.Disk before o.seq o.front.now o.size xs 0 thread c.loop-thread.all.items c.in_ok-frames.frames (so_far.told before seen) (omega (arith, so_far.count)) (last.told before xs so_far.walks (now before seen)));
+      count = search (rules, c.in-Ok.ensures.items, so_far.count);
     }
+
+pub returns-clause-told : goal.returns-clause-told
+returns-clause-told g c = λ before reads. c.loop-thread.invariant.told before (c.in_ok-found.ensures.sees before reads)
+
+pub returns-clause-reads : goal.returns-clause-reads
+returns-clause-reads g c = λ before reads.
+    let o = c.args.image in
+    let seen = c.loop-thread.invariant.sees before (c.in_ok-found.ensures.sees before reads) in
+    seen_reads g.D.Disk before _ o.seq seen.0 o.front.now seen.1 seen.2.0.1

@@ -2,16 +2,19 @@ use Rattle.std.proofs.Common.{◌≡◌, length, map}
 use Rattle.intake.specs.Parts.{Parts, state_of}
 use Rattle.memory_replies.specs.Memory.{attached_view}
 use Rattle.case_queries.specs.Facts.{AreFramesOf}
-use Rattle.case_queries.specs.Fronts.{HasSize, ReadsFront}
+use Rattle.case_queries.specs.Fronts.{HasSize}
+use Rattle.case_queries.specs.Pieces.{SeesPieces}
+use Rattle.case_queries.specs.Unwound.{BeginsWalks}
 use Rattle.case_queries.proofs.facts.unwind_threads.Given as goal
 
--- the frames of the threads that went by
+-- the frames of the threads that went by, and what those of the others stand on
 abbrev pub invariant-loop-thread : goal.invariant-loop-thread
 invariant-loop-thread g l = record {
   has : HasSize (state_of l.archive) l.image.seq l.image.size;
-  read : (before : Parts g.row.D.Denot) × ReadsFront g.D.Disk before l.image.seq l.image.front.now l.archive;
-  told : (before : Parts g.row.D.Denot) → ReadsFront g.D.Disk before l.image.seq l.image.front.now l.initial.archive
+  walks : BeginsWalks l.image (map attached_view l.attached) l.found;
+  pieces : l.found.pieces.items ≡ l.initial.found.pieces.items;
+  sees : (before : Parts g.row.D.Denot) → SeesPieces g.D.Disk before l.image l.initial.found.pieces.items l.initial.archive → SeesPieces g.D.Disk before l.image l.initial.found.pieces.items l.archive;
+  told : (before : Parts g.row.D.Denot) → SeesPieces g.D.Disk before l.image l.initial.found.pieces.items l.initial.archive
       → AreFramesOf g.D.Disk before l.image.seq l.image.front.now l.image.size (map attached_view l.attached) 0 l.all.items;
-  reads : (before : Parts g.row.D.Denot) → ReadsFront g.D.Disk before l.image.seq l.image.front.now l.initial.archive → ReadsFront g.D.Disk before l.image.seq l.image.front.now l.archive;
   count : length l.all.items ≡ l.thread;
 }

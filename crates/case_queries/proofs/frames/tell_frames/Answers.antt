@@ -5,7 +5,7 @@ use Rattle.case_queries.proofs.frames.tell_frames.Goals as goal
 
 pub returns-in-Some : goal.returns-in-Some
 returns-in-Some g c image xs thread is =
-    let told = c.tell_walked_frame.ensures image xs thread c.args.unwound.now.process c.args.unwound.now.stop is.0 is.1 in
+    let told = c.tell_walked_frame.ensures image xs thread c.args.process.now c.args.unwound.now.stop is.0 is.1 in
     (told.0, subst (λ o. AnswersWith c.tell_walked_frame.result (frames_answer image xs thread o) told.0) (sym c.in-Some.is) told.1, told.2)
 
 pub returns-in-None : goal.returns-in-None

@@ -15,4 +15,4 @@ returns-in-Some g c =
 
 pub returns-in-None : goal.returns-in-None
 returns-in-None g c =
-    tells_as (ap (λ o. stored_text o (build_view c.args.file.now)) (sym c.in-None.is)) (tells_then c.tell-in-None.ensures c.tell_quoted.ensures)
+    tells_as (ap (λ o. stored_text o (build_view c.args.file.now)) (sym c.in-None.is)) c.tell_store_text.ensures
