@@ -4,12 +4,12 @@ use crate::line_numbers::number_in_line;
 use crate::log::Level;
 use crate::outcome_lines::words_of;
 use crate::spool_paths::SpoolPaths;
-use crate::spool_store::{settle_files, store_kept};
+use crate::spool_store::{settle_files, store_kept, tell_unremoved};
 use crate::twin::{Twin, twin_of};
 use archive_files::{ArchivePath, Collected, Failure, StoreRequest, open_looked};
 use diagnostics::Onlooker;
 use script_streams::{Output, Reply};
-use spool::{Entry, Outcome, Stage, entries_in, oldest_first, read_words};
+use spool::{CoreFiles, Entry, Outcome, Stage, entries_in, oldest_first, read_words, settle_words};
 use std::alloc::Global;
 use std::fs;
 use std::fs::File;
@@ -35,7 +35,7 @@ struct Waiting<'w> {
     file: &'w File,
 }
 
-// Stores each core that waits in the spool, the oldest first, but those that another process has.
+// Stores each core that waits in the spool, the oldest first, but those that another process has. Then words whose cores are gone are removed.
 pub(crate) fn flush<
     R: AllocGlobal + Files<File = File> + Clock + Clone + Drop,
     O: Output,
@@ -50,20 +50,54 @@ pub(crate) fn flush<
     let Some(folder) = handler.config.spool else {
         return refuse(output, b"fault spool: none is set\n");
     };
-    let Ok(entries) = entries_in(rt, folder) else {
+    let Ok(found) = entries_in(rt, folder) else {
         return refuse(output, b"fault spool: the folder can't be read\n");
     };
-    let mut entries = entries;
-    oldest_first(&mut entries);
+    let mut cores = found.cores;
+    oldest_first(&mut cores);
     let mut are_stored = true;
-    for entry in &entries {
-        let is_stored = flush_entry(rt, handler, place, folder, *entry, output, onlooker);
+    for core in &cores {
+        let is_stored = flush_entry(rt, handler, place, folder, *core, output, onlooker);
         are_stored = are_stored && is_stored;
     }
+    remove_lone_words(rt, handler, folder, &found.words);
     if are_stored {
         Ok(())
     } else {
         Err(Failure::Told)
+    }
+}
+
+// Removes words whose cores are gone.
+fn remove_lone_words<R: AllocGlobal + Files<File = File>>(
+    rt: &R,
+    handler: &Handler<'_>,
+    folder: &str,
+    words: &[Entry],
+) {
+    for entry in words {
+        remove_if_lone(rt, handler, folder, *entry);
+    }
+}
+
+// Removes words, if their core is gone. They were seen before their core is looked for: so it is not still to come.
+fn remove_if_lone<R: AllocGlobal + Files<File = File>>(
+    rt: &R,
+    handler: &Handler<'_>,
+    folder: &str,
+    entry: Entry,
+) {
+    let Ok(paths) = SpoolPaths::of(rt.alloc(), folder, entry.name) else {
+        return;
+    };
+    let names = paths.with_words(entry.stage);
+    // The lock of words is that of whoever writes them.
+    let Some(_locked) = lock_of(rt, names.words) else {
+        return;
+    };
+    let mut files = CoreFiles::new(rt, names, Stage::Whole);
+    if settle_words(&mut files).is_err() {
+        tell_unremoved(rt, handler, names.words);
     }
 }
 

@@ -1,5 +1,5 @@
 // Where the files of a core are in the spool.
-use spool::{SpoolName, Stage};
+use spool::{CorePaths, SpoolName, Stage};
 use std::alloc::{AllocError, Global};
 
 // The paths of a core's files.
@@ -9,8 +9,10 @@ pub(crate) struct SpoolPaths {
     pub(crate) core: String,
     // The core until then.
     pub(crate) part: String,
-    // Its words.
+    // Its words, once they are whole.
     pub(crate) words: String,
+    // Its words until then.
+    pub(crate) words_part: String,
 }
 
 impl SpoolPaths {
@@ -23,10 +25,12 @@ impl SpoolPaths {
         let core = name.core(alloc)?;
         let part = name.part(alloc)?;
         let words = name.words(alloc)?;
+        let words_part = name.words_part(alloc)?;
         Ok(SpoolPaths {
             core: path_in(alloc, folder, core.as_str())?,
             part: path_in(alloc, folder, part.as_str())?,
             words: path_in(alloc, folder, words.as_str())?,
+            words_part: path_in(alloc, folder, words_part.as_str())?,
         })
     }
 
@@ -35,6 +39,18 @@ impl SpoolPaths {
         match stage {
             Stage::Part => self.part.as_str(),
             Stage::Whole => self.core.as_str(),
+        }
+    }
+
+    // The paths of the core, and of its words at this stage.
+    pub(crate) fn with_words(&self, stage: Stage) -> CorePaths<'_> {
+        CorePaths {
+            part: self.part.as_str(),
+            whole: self.core.as_str(),
+            words: match stage {
+                Stage::Part => self.words_part.as_str(),
+                Stage::Whole => self.words.as_str(),
+            },
         }
     }
 }

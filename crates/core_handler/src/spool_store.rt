@@ -117,7 +117,7 @@ fn room_in<R: AllocGlobal + Files<File = File> + Clone + Drop>(
 // How many bytes the cores in a folder have. If it can't be read, there is no room in it.
 fn bytes_in<R: AllocGlobal + Files<File = File> + Clone + Drop>(rt: &R, folder: &str) -> u64 {
     match entries_in(rt, folder) {
-        Ok(entries) => taken_bytes(&entries),
+        Ok(found) => taken_bytes(&found.cores),
         Err(_) => u64::MAX,
     }
 }
@@ -247,19 +247,24 @@ pub(crate) fn settle_files<R: AllocGlobal + Files<File = File>>(
     stage: Stage,
     outcome: Outcome,
 ) {
-    let core = paths.at(stage);
-    let Ok(files) = CoreFiles::new(rt.alloc(), rt, core, paths.words.as_str()) else {
-        return;
-    };
-    let mut files = files;
+    let mut files = CoreFiles::new(rt, paths.with_words(Stage::Whole), stage);
     if settle(&mut files, outcome).is_err() {
-        let mut line = Collected::new(rt.alloc());
-        let mut reply = Reply::new(&mut line);
-        reply.tell_text(core.as_bytes());
-        reply.tell(b" can't be removed");
-        let _ = reply.finish();
-        handler.tell(rt, Level::Warning, line.text());
+        tell_unremoved(rt, handler, paths.at(stage));
     }
+}
+
+// Tells that a file of the spool was to be removed, and is not.
+pub(crate) fn tell_unremoved<R: AllocGlobal + Files<File = File>>(
+    rt: &R,
+    handler: &Handler<'_>,
+    path: &str,
+) {
+    let mut line = Collected::new(rt.alloc());
+    let mut reply = Reply::new(&mut line);
+    reply.tell_text(path.as_bytes());
+    reply.tell(b" can't be removed");
+    let _ = reply.finish();
+    handler.tell(rt, Level::Warning, line.text());
 }
 
 // Tells that a core is not in the spool, and why.

@@ -17,7 +17,15 @@ part_name n = named n (codes ".core.part")
 abbrev pub words_name : SpoolName → List ℕ
 words_name n = named n (codes ".words")
 
+abbrev pub words_part_name : SpoolName → List ℕ
+words_part_name n = named n (codes ".words.part")
+
 -- the name at this stage
 abbrev pub name_of : SpoolName → Stage → List ℕ
 name_of n Part = part_name n
 name_of n Whole = core_name n
+
+-- that of its words
+abbrev pub words_of : SpoolName → Stage → List ℕ
+words_of n Part = words_part_name n
+words_of n Whole = words_name n

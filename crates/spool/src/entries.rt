@@ -5,14 +5,14 @@ ghost use Rattle.spool.specs.Entries.{bytes_sum};
 
 use crate::spool_name::{SpoolName, Stage};
 
-/// A core that a folder has.
+/// A core that a folder has, or the words of one.
 #[derive(Clone, Copy, Debug, PartialEq, Eq)]
 pub struct Entry {
-    /// Its name.
+    /// The core's name.
     pub name: SpoolName,
-    /// Whether it is whole.
+    /// Whether the file is whole.
     pub stage: Stage,
-    /// How many bytes its file has.
+    /// How many bytes it has.
     pub bytes: u64,
 }
 

@@ -40,25 +40,45 @@ pub fn folder_fault<R: Files<File = File>>(rt: &R, path: &str) -> Option<FolderF
     }
 }
 
-/// The cores that a folder has, in no order. Files of other names are left alone, and so are links and folders.
+/// What a folder has of the spool, in no order.
+#[derive(Drop)]
+pub struct Listing {
+    /// Its cores.
+    pub cores: Vec<Entry>,
+    /// The words of cores.
+    pub words: Vec<Entry>,
+}
+
+impl Listing {
+    // Adds a regular file, if it is one of the spool's.
+    fn add(&mut self, alloc: Global, file: &str, bytes: u64) -> io::Result<()> {
+        if let Some((name, stage)) = SpoolName::read(alloc, file) {
+            self.cores.push(Entry { name, stage, bytes })?;
+        } else if let Some((name, stage)) = SpoolName::read_words(alloc, file) {
+            self.words.push(Entry { name, stage, bytes })?;
+        }
+        Ok(())
+    }
+}
+
+/// What a folder has of the spool. Files of other names are left alone, and so are links and folders.
 pub fn entries_in<R: Files<File = File> + AllocGlobal + Clone + Drop>(
     rt: &R,
     folder: &str,
-) -> io::Result<Vec<Entry>> {
-    let mut entries = Vec::new(rt.alloc());
+) -> io::Result<Listing> {
+    let mut listing = Listing {
+        cores: Vec::new(rt.alloc()),
+        words: Vec::new(rt.alloc()),
+    };
     for found in read_dir(rt, folder)? {
         let found = found?;
-        let Some((name, stage)) = SpoolName::read(rt.alloc(), found.file_name()) else {
-            continue;
-        };
         // One that has gone meanwhile is none.
         let Ok(about) = found.metadata() else {
             continue;
         };
         if about.is_file() {
-            let bytes = about.len();
-            entries.push(Entry { name, stage, bytes })?;
+            listing.add(rt.alloc(), found.file_name(), about.len())?;
         }
     }
-    Ok(entries)
+    Ok(listing)
 }

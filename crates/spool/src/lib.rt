@@ -15,15 +15,15 @@ mod settlement;
 mod spool_name;
 mod stream;
 
-pub use core_files::CoreFiles;
+pub use core_files::{CoreFiles, CorePaths};
 pub use entries::{Entry, oldest_first, taken_bytes};
 pub use fate::{Fate, fate_of};
-pub use folder::{FolderFault, entries_in, folder_fault};
+pub use folder::{FolderFault, Listing, entries_in, folder_fault};
 pub use kept_words::{read_words, words_text};
 pub use laws::only_what_is_done_goes;
 pub use outcomes::{Outcome, outcome_of};
 pub use piece::Piece;
 pub use reception::{NotSpooled, Room, Unspooled, begin_part, discard, receive, rest_of};
-pub use settlement::{Spooled, SpooledFacts, settle};
+pub use settlement::{Spooled, SpooledFacts, settle, settle_words};
 pub use spool_name::{SpoolName, Stage};
 pub use stream::{End, Passed, pass_on};

@@ -1,6 +1,6 @@
 // What stays of a core after it was to be stored, and what goes.
-ghost use Rattle.std.specs.Prelude.{◌≡◌, is_ok, false, OnOk, IfOk};
-ghost use Rattle.spool.specs.Settlement.{told, core_removed_if, words_removed_if, IsLetGo};
+ghost use Rattle.std.specs.Prelude.{◌≡◌, is_ok, true, false, OnOk, IfOk};
+ghost use Rattle.spool.specs.Settlement.{told, sought, core_removed_if, words_removed_if, IsLetGo, WordsSettled};
 ghost use Rattle.spool.specs.Spools.{spools};
 ghost use Rattle.spool.specs.declared.fate.Fate.TheVariants.{Stay, Go};
 ghost use Rattle.spool.specs.declared.settlement.SpooledFacts.{SpooledFacts};
@@ -14,14 +14,16 @@ use std::io;
 pub struct SpooledFacts {
     /// What came of it when it was to be stored the last time.
     pub outcome: Option<Outcome>,
-    /// The removal of its core was never asked for, or has failed.
+    /// The removal of its core was never asked for, or has failed, and no look has shown that its core is gone.
     pub has_core: bool,
+    /// Its core was looked for.
+    pub is_sought: bool,
     /// The removal of its words was never asked for, or has failed.
     pub has_words: bool,
 }
 
 /// A core in the spool: its file and that of its words. Each method is one call of the operating system, or a note. The `requires` say what has to
-/// have come before: a core is removed only after an outcome that lets it go, and its words after it, so that a core always has its words.
+/// have come before: a core is removed only after an outcome that lets it go, and its words only once it is gone, so that a core always has its words.
 pub trait Spooled {
     /// What is known of it.
     ghost facts: { Self → SpooledFacts };
@@ -29,6 +31,11 @@ pub trait Spooled {
     /// Notes what came of it when it was to be stored.
     fn tell(&mut self, outcome: Outcome)
         ensures told { facts self.new ≡ told outcome (facts self.old) };
+
+    /// Looks for its core, first under the name that it has until it is whole, and then under the other: it gets that one before it loses the
+    /// first. Answers whether it is gone.
+    fn is_core_gone(&mut self) -> bool
+        ensures facts { facts self.new ≡ sought result (facts self.old) };
 
     /// Removes the core.
     fn remove_core(&mut self) -> io::Result<()>
@@ -61,4 +68,21 @@ pub fn settle<S: Spooled>(spooled: &mut S, outcome: Outcome) -> io::Result<Fate>
             Ok(Fate::Go)
         }
     }
+}
+
+/// Removes words whose core is gone, leaves those of one that is there, and says which. No core is removed.
+///
+/// # Errors
+///
+/// Those of the system: the words were to be removed, and are not.
+pub fn settle_words<S: Spooled>(spooled: &mut S) -> io::Result<Fate>
+    ensures looked { (S.facts spooled.new).is_sought ≡ true }
+    ensures untold { (S.facts spooled.new).outcome ≡ (S.facts spooled.old).outcome }
+    ensures settled { IfOk result (λ fate. WordsSettled fate (S.facts spooled.old) (S.facts spooled.new)) }
+{
+    if !spooled.is_core_gone() {
+        return Ok(Fate::Stay);
+    }
+    spooled.remove_words()?;
+    Ok(Fate::Go)
 }

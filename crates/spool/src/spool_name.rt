@@ -5,7 +5,7 @@ ghost use Rattle.spool.specs.Names as spec;
 use script_words::parse_number;
 use std::alloc::{AllocError, Global};
 
-/// How far a core is: its file has another name until it is whole.
+/// How far a core is, or its words: a file has another name until it is whole.
 #[derive(Clone, Copy, Debug, PartialEq, Eq)]
 pub enum Stage {
     /// It is on its way, or was cut on it.
@@ -45,12 +45,32 @@ impl SpoolName {
         format!(in alloc; "{}.{}.words", self.stamp, self.pid)
     }
 
-    /// What has this name, if a core has it. A file of any other name is none of the spool's.
+    /// The name of its words until they are whole.
+    pub fn words_part(self, alloc: Global) -> Result<String, AllocError>
+        ensures { IfOk result (λ name. string_bytes name ≡ spec.words_part_name self) }
+    {
+        format!(in alloc; "{}.{}.words.part", self.stamp, self.pid)
+    }
+
+    /// What has this name, if a core has it.
     pub fn read(alloc: Global, name: &str) -> Option<(SpoolName, Stage)>
         ensures { IfSome result (λ found. name.now ≡ spec.name_of found.0 found.1) }
     {
-        let found = read_loosely(name)?;
+        let found = read_loosely(name, ".core")?;
         let written = written(alloc, found.0, found.1).ok()?;
+        if written.as_str() == name {
+            Some(found)
+        } else {
+            None
+        }
+    }
+
+    /// What has this name, if the words of a core have it. A file of any other name is none of the spool's.
+    pub fn read_words(alloc: Global, name: &str) -> Option<(SpoolName, Stage)>
+        ensures { IfSome result (λ found. name.now ≡ spec.words_of found.0 found.1) }
+    {
+        let found = read_loosely(name, ".words")?;
+        let written = written_words(alloc, found.0, found.1).ok()?;
         if written.as_str() == name {
             Some(found)
         } else {
@@ -69,13 +89,23 @@ fn written(alloc: Global, name: SpoolName, stage: Stage) -> Result<String, Alloc
     }
 }
 
-// What may have this name.
-fn read_loosely(name: &str) -> Option<(SpoolName, Stage)> {
-    let (front, stage) = match name.strip_suffix(".core.part") {
-        Some(front) => (front, Stage::Part),
-        None => (name.strip_suffix(".core")?, Stage::Whole),
+// The name of its words at this stage.
+fn written_words(alloc: Global, name: SpoolName, stage: Stage) -> Result<String, AllocError>
+    ensures { IfOk result (λ text. string_bytes text ≡ spec.words_of name stage) }
+{
+    match stage {
+        Stage::Part => name.words_part(alloc),
+        Stage::Whole => name.words(alloc),
+    }
+}
+
+// What may have this name, which has this end once its file is whole.
+fn read_loosely(name: &str, end: &str) -> Option<(SpoolName, Stage)> {
+    let (whole, stage) = match name.strip_suffix(".part") {
+        Some(whole) => (whole, Stage::Part),
+        None => (name, Stage::Whole),
     };
-    let (stamp, pid) = front.split_once('.')?;
+    let (stamp, pid) = whole.strip_suffix(end)?.split_once('.')?;
     let stamp = parse_number(stamp.as_bytes())?;
     let pid = parse_number(pid.as_bytes())?;
     Some((SpoolName { stamp, pid }, stage))
