@@ -1,6 +1,7 @@
 // The cores that wait in the spool are stored.
 use crate::handling::{HandleWords, Handler};
 use crate::line_numbers::number_in_line;
+use crate::lock_watch::LockWatch;
 use crate::log::Level;
 use crate::outcome_lines::words_of;
 use crate::spool_paths::SpoolPaths;
@@ -256,7 +257,16 @@ fn try_name<R: AllocGlobal + Files<File = File> + Clock, O: Output, W: Onlooker>
     };
     let name = request.printed_name(rt.alloc());
     let bytes = bytes_of(waiting.file);
-    match twin_of(rt, waiting.place, name.text(), waiting.file, bytes) {
+    let mut watch = LockWatch::new(rt, handler.teller, waiting.place.path, onlooker);
+    let twin = twin_of(
+        rt,
+        waiting.place,
+        name.text(),
+        waiting.file,
+        bytes,
+        &mut watch,
+    );
+    match twin {
         Twin::Other => None,
         Twin::Same => {
             tell_same(rt, handler, waiting, name.text());

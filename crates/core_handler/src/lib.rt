@@ -11,6 +11,7 @@ mod fronts;
 mod handling;
 mod labels;
 mod line_numbers;
+mod lock_watch;
 mod log;
 mod outcome_lines;
 mod requesting;

@@ -1,6 +1,7 @@
 // What becomes of a case that is stored, told to a log.
 use crate::examine::{Seen, look_at_case};
 use crate::file_limit::write_trouble;
+use crate::lock_watch::LockWatch;
 use crate::log::{Level, Log};
 use crate::outcome_lines::{
     Place, lack_words, lacks_of, lost_line, reason_outcome, replies_outcome, stored_line, words_of,
@@ -43,7 +44,7 @@ pub struct Spooling<'a> {
 }
 
 /// Stores a file, or the standard input, tells what became of it, and answers that. What can't be read of the case goes to a note, too. An onlooker is
-/// told how far the store is, and which call on the archive's file failed.
+/// told how far the store is, and which call on the archive's file failed. A long wait for the archive's lock is told to the log.
 ///
 /// # Errors
 ///
@@ -68,7 +69,8 @@ pub fn store_told<R: AllocGlobal + Files<File = File> + Clock, I: Read, O: Outpu
     }
     let has_label = request.has_label();
     let mut reply = Held::new(teller.alloc, output);
-    let (ended, disk) = store_file(rt, place, file, request, input, &mut reply, onlooker);
+    let mut watch = LockWatch::new(rt, teller, place.path, onlooker);
+    let (ended, disk) = store_file(rt, place, file, request, input, &mut reply, &mut watch);
     let outcome = teller.tell_outcome(
         rt,
         place.path,

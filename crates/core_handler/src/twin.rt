@@ -2,7 +2,7 @@
 ghost use Rattle.std.specs.Prelude.{None};
 
 use archive_files::{Access, ArchivePath, Collected, extract, take_disk};
-use diagnostics::{Nobody, after_failure};
+use diagnostics::{Nobody, Onlooker, after_failure};
 use disk_model::Disk;
 use intake::{Archive, Settings};
 use script_streams::{Output, Reply, StreamFault};
@@ -65,15 +65,17 @@ impl Output for Comparison<'_> {
     }
 }
 
-// What an archive has under this name, as it prints, beside a core that is in this file and has so many bytes.
-pub(crate) fn twin_of<R: AllocGlobal + Files<File = File> + Clock>(
+// What an archive has under this name, as it prints, beside a core that is in this file and has so many bytes. An onlooker is told of a wait
+// for the archive's lock.
+pub(crate) fn twin_of<R: AllocGlobal + Files<File = File> + Clock, W: Onlooker>(
     rt: &R,
     place: ArchivePath<'_>,
     name: &[u8],
     file: &File,
     bytes: u64,
+    onlooker: &mut W,
 ) -> Twin {
-    let Ok(disk) = take_disk(rt, place, Access::Looking, &mut Nobody) else {
+    let Ok(disk) = take_disk(rt, place, Access::Looking, onlooker) else {
         return Twin::None;
     };
     let Some(found) = case_named(rt.alloc(), disk, name) else {
