@@ -1,6 +1,6 @@
 /* Fails calls of the operating system, for scripts/fault-test, which loads it before the C library. FAULT is
    KIND:CALL:NUMBER: the call of that name and number, from 0 on, fails once in the stated way. FAULT_MET names a file that is
-   made when it was reached.
+   made when it was reached. With KILL, `change` is any call that makes, names, writes, syncs or removes a file.
 
    EIO, ENOSPC, EINTR   the call fails so, and does nothing
    SHORT                it takes or gives one byte, if it was asked for several
@@ -32,6 +32,7 @@
 #include <errno.h>
 #include <fcntl.h>
 #include <signal.h>
+#include <stdarg.h>
 #include <stdint.h>
 #include <stdio.h>
 #include <stdlib.h>
@@ -262,10 +263,41 @@ ssize_t read(int file, void *into, size_t size) {
     return fault.kind == FAILS ? failed() : real(file, into, moved(size));
 }
 
+typedef int (*open_type)(const char *, int, ...);
+
+int open(const char *path, int flags, ...) {
+    REAL(open_type, "open");
+    mode_t mode = 0;
+    if (flags & O_CREAT) {
+        va_list more;
+        va_start(more, flags);
+        mode = va_arg(more, mode_t);
+        va_end(more);
+        is_met("change");
+    }
+    return real(path, flags, mode);
+}
+
+typedef int (*link_type)(const char *, const char *);
+
+int link(const char *from, const char *to) {
+    REAL(link_type, "link");
+    is_met("change");
+    return real(from, to);
+}
+
+typedef int (*unlink_type)(const char *);
+
+int unlink(const char *path) {
+    REAL(unlink_type, "unlink");
+    is_met("change");
+    return real(path);
+}
+
 ssize_t write(int file, const void *from, size_t size) {
     ssize_t done;
     REAL(write_type, "write");
-    int met = is_met("write");
+    int met = is_met("write") | is_met("change");
     if (met && fault.kind == FAILS)
         return failed();
     done = real(file, from, met ? moved(size) : size);
@@ -290,7 +322,7 @@ ssize_t pread(int file, void *into, size_t size, off_t at) {
 ssize_t pwrite64(int file, const void *from, size_t size, off_t at) {
     ssize_t done;
     REAL(pwrite_type, "pwrite64");
-    int is_same, met = is_met("pwrite");
+    int is_same, met = is_met("pwrite") | is_met("change");
     if (slow)
         usleep(slow);
     if (met && fault.kind == FAILS)
@@ -310,7 +342,7 @@ ssize_t pwrite(int file, const void *from, size_t size, off_t at) {
 int fsync(int file) {
     int done;
     REAL(fsync_type, "fsync");
-    int met = is_met("fsync");
+    int met = is_met("fsync") | is_met("change");
     if (met && fault.kind == FAILS)
         return (int)failed();
     if (getenv("FAULT_DEVICE") && is_regular(file))

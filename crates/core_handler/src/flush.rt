@@ -131,6 +131,9 @@ fn flush_entry<R: AllocGlobal + Files<File = File> + Clock, O: Output, W: Onlook
     let Some(file) = lock_of(rt, paths.at(stage)) else {
         return true;
     };
+    if stage == Stage::Whole {
+        leave_first_name(rt, &paths, &file);
+    }
     let words = words_in(rt, paths.words.as_str());
     if stage == Stage::Part && words.is_none() {
         // Nothing was read of it: its words come first.
@@ -147,6 +150,13 @@ fn flush_entry<R: AllocGlobal + Files<File = File> + Clock, O: Output, W: Onlook
         return false;
     };
     flush_core(rt, handler, &waiting, &words, output, onlooker) == Outcome::Stored
+}
+
+// Removes the name that a whole core had before, if a stop left it. Else the core could be taken for a cut one as well.
+fn leave_first_name<R: AllocGlobal + Files<File = File>>(rt: &R, paths: &SpoolPaths, file: &File) {
+    if let Ok(true) = is_named(rt, paths.part.as_str(), file) {
+        let _ = fs::remove_file(rt, paths.part.as_str());
+    }
 }
 
 // The file under a path, with its lock; nothing if another process has it, or has removed it.
