@@ -10,7 +10,9 @@ use crate::twin::{Twin, twin_of};
 use archive_files::{ArchivePath, Collected, Failure, StoreRequest, open_looked};
 use diagnostics::Onlooker;
 use script_streams::{Output, Reply};
-use spool::{CoreFiles, Entry, Outcome, Stage, entries_in, oldest_first, read_words, settle_words};
+use spool::{
+    CoreFiles, Entry, Outcome, Spooled, Stage, entries_in, oldest_first, read_words, settle_words,
+};
 use std::alloc::Global;
 use std::fs;
 use std::fs::File;
@@ -92,11 +94,14 @@ fn remove_if_lone<R: AllocGlobal + Files<File = File>>(
         return;
     };
     let names = paths.with_words(entry.stage);
-    // The lock of words is that of whoever writes them.
+    let mut files = CoreFiles::new(rt, names, Stage::Whole);
+    if !files.is_core_gone() {
+        // Its owner may be about to take the lock of the words.
+        return;
+    }
     let Some(_locked) = lock_of(rt, names.words) else {
         return;
     };
-    let mut files = CoreFiles::new(rt, names, Stage::Whole);
     if settle_words(&mut files).is_err() {
         tell_unremoved(rt, handler, names.words);
     }
@@ -128,12 +133,9 @@ fn flush_entry<R: AllocGlobal + Files<File = File> + Clock, O: Output, W: Onlook
         // It is whole, and was stopped between its two names.
         return true;
     }
-    let Some(file) = lock_of(rt, paths.at(stage)) else {
+    let Some(file) = core_of(rt, &paths, stage) else {
         return true;
     };
-    if stage == Stage::Whole {
-        leave_first_name(rt, &paths, &file);
-    }
     let words = words_in(rt, paths.words.as_str());
     if stage == Stage::Part && words.is_none() {
         // Nothing was read of it: its words come first.
@@ -152,11 +154,15 @@ fn flush_entry<R: AllocGlobal + Files<File = File> + Clock, O: Output, W: Onlook
     flush_core(rt, handler, &waiting, &words, output, onlooker) == Outcome::Stored
 }
 
-// Removes the name that a whole core had before, if a stop left it. Else the core could be taken for a cut one as well.
-fn leave_first_name<R: AllocGlobal + Files<File = File>>(rt: &R, paths: &SpoolPaths, file: &File) {
-    if let Ok(true) = is_named(rt, paths.part.as_str(), file) {
-        let _ = fs::remove_file(rt, paths.part.as_str());
+// The file of a core, with its lock. A whole one loses the name that it had before, if a stop left it: else it could be taken for a cut one as
+// well.
+fn core_of<R: Files<File = File>>(rt: &R, paths: &SpoolPaths, stage: Stage) -> Option<File> {
+    let file = lock_of(rt, paths.at(stage))?;
+    let part = paths.part.as_str();
+    if stage == Stage::Whole && matches!(is_named(rt, part, &file), Ok(true)) {
+        let _ = fs::remove_file(rt, part);
     }
+    Some(file)
 }
 
 // The file under a path, with its lock; nothing if another process has it, or has removed it.
