@@ -272,17 +272,7 @@ fn try_name<R: AllocGlobal + Files<File = File> + Clock, O: Output, W: Onlooker>
         return Some(Outcome::OutOfMemory);
     };
     let name = request.printed_name(rt.alloc());
-    let bytes = bytes_of(waiting.file);
-    let mut watch = LockWatch::new(rt, handler.teller, waiting.place.path, onlooker);
-    let twin = twin_of(
-        rt,
-        waiting.place,
-        name.text(),
-        waiting.file,
-        bytes,
-        &mut watch,
-    );
-    match twin {
+    match twin_in(rt, handler, waiting, name.text(), onlooker) {
         Twin::Other => None,
         Twin::Same => {
             tell_same(rt, handler, waiting, name.text());
@@ -291,6 +281,22 @@ fn try_name<R: AllocGlobal + Files<File = File> + Clock, O: Output, W: Onlooker>
         }
         Twin::None => Some(store_waiting(rt, handler, waiting, request, output, onlooker)),
     }
+}
+
+// What the archive has already under the name of a core. A long wait for its lock is told.
+fn twin_in<R: AllocGlobal + Files<File = File> + Clock, W: Onlooker>(
+    rt: &R,
+    handler: &Handler<'_>,
+    waiting: &Waiting<'_>,
+    name: &[u8],
+    onlooker: &mut W,
+) -> Twin {
+    let bytes = bytes_of(waiting.file);
+    let mut watch = LockWatch::new(rt, onlooker);
+    let twin = twin_of(rt, waiting.place, name, waiting.file, bytes, &mut watch);
+    let waited = watch.waited();
+    handler.teller.tell_wait(rt, waiting.place.path, waited);
+    twin
 }
 
 fn store_waiting<R: AllocGlobal + Files<File = File> + Clock, O: Output, W: Onlooker>(

@@ -21,6 +21,9 @@ use std::rt::Files;
 use std::time::Clock;
 use thread_regs::signal_name;
 
+// The seconds from which on a wait for the archive's lock is told.
+const LONG_WAIT: u64 = 10;
+
 /// What tells outcomes.
 #[derive(Clone, Copy)]
 pub struct Teller<'a> {
@@ -69,8 +72,8 @@ pub fn store_told<R: AllocGlobal + Files<File = File> + Clock, I: Read, O: Outpu
     }
     let has_label = request.has_label();
     let mut reply = Held::new(teller.alloc, output);
-    let mut watch = LockWatch::new(rt, teller, place.path, onlooker);
-    let (ended, disk) = store_file(rt, place, file, request, input, &mut reply, &mut watch);
+    let (ended, disk, waited) = store_timed(rt, place, file, request, input, &mut reply, onlooker);
+    teller.tell_wait(rt, place.path, waited);
     let outcome = teller.tell_outcome(
         rt,
         place.path,
@@ -87,7 +90,37 @@ pub fn store_told<R: AllocGlobal + Files<File = File> + Clock, I: Read, O: Outpu
     }
 }
 
+// Stores a file, or the standard input, and says for how many seconds the archive's lock was waited for.
+fn store_timed<R: AllocGlobal + Files<File = File> + Clock, I: Read, O: Output, W: Onlooker>(
+    rt: &R,
+    place: ArchivePath<'_>,
+    file: &str,
+    request: StoreRequest,
+    input: &mut I,
+    output: &mut O,
+    onlooker: &mut W,
+) -> (Result<(), Failure>, Option<FileDisk>, u64) {
+    let mut watch = LockWatch::new(rt, onlooker);
+    let (ended, disk) = store_file(rt, place, file, request, input, output, &mut watch);
+    (ended, disk, watch.waited())
+}
+
 impl<'a> Teller<'a> {
+    // Tells for how many seconds the lock of an archive was waited for, if that was long.
+    pub(crate) fn tell_wait<R: Files<File = File>>(&self, rt: &R, archive: &str, seconds: u64) {
+        if seconds < LONG_WAIT {
+            return;
+        }
+        let mut line = Collected::new(self.alloc);
+        let mut reply = Reply::new(&mut line);
+        reply.tell(b"waited ");
+        reply.tell_decimal(u128::from(seconds));
+        reply.tell(b" seconds for the lock of ");
+        reply.tell_text(archive.as_bytes());
+        let _ = reply.finish();
+        self.tell(rt, Level::Warning, line.text());
+    }
+
     // Tells a line.
     pub(crate) fn tell<R: Files<File = File>>(&self, rt: &R, level: Level, text: &[u8]) {
         self.log.tell(rt, self.alloc, level, text);
