@@ -8,8 +8,8 @@ SOURCES := crates.txt $(shell find crates -path '*/out' -prune -o -type f \( -na
 help:
 	@echo 'make try                 builds bin/corekeep-try without any proof, and runs the first example: some minutes'
 	@echo 'make run                 proves and builds the program as bin/corekeep, and runs the first example'
-	@echo 'make build               proves and builds it: some 40 minutes the first time, on two processors'
-	@echo 'make test                the gate: every proof, test and run from nothing, and wrong bodies refused: an hour on four processors'
+	@echo 'make build               proves and builds it: an hour or more the first time, on two processors'
+	@echo 'make test                the gate: every proof, test and run from nothing, and wrong bodies refused: more than an hour on four processors'
 	@echo 'make check [CRATE=name]  proves one crate and those that it stands on, or all'
 	@echo 'make plant CRATE=name    tries wrong bodies on a copy of a crate'
 	@echo 'make wrong-bodies [CRATE=name]   tries those that are written down and left out of the gate'
