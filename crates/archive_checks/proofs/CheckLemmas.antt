@@ -17,10 +17,12 @@ use Rattle.journal_layout.specs.declared.faults.OpenFault.TheVariants.{Damaged}
 use Rattle.script_streams.specs.TellLaws.{tells_nothing, tells_then}
 use Rattle.script_streams.specs.Telling.{IsDelivered, Sink, Tells}
 use Rattle.script_streams.specs.declared.streams.StreamFault.{StreamFault}
-use Rattle.archive_checks.specs.Texts.{facts_lines, image_line}
+use Rattle.archive_checks.specs.Texts.{facts_lines}
+use Rattle.archive_checks.specs.Verdicts.{image_line, verdict_line, verdict_of}
 use Rattle.archive_checks.specs.Checking.{ChecksOnDisk, IsDamageLine, OpensAndTells, TellsHoldings, TellsImage, TellsImages, case_words, cases_seen, check_end, sound_if}
 use Rattle.archive_checks.specs.declared.checking.CheckFault.{CheckFault}
 use Rattle.archive_checks.specs.declared.checking.CheckFault.TheVariants.{Open, Archive, Output}
+use Rattle.archive_checks.specs.declared.verdict.Verdict.{Verdict}
 
 -- the answer of a reading is no refusal of the opening
 pub opened_end : {D : Type 0} (g : disk.Ghosts D) (sees : Bool) (before after : Option (List ℕ)) (count count' : ℕ) (d d' : D) (r : Result (Unit {0}) CheckFault) (sent : Result (Unit {0}) StreamFault) (told : Result (Unit {0}) ArchiveFault)
@@ -115,6 +117,10 @@ looked_up r o seq kind cases i c looked was is found =
     let all : Ok o ≡ Ok (option_map case_words (Some c)) = sym was ∙ looked ∙ ap (λ x. Ok (option_map case_words x)) found in
     let same : o ≡ Some (case_words c) = cc in
     same_Some (seq, kind) (case_words c) (sym is ∙ same)
+
+-- the line of what was found of an image
+pub line_told : (seq : ℕ) (kind : Kind) (bytes : List ℕ) (verdict : Verdict) (a b : Sink) → verdict ≡ verdict_of kind bytes → Tells a b (verdict_line seq verdict) → Tells a b (image_line seq kind bytes)
+line_told seq kind bytes verdict a b is tells = subst (λ (v : Verdict). Tells a b (verdict_line seq v)) is tells
 
 pub one_told : {D : Type 0} (g : disk.Ghosts D) (old new : Parts D) (seq : ℕ) (kind : Kind) (c : Case) (image : Vec ℕ Global) (a b : Sink) (bytes : List ℕ) → (seq, kind) ≡ case_words c → bytes ≡ image.items → ImageCall g old seq (Ok image) new → Tells a b (image_line seq kind bytes)
     → (text : List ℕ) × TellsImage g old c text (Ok tt) new × Tells a b text

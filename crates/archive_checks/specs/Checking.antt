@@ -15,7 +15,8 @@ use Rattle.journal_layout.specs.declared.faults.OpenFault.{OpenFault}
 use Rattle.journal_layout.specs.declared.faults.OpenFault.TheVariants.{Damaged}
 use Rattle.script_streams.specs.Telling.{IsDelivered}
 use Rattle.script_streams.specs.declared.streams.StreamFault.{StreamFault}
-use Rattle.archive_checks.specs.Texts.{facts_lines, image_line, place_line}
+use Rattle.archive_checks.specs.Texts.{facts_lines, place_line}
+use Rattle.archive_checks.specs.Verdicts.{image_line}
 use Rattle.archive_checks.specs.declared.checking.CheckFault.{CheckFault}
 use Rattle.archive_checks.specs.declared.checking.CheckFault.TheVariants.{Open, Archive, Output}
 use Rattle.archive_checks.specs.declared.lines.Place.{Place}

@@ -1,17 +1,8 @@
 -- The lines that `check` tells of an archive.
-use Rattle.std.specs.Prelude.{ℕ, nat_lt, length, if◌then◌else◌, List, [], ◌∷◌, ◌++◌, Option, None, Some, codes, decimal}
-use Rattle.std.specs.Option.{option_map}
-use Rattle.core_length.specs.Whole.{whole_length}
-use Rattle.elf_view.specs.Sound.{first_fault}
-use Rattle.elf_view.specs.declared.faults.Want.TheVariants as want
-use Rattle.image_replies.specs.Core.{core_fault_of}
-use Rattle.image_replies.specs.Reasons.{core_reason, elf_reason}
+use Rattle.std.specs.Prelude.{ℕ, List, [], ◌∷◌, ◌++◌, codes, decimal}
 use Rattle.intake.specs.declared.space.Space.{Space}
-use Rattle.journal_layout.specs.declared.entry.Kind.{Kind}
-use Rattle.journal_layout.specs.declared.entry.Kind.TheVariants.{Core, Exec}
 use Rattle.journal_layout.specs.declared.shape.Half.{Half}
 use Rattle.journal_layout.specs.declared.shape.Half.TheVariants.{A, B}
-use Rattle.script_streams.specs.Replies.{no_reply}
 use Rattle.archive_checks.specs.declared.gaps.Gap.{Gap}
 use Rattle.archive_checks.specs.declared.gaps.Gap.TheVariants.{Generation, Newer}
 use Rattle.archive_checks.specs.declared.lines.Place.{Place}
@@ -21,38 +12,6 @@ use Rattle.archive_checks.specs.declared.lines.Place.TheVariants.{Superblock, He
 abbrev pub facts_lines : ℕ → ℕ → Space → List ℕ
 facts_lines version count space =
     codes "version " ++ (decimal version ++ (10 ∷ [] ++ (codes "cases " ++ (decimal count ++ (10 ∷ [] ++ (codes "free " ++ (decimal space.free ++ (codes " of " ++ (decimal space.data_blocks ++ 10 ∷ [])))))))))
-
--- `sound`, or `no FIELD`
-abbrev pub sound_or : Option (List ℕ) → List ℕ
-sound_or None = codes "sound" ++ 10 ∷ []
-sound_or (Some reason) = no_reply reason
-
--- `, cut: HAS of WHOLE bytes`, of so many bytes, if their program headers want more
-abbrev pub cut_by : ℕ → Option ℕ → List ℕ
-cut_by has None = []
-cut_by has (Some whole) = if nat_lt has whole then codes ", cut: " ++ (decimal has ++ (codes " of " ++ (decimal whole ++ codes " bytes"))) else []
-
-abbrev pub cut_words : List ℕ → List ℕ
-cut_words b = cut_by (length b) (whole_length b)
-
--- `sound`, and whether it was cut; or `no FIELD`
-abbrev pub sound_or_cut : Option (List ℕ) → List ℕ → List ℕ
-sound_or_cut None cut = codes "sound" ++ (cut ++ 10 ∷ [])
-sound_or_cut (Some reason) cut = no_reply reason
-
-abbrev pub core_words : List ℕ → List ℕ
-core_words b = sound_or_cut (option_map core_reason (core_fault_of b)) (cut_words b)
-
-abbrev pub exec_words : List ℕ → List ℕ
-exec_words b = sound_or (option_map elf_reason (first_fault want.Exec b))
-
-abbrev pub image_words : Kind → List ℕ → List ℕ
-image_words Core b = core_words b
-image_words Exec b = exec_words b
-
--- `case N sound`, with a cut of a core if there was one, or `case N no FIELD`
-abbrev pub image_line : ℕ → Kind → List ℕ → List ℕ
-image_line seq kind b = codes "case " ++ (decimal seq ++ (32 ∷ [] ++ image_words kind b))
 
 abbrev pub half_name : Half → List ℕ
 half_name A = codes "A"

@@ -9,8 +9,9 @@ ghost use Rattle.script_streams.specs.Replies.{TellsReply, telling};
 ghost use Rattle.script_streams.specs.Telling.{IsDelivered};
 ghost use Rattle.script_streams.specs.declared.streams.StreamFault.{StreamFault};
 
-use crate::lines::{Place, tell_facts, tell_image, tell_place};
+use crate::lines::{Place, tell_facts, tell_place};
 use crate::shapes::shape_on;
+use crate::verdict::{tell_verdict, verdict_of};
 use disk_model::Disk;
 use intake::{Archive, ArchiveFault, Settings};
 use journal_layout::{Half, Kind, OpenFault, Shape};
@@ -171,7 +172,7 @@ fn see_image<D: Disk, O: Output>(
         return Ok(());
     };
     let image = archive.image(seq)?;
-    tell_image(reply, seq, kind, &image);
+    tell_verdict(reply, seq, verdict_of(kind, &image));
     Ok(())
 }
 

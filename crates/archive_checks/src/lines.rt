@@ -1,14 +1,11 @@
 // What `check` tells of an archive, line by line.
 ghost use Rattle.std.specs.Prelude.{◌≡◌};
 ghost use Rattle.script_streams.specs.Replies.{TellsText, telling};
-ghost use Rattle.archive_checks.specs.Texts.{core_words, cut_by, exec_words, facts_lines, half_name, image_line, gap_line, place_line, place_words};
+ghost use Rattle.archive_checks.specs.Texts.{facts_lines, half_name, gap_line, place_line, place_words};
 
 use crate::gaps::Gap;
-use core_length::whole_length;
-use elf_view::{Elf, Want};
-use image_replies::{CoreImage, tell_core_fault, tell_elf_fault};
 use intake::Space;
-use journal_layout::{Half, Kind};
+use journal_layout::Half;
 use script_streams::{Output, Reply};
 
 // What it may mean if no writing leaves the halves of a journal so.
@@ -26,12 +23,7 @@ pub(crate) enum Place {
 }
 
 /// Tells the version of the layout, how many cases there are, and how many data blocks are free.
-pub(crate) fn tell_facts<O: Output>(
-    reply: &mut Reply<'_, O>,
-    version: u32,
-    count: u64,
-    space: Space,
-)
+pub fn tell_facts<O: Output>(reply: &mut Reply<'_, O>, version: u32, count: u64, space: Space)
     ensures { TellsText (telling O.Output reply.old reply.new) (facts_lines version count space) }
 {
     reply.tell(b"version ");
@@ -45,58 +37,6 @@ pub(crate) fn tell_facts<O: Output>(
     reply.tell(b" of ");
     reply.tell_decimal(u128::from(space.data_blocks));
     reply.tell(b"\n");
-}
-
-/// Tells of a case's image that its headers and notes are sound, or the first faulty field. Of a core it tells too that it was cut, if
-/// its program headers want more bytes than it has.
-pub(crate) fn tell_image<O: Output>(reply: &mut Reply<'_, O>, seq: u32, kind: Kind, image: &[u8])
-    ensures { TellsText (telling O.Output reply.old reply.new) (image_line seq kind image.now) }
-{
-    reply.tell(b"case ");
-    reply.tell_decimal(u128::from(seq));
-    reply.tell(b" ");
-    match kind {
-        Kind::Core => tell_core(reply, image),
-        Kind::Exec => tell_exec(reply, image),
-    }
-}
-
-fn tell_core<O: Output>(reply: &mut Reply<'_, O>, image: &[u8])
-    ensures { TellsText (telling O.Output reply.old reply.new) (core_words image.now) }
-{
-    match CoreImage::read(image) {
-        Ok(_) => {
-            reply.tell(b"sound");
-            tell_cut(reply, image.len() as u64, whole_length(image));
-            reply.tell(b"\n");
-        }
-        Err(fault) => tell_core_fault(reply, fault),
-    }
-}
-
-// Tells how many bytes of a core there are, if its program headers want more.
-fn tell_cut<O: Output>(reply: &mut Reply<'_, O>, has: u64, whole: Option<u64>)
-    ensures { TellsText (telling O.Output reply.old reply.new) (cut_by has whole) }
-{
-    match whole {
-        Some(whole) if has < whole => {
-            reply.tell(b", cut: ");
-            reply.tell_decimal(u128::from(has));
-            reply.tell(b" of ");
-            reply.tell_decimal(u128::from(whole));
-            reply.tell(b" bytes");
-        }
-        _ => {}
-    }
-}
-
-fn tell_exec<O: Output>(reply: &mut Reply<'_, O>, image: &[u8])
-    ensures { TellsText (telling O.Output reply.old reply.new) (exec_words image.now) }
-{
-    match Elf::read(image, Want::Exec) {
-        Ok(_) => reply.tell(b"sound\n"),
-        Err(fault) => tell_elf_fault(reply, fault),
-    }
 }
 
 /// Tells in words where a byte of the archive is.

@@ -1,7 +1,7 @@
 use Rattle.std.proofs.lemmas.Result.{err_from_is_err_and}
 use Rattle.intake.specs.Parts.{state_of}
 use Rattle.script_streams.specs.Telling.{sink}
-use Rattle.archive_checks.proofs.CheckLemmas.{looked_up, one_not, one_told}
+use Rattle.archive_checks.proofs.CheckLemmas.{line_told, looked_up, one_not, one_told}
 use Rattle.archive_checks.proofs.checking.see_image.Goals as goal
 
 pub returns-in_err-image-clause-tells : goal.returns-in_err-image-clause-tells
@@ -13,4 +13,5 @@ returns-in_err-image-clause-tells g c case found =
 pub returns-clause-tells : goal.returns-clause-tells
 returns-clause-tells g c case found =
     let is = looked_up c.case_at.result c.in_ok-seq.field-0 c.in-Some.seq c.in-Some.kind (state_of c.args.archive.now).cases c.args.place case c.case_at.ensures c.in_ok-seq.was c.in-Some.is found in
-    one_told g.D.Disk c.args.archive.now c.image.new.self c.in-Some.seq c.in-Some.kind case c.in_ok-image.image (sink g.O.Output c.args.reply.now) (sink g.O.Output c.tell_image.new.reply) c.deref.result.now is c.deref.ensures.value c.in_ok-image.ensures c.tell_image.ensures
+    one_told g.D.Disk c.args.archive.now c.image.new.self c.in-Some.seq c.in-Some.kind case c.in_ok-image.image (sink g.O.Output c.args.reply.now) (sink g.O.Output c.tell_verdict.new.reply) c.deref.result.now is c.deref.ensures.value c.in_ok-image.ensures
+    (line_told c.in-Some.seq c.in-Some.kind c.deref.result.now c.verdict_of.result (sink g.O.Output c.args.reply.now) (sink g.O.Output c.tell_verdict.new.reply) c.verdict_of.ensures c.tell_verdict.ensures)
