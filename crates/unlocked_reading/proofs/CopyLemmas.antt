@@ -37,7 +37,7 @@ use Rattle.inspector_cli.specs.declared.copying.CopyFault.{CopyFault}
 use Rattle.unlocked_reading.specs.Finding.{FindsCase, FindsPlaces, has_number}
 use Rattle.unlocked_reading.specs.History.{HasNone, HoldsArchive, IsNumbered}
 
-some_one : {X : Type 0} (a b : X) → Some a ≡ Some b → a ≡ b
+pub some_one : {X : Type 0} (a b : X) → Some a ≡ Some b → a ≡ b
 some_one a b e = cc
 
 -- a case by its number
@@ -81,14 +81,15 @@ module _ {D : Type 0} (U : disk.Ghosts D) (before : D) (b : List ℕ) (shape : S
   opened_holds a call = call.found_again x honest (subst (λ (l : List ℕ). StandsFor l x) (sym seen) (stands_for shape b x stands))
 
   -- where its image lies, whatever the disk holds
-  located : (a : Parts D) (seq : ℕ) (ranges : List ByteRange) → OpenCall U 0 before (Ok a) → Locates U a seq ranges
-      → (c : FoundCase) × IsNumbered x seq c × ((l : List ℕ) → length l ≡ U.size before → bytes_in l ranges ≡ image_in shape l c.case.blocks c.case.len)
+  pub located : (a : Parts D) (seq : ℕ) (ranges : List ByteRange) → OpenCall U 0 before (Ok a) → (locates : Locates U a seq ranges)
+      → (c : FoundCase) × IsNumbered x seq c × ((l : List ℕ) → length l ≡ U.size before → bytes_in l ranges ≡ image_in shape l c.case.blocks c.case.len) × (c.case ≡ locates.found)
   located a seq ranges call locates =
       let found = is_found a.journal.standing.shape (U.seen a.disk) a.journal.standing.cases seq locates.found locates.has.1 in (
         found_case a.journal.standing.shape (U.seen a.disk) locates.found,
         (subst (λ (y : Durable). IsAmong y.cases (found_case a.journal.standing.shape (U.seen a.disk) locates.found)) (opened_holds a call) found.0, found.1),
         λ l long. locates.places l (long ∙ sym call.size)
             ∙ ap (λ (s : Shape). image_in s l locates.found.blocks locates.found.len) (ap (λ (s : Standing). s.shape) (opened_stands a call) ∙ stands.shaped),
+        refl,
       )
 
   copied_is : (seq : ℕ) (start taken : Option (List ℕ)) (count failures : ℕ) (u : Unit {0}) (after : D) → ((a : Parts D) → durable_of U.seen a ≡ durable_part (state_of a) (contents_of U.seen a))
@@ -105,7 +106,7 @@ module _ {D : Type 0} (U : disk.Ghosts D) (before : D) (b : List ℕ) (shape : S
 module _ {S : Type 0} (g : shared.Ghosts S) (s : S) (whole : IsTrue (g.is_honest s) → length (g.looked s) ≡ g.size s) (lists : (c : List ℕ) → IsTrue (g.is_honest s) → IsHeld (g.meanwhile s) c → length c ≡ g.size s)
     (numbers : NumbersAreAbove) (law : ACaseIsThereBetween) where
   -- nobody changes the ranges of a case that is there at both looks
-  is_steady : (shape : Shape) (x : Durable) (ys : List Durable) (c d : FoundCase) (seq : ℕ) (ranges : List ByteRange) → IsTrue (g.is_honest s) → HoldsArchive g s shape x ys → IsNumbered x seq c → IsNumbered (last_state x ys) seq d
+  pub is_steady : (shape : Shape) (x : Durable) (ys : List Durable) (c d : FoundCase) (seq : ℕ) (ranges : List ByteRange) → IsTrue (g.is_honest s) → HoldsArchive g s shape x ys → IsNumbered x seq c → IsNumbered (last_state x ys) seq d
       → ((l : List ℕ) → length l ≡ g.size s → bytes_in l ranges ≡ image_in shape l c.case.blocks c.case.len) → are_steady ranges (g.looked s) (g.meanwhile s) ≡ true
   is_steady shape x ys c d seq ranges honest holds first last places =
       let both = law x ys c d (numbers (g.looked s) x (stands_for shape (g.looked s) x holds.first)) holds.turn first.0 last.0 (last.1 ∙ sym first.1) in

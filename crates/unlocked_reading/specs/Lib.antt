@@ -4,5 +4,8 @@ pub mod Opening
 pub mod Copying
 pub mod Places
 pub mod Asking
+pub mod Images
+pub mod Checking
 pub mod Gone
+pub mod Exact
 pub mod Lockless

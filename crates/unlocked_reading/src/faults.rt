@@ -50,3 +50,23 @@ pub enum AskFault {
     #[error("a case was deleted while it was read")]
     Gone,
 }
+
+/// Why a check was not made, or not told whole.
+#[derive(Clone, Copy, Debug, Error)]
+pub enum UnlockedCheckFault {
+    /// The archive could not be opened. Nothing was written.
+    #[error(transparent)]
+    Open(OpenFault),
+    /// An image could not be read, or there was no memory. Nothing was written.
+    #[error(transparent)]
+    Archive(ArchiveFault),
+    /// The archive could not be looked at again, so nobody knows which cases are there. Nothing was written.
+    #[error(transparent)]
+    Look(LookFault),
+    /// It could be looked at again, and not opened. Nothing was written.
+    #[error(transparent)]
+    Reopen(OpenFault),
+    /// What is told could not be written, or not whole.
+    #[error("the output could not be written")]
+    Output,
+}

@@ -1,4 +1,5 @@
 // What the definitions that the contracts cite say together. These functions do nothing.
+ghost use Rattle.unlocked_reading.specs.Exact.{ChecksAreExact};
 ghost use Rattle.unlocked_reading.specs.Gone.{CopiesAreOfTheCase, GoneCasesAreNoticed, NoCaseIsGoneAtWill, NoCopyIsGoneAtWill};
 ghost use Rattle.unlocked_reading.specs.Lockless.{LooksHoldAnArchive};
 
@@ -23,6 +24,12 @@ pub fn copies_are_of_the_case<S: SharedDisk + Drop>()
     the_next_number_is_above();
     a_case_is_there_between();
 }
+
+/// A check of the images that is done has one line for each case that the archive had at the first look, in their order. If the case is
+/// there at the next look too, the line is what is found of its image. If it is gone, the line says so.
+pub fn checks_are_exact<S: SharedDisk + Drop>()
+    ensures { ChecksAreExact S.SharedDisk ⟦<Unlocked<'static, S> as Disk>⟧ }
+{}
 
 /// What the looks of `look_lockless` saw, and what the disk did between them, is an archive all the time. So what is read by such looks is
 /// what the calls above promise.

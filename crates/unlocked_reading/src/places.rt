@@ -29,6 +29,8 @@ pub enum Reads {
     Image { seq: u32 },
     /// That of one case, and those of executables.
     Memory { seq: u32 },
+    /// Those of all cases.
+    All,
 }
 
 /// The cases that a question may read, and where their images lie.
@@ -91,6 +93,7 @@ fn may_read(reads: Reads, entry: &Entry) -> bool {
         Reads::Nothing => false,
         Reads::Image { seq } => entry.seq == seq,
         Reads::Memory { seq } => entry.seq == seq || entry.kind == Kind::Exec,
+        Reads::All => true,
     }
 }
 
