@@ -1,5 +1,5 @@
 // A disk that is read between two looks, as one that nobody changes.
-ghost use Rattle.std.specs.Prelude.{◌≡◌, ◌+◌, ◌≤◌, ◌&&◌, length, is_ok, IsTrue, OnOk, IsOkUnless};
+ghost use Rattle.std.specs.Prelude.{◌≡◌, ◌+◌, ◌≤◌, ◌&&◌, length, is_ok, true, IsTrue, OnOk, IsOkUnless};
 ghost use Rattle.std.proofs.Common.{refl, sym, ap, subst, ◌∙◌};
 ghost use Rattle.disk_model.specs.Disk.{HasCause};
 ghost use Rattle.disk_model.specs.Places.{AreBytes, part};
@@ -21,6 +21,8 @@ pub struct Unlocked<'a, S: SharedDisk> {
     shared: &'a S,
     front: &'a [u8],
     ranges: Vec<ByteRange>,
+    // The number of the range that was read last.
+    near: usize,
     failures: u64,
     ghost seen: { IsFront S.SharedDisk shared.now front.now },
 }
@@ -38,6 +40,7 @@ impl<'a, S: SharedDisk> Unlocked<'a, S> {
             shared,
             front,
             ranges,
+            near: 0,
             failures: 0,
         }
     }
@@ -52,11 +55,47 @@ impl<'a, S: SharedDisk> Unlocked<'a, S> {
             copy_part(self.front, at as usize, into);
             return Ok(());
         }
-        if !may_read(&self.ranges, at, into.len() as u64) {
+        if !self.may_read(at, into.len() as u64) {
             return Err(DiskFault::Read);
         }
         self.shared.read_between(at, into)?;
         Ok(())
+    }
+
+    // Whether n bytes from place `at` on lie in one of the ranges. The one that was read last is tried first.
+    fn may_read(&self, at: u64, n: u64) -> bool
+        ensures { result ≡ is_in_one self.now.ranges.items at n }
+    {
+        if self.is_in(self.near, at, n) {
+            return true;
+        }
+        self.ranges.iter().any(|range| holds_part(*range, at, n))
+    }
+
+    // Whether they lie in the range of this number.
+    fn is_in(&self, number: usize, at: u64, n: u64) -> bool
+        ensures { result ≡ true → is_in_one self.now.ranges.items at n ≡ true }
+    {
+        match self.ranges.get(number) {
+            Some(range) => holds_part(*range, at, n),
+            None => false,
+        }
+    }
+
+    // The number of the range in which they lie. Images are read front to back: so it is the one that was read last, or the next one.
+    fn range_near(&self, at: u64, n: u64) -> usize {
+        let next = self.near.saturating_add(1);
+        if self.is_in(self.near, at, n) {
+            return self.near;
+        }
+        if self.is_in(next, at, n) {
+            return next;
+        }
+        let found = self
+            .ranges
+            .iter()
+            .position(|range| holds_part(*range, at, n));
+        found.unwrap_or(0)
     }
 
     // Counts a failure where there was one.
@@ -83,13 +122,7 @@ pub(crate) fn copy_part(front: &[u8], at: usize, into: &mut [u8])
     into.copy_from_slice(&front[at..at + into.len()]);
 }
 
-// Whether n bytes from place `at` on lie in one of the ranges.
-fn may_read(ranges: &[ByteRange], at: u64, n: u64) -> bool
-    ensures { result ≡ is_in_one ranges.now at n }
-{
-    ranges.iter().any(|range| holds_part(*range, at, n))
-}
-
+// Whether n bytes from place `at` on lie in the range.
 fn holds_part(range: ByteRange, at: u64, n: u64) -> bool
     ensures { result ≡ holds_part at n range }
 {
@@ -132,6 +165,7 @@ impl<S: SharedDisk> Disk for Unlocked<'_, S> {
     }
 
     fn read_at(&mut self, at: u64, into: &mut [u8]) -> Result<(), DiskFault> {
+        self.near = self.range_near(at, into.len() as u64);
         let outcome = self.fetch(at, into);
         self.counted(outcome, DiskFault::Read)
     }

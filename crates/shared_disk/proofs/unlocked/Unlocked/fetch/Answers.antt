@@ -31,7 +31,6 @@ returns g c = record {
       (omega (arith, same, whole, c.requires))
       (both_second _ _ honest)
       (ap (λ (k : ℕ). is_in_one c.args.self.now.ranges.items c.args.at k) same
-      ∙ ap (λ (rs : List ByteRange). is_in_one rs c.args.at (length c.args.into.now)) (sym c.deref.ensures.value)
       ∙ sym c.if-not-may_read.ensures)
       (c.in_ok-read_between.ensures.bytes real)
       ∙ ap (part (g.S.SharedDisk.looked s) c.args.at) same;
