@@ -2,3 +2,4 @@ pub mod DayLemmas
 pub mod TableLemmas
 pub mod NamedLemmas
 pub mod JsonLemmas
+pub mod SignalLemmas

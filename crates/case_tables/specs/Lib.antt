@@ -2,6 +2,7 @@ pub mod Days
 pub mod Times
 pub mod Sizes
 pub mod Cells
+pub mod Filters
 pub mod Table
 pub mod Wanted
 pub mod Named

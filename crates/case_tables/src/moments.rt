@@ -1,4 +1,8 @@
 // Times as people say them.
+ghost use Rattle.std.specs.Prelude.{◌≡◌, ◌*◌, ◌^◌, ◌<◌, ◌++◌, ◌∷◌, ℕ, List, [], Some};
+ghost use Rattle.case_tables.specs.Filters.{SaysTime, seconds_in};
+ghost use Rattle.script_words.specs.Number.{number_of};
+
 use jiff::civil::{Date, Time};
 use jiff::tz::Offset;
 use jiff::{Error, Timestamp};
@@ -14,7 +18,9 @@ const DAY_LENGTH: usize = 10;
 /// - a day, from its begin in UTC on, as `2026-11-25`;
 /// - a moment, as `2026-11-25T14:03:11Z`;
 /// - so long ago, in seconds, minutes, hours or days, as `90s`, `30m`, `2h` or `3d`. It is none if the clock tells no time.
-pub fn read_time(text: &str, now: Option<u64>) -> Option<u64> {
+pub fn read_time(text: &str, now: Option<u64>) -> Option<u64>
+    ensures { SaysTime now text.now result }
+{
     if let Some(seconds) = text.strip_prefix("@") {
         return parse_number(seconds.as_bytes());
     }
@@ -25,16 +31,25 @@ pub fn read_time(text: &str, now: Option<u64>) -> Option<u64> {
 }
 
 // How many seconds an age is.
-fn age_of(text: &[u8]) -> Option<u64> {
+fn age_of(text: &[u8]) -> Option<u64>
+    ensures { (count : List ℕ) (unit n k : ℕ) → text.now ≡ count ++ unit ∷ [] → seconds_in unit ≡ Some k → number_of count ≡ Some n → n * k < 2 ^ 64 → result ≡ Some (n * k) }
+{
     let (unit, count) = text.split_last()?;
-    let seconds = match *unit {
-        b's' => 1,
-        b'm' => 60,
-        b'h' => 3_600,
-        b'd' => 86_400,
-        _ => return None,
-    };
+    let seconds = unit_seconds(*unit)?;
     parse_number(count)?.checked_mul(seconds)
+}
+
+// How many seconds a unit has.
+fn unit_seconds(unit: u8) -> Option<u64>
+    ensures { result ≡ seconds_in unit }
+{
+    match unit {
+        b's' => Some(1),
+        b'm' => Some(60),
+        b'h' => Some(3_600),
+        b'd' => Some(86_400),
+        _ => None,
+    }
 }
 
 fn moment_of(text: &str) -> Option<u64> {

@@ -1,9 +1,11 @@
 // Signals by their names.
-ghost use Rattle.std.specs.Prelude.{◌≡◌, length};
+ghost use Rattle.std.specs.Prelude.{◌≡◌, ◌^◌, ◌<◌, ◌≤◌, ℕ, true, false, None, Some, IfSome, length};
 ghost use Rattle.std.specs.Option.{option_copied};
 ghost use Rattle.script_streams.specs.Replies.{TellsText, telling};
 ghost use Rattle.thread_regs.specs.SignalNames.{numbered_name};
 ghost use Rattle.case_tables.specs.Cells.{signal_text};
+ghost use Rattle.case_tables.specs.Filters.{IsNoName, SaysSignal};
+ghost use Rattle.script_words.specs.Number.{number_of};
 
 use crate::columns::{known_length, tell_known};
 use script_streams::{Output, Reply};
@@ -47,15 +49,44 @@ pub(crate) fn signal_length(signal: u32) -> usize
 }
 
 /// The signal that a text says: by its name, with or without SIG, or by its number; none if it says none.
-pub fn read_signal(text: &str) -> Option<u32> {
+pub fn read_signal(text: &str) -> Option<u32>
+    ensures { SaysSignal text.now result }
+{
     let name = match text.strip_prefix("SIG") {
         Some(name) => name,
         None => text,
     };
+    signal_named(name).or(number_in(text))
+}
+
+// The signal of this name, without SIG.
+fn signal_named(name: &str) -> Option<u32>
+    ensures found { IfSome result (λ n. numbered_name n ≡ Some name.now) }
+    ensures none { result ≡ None → IsNoName name.now }
+{
     for signal in 1..=LAST_NAMED {
-        if name_of(signal) == Some(name) {
+        if is_named(signal, name) {
             return Some(signal);
         }
     }
+    None
+}
+
+// Whether this is the name of a signal, without SIG.
+fn is_named(signal: u32, name: &str) -> bool
+    ensures yes { result ≡ true → numbered_name signal ≡ Some name.now }
+    ensures no { result ≡ false → numbered_name signal ≡ Some name.now → ⊥ }
+{
+    match name_of(signal) {
+        Some(named) => named == name,
+        None => false,
+    }
+}
+
+// The number that a text says, if it has 32 bits.
+fn number_in(text: &str) -> Option<u32>
+    ensures found { IfSome result (λ n. (number_of text.now ≡ Some n) × (n < 2 ^ 32)) }
+    ensures none { result ≡ None → (n : ℕ) → number_of text.now ≡ Some n → 2 ^ 32 ≤ n }
+{
     u32::try_from(parse_number(text.as_bytes())?).ok()
 }

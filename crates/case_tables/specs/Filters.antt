@@ -1,0 +1,33 @@
+-- What the values of `list`'s filters say: a signal, and a time.
+use Rattle.std.specs.Prelude.{◌≡◌, ◌≢◌, ◌⊎◌, ℕ, ◌*◌, ◌-◌, ◌^◌, ◌<◌, ◌≤◌, ◌==◌, List, [], ◌∷◌, ◌++◌, Option, None, Some, codes, if◌then◌else◌}
+use Rattle.std.specs.Option.{option_map}
+use Rattle.script_words.specs.Number.{number_of}
+use Rattle.thread_regs.specs.SignalNames.{numbered_name}
+
+-- no signal has this name
+abbrev pub IsNoName : List ℕ → Type 0
+IsNoName name = (n : ℕ) → numbered_name n ≡ Some name → ⊥
+
+-- A signal by its name, without SIG, or else by its number, which has 32 bits.
+abbrev pub IsSignal : List ℕ → List ℕ → Option ℕ → Type 0
+IsSignal name text (Some n) = (numbered_name n ≡ Some name) ⊎ (IsNoName name × (number_of text ≡ Some n) × (n < 2 ^ 32))
+IsSignal name text None = IsNoName name × ((n : ℕ) → number_of text ≡ Some n → 2 ^ 32 ≤ n)
+
+-- The same where the name may have SIG before it.
+pub record SaysSignal (text : List ℕ) (r : Option ℕ) : Type 0 where
+  pub prefixed : (name : List ℕ) → text ≡ codes "SIG" ++ name → IsSignal name text r
+  pub plain : ((name : List ℕ) → text ≢ codes "SIG" ++ name) → IsSignal text text r
+
+-- how many seconds there are in a unit: `s`, `m`, `h` or `d`
+abbrev pub seconds_in : ℕ → Option ℕ
+seconds_in unit =
+    if unit == 115 then Some 1
+    else if unit == 109 then Some 60
+    else if unit == 104 then Some 3600
+    else if unit == 100 then Some 86400 else None
+
+-- A time in seconds: as it stands behind `@`; or so many units before now, at the earliest the epoch. What a calendar says is left open.
+pub record SaysTime (now : Option ℕ) (text : List ℕ) (r : Option ℕ) : Type 0 where
+  pub at : (seconds : List ℕ) → text ≡ codes "@" ++ seconds → r ≡ number_of seconds
+  pub ago : (count : List ℕ) (unit n k : ℕ) → text ≡ count ++ unit ∷ [] → seconds_in unit ≡ Some k → number_of count ≡ Some n → n * k < 2 ^ 64
+      → r ≡ option_map (λ (t : ℕ). t - n * k) now
