@@ -11,7 +11,7 @@ use Rattle.journal_layout.specs.declared.faults.OpenFault.TheVariants as opening
 use Rattle.script_streams.specs.Telling.{IsDelivered}
 use Rattle.script_streams.specs.declared.streams.StreamFault.{StreamFault}
 use Rattle.archive_files.specs.declared.failures.Failure.{Failure}
-use Rattle.archive_files.specs.declared.failures.Failure.TheVariants.{Refused, Aside, Faulted, Unwritten, Told}
+use Rattle.archive_files.specs.declared.failures.Failure.TheVariants.{Refused, Aside, Faulted, Unwritten, Told, Stalled}
 use Rattle.archive_files.specs.declared.failures.Refusal.{Refusal}
 use Rattle.archive_files.specs.declared.failures.Refusal.TheVariants.{BadLine, NoLine, Pipe, TemplateTooLong, BadShape, File, Unsafe, Output, LineTooLong, NotUtf8, OutOfMemory, Disk, Open, Call}
 
@@ -71,6 +71,7 @@ is_aside (Aside refusal) = true
 is_aside (Faulted fault) = true
 is_aside (Unwritten kind) = true
 is_aside Told = true
+is_aside (Stalled seconds) = true
 
 -- what holds of a refusal that the output is told, if it is one
 abbrev pub IfRefused : Failure → (Refusal → Type 0) → Type 0

@@ -31,6 +31,8 @@ pub enum Failure {
     Unwritten(io::ErrorKind),
     /// A step was refused, and its reply has said so.
     Told,
+    /// The same, since standard input gave nothing for so many seconds.
+    Stalled(u64),
 }
 
 /// Which word of the command line names a file.
@@ -217,7 +219,27 @@ pub fn tell_failure<O: Output, E: Output>(
             tell_fault(SessionFault::WriteFailed, errors)
         }
         Failure::Told => 1,
+        Failure::Stalled(seconds) => tell_stalled(*seconds, errors),
     }
+}
+
+// Tells people that standard input gave nothing for so many seconds.
+fn tell_stalled<E: Output>(seconds: u64, errors: &mut E) -> u8
+    ensures status { result ≡ 1 }
+{
+    let mut reply = Reply::new(errors);
+    reply.tell(b"corekeep: ");
+    tell_stall(&mut reply, seconds);
+    reply.tell(b"\n");
+    let _ = reply.finish();
+    1
+}
+
+/// Tells that standard input gave nothing for so many seconds.
+pub fn tell_stall<O: Output>(reply: &mut Reply<'_, O>, seconds: u64) {
+    reply.tell(b"standard input gave nothing for ");
+    reply.tell_decimal(u128::from(seconds));
+    reply.tell(b" seconds");
 }
 
 /// Tells people why this file could not be written, where the file system has no room for it; of other reasons nothing is told.

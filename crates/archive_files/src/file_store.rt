@@ -6,7 +6,6 @@ use crate::archive_path::ArchivePath;
 use crate::archives::{Access, take_disk, tell_trouble};
 use crate::failures::{Failure, FileWord, Refusal};
 use crate::over_disk::look_over;
-use crate::patient_input::PatientInput;
 use crate::storing::{StoreRequest, store_from};
 use archive_checks::shape_on;
 use diagnostics::Onlooker;
@@ -36,16 +35,7 @@ pub fn store_file<R: AllocGlobal + Files<File = File> + Clock, I: Read, O: Outpu
         let mut taken = take_disk(rt, place, Access::Changing, onlooker);
         let length = request.stated_length();
         let request = request.of_length(length, room_in(&mut taken));
-        let mut patient = PatientInput::new(rt, input);
-        return store_counted(
-            rt.alloc(),
-            taken,
-            request,
-            length,
-            &mut patient,
-            output,
-            onlooker,
-        );
+        return store_counted(rt.alloc(), taken, request, length, input, output, onlooker);
     }
     let opened = File::open(rt, file);
     let taken = take_disk(rt, place, Access::Changing, onlooker);

@@ -19,7 +19,6 @@ mod looking;
 mod making;
 mod outcomes;
 mod over_disk;
-mod patient_input;
 mod salvaging;
 mod single;
 mod storing;
@@ -36,7 +35,8 @@ pub use collected::Collected;
 pub use copies::{CopyWords, copy_archive_file, resize_archive_file};
 pub use copy_over::copy_disk;
 pub use failures::{
-    Danger, Failure, FileWord, Refusal, WordPart, reason_of, tell_failure, tell_unwritten,
+    Danger, Failure, FileWord, Refusal, WordPart, reason_of, tell_failure, tell_stall,
+    tell_unwritten,
 };
 pub use file_store::{refuse_taken, store_file, store_taken};
 pub use file_systems::note_file_system;

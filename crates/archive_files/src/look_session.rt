@@ -166,6 +166,7 @@ fn go_on<O: Output>(failure: Failure, output: &mut O) -> Result<(), Failure>
         Failure::Aside(refusal) => Err(Failure::Aside(refusal)),
         Failure::Faulted(fault) => Err(Failure::Faulted(fault)),
         Failure::Unwritten(kind) => Err(Failure::Unwritten(kind)),
+        Failure::Stalled(seconds) => Err(Failure::Stalled(seconds)),
     }
 }
 

@@ -148,13 +148,14 @@ HasBoth None pairs = ⊥
 HasBoth (Some name) [] = ⊥
 HasBoth (Some name) (pair ∷ pairs) = Unit {0}
 
--- A word is at fault: a limit or a length is no number, an executable has pairs, or the label is none.
+-- A word is at fault: a limit, a length or a number of seconds is no number, an executable has pairs, or the label is none.
 abbrev pub IsAtFault : GivenStore → Type 0
 IsAtFault given =
     (policy_said given ≡ Err BadLine)
     ⊎ (HasBoth (option_copied given.exec) (pairs_of given)
     ⊎ (IsNoLabel given.escapes (option_copied given.label)
-    ⊎ (number_said (option_copied given.length) ≡ Err BadLine)))
+    ⊎ ((number_said (option_copied given.length) ≡ Err BadLine)
+    ⊎ (number_said (option_copied given.stall) ≡ Err BadLine))))
 
 -- Why words are refused: one is at fault, or not UTF-8, or there is no memory.
 abbrev pub AreRefused : GivenStore → Refusal → Type 0
@@ -177,6 +178,7 @@ pub record IsGiven {W : Type 0} (g : named.Ghosts W) (words : W) (given : GivenS
   pub exec : g.stands words (codes "exec") (option_copied given.exec)
   pub label : g.stands words (codes "label") (option_copied given.label)
   pub length : g.stands words (codes "length") (option_copied given.length)
+  pub stall : g.stands words (codes "stall") (option_copied given.stall)
   pub escapes : g.stated words (codes "escape") given.escapes
   pub pin : g.stated words (codes "pin") given.pin
   pub fit : g.stated words (codes "fit") given.fit
@@ -193,7 +195,10 @@ pub record AsksToStore (given : GivenStore) (archive : ArchivePath) (asked : Ask
   pub path : file.now ≡ given.file.now
   pub request : StoreRequest
   pub asks : Asks given request
-  pub same : asked ≡ Store archive file request given.log
+  -- for how many seconds the input may give nothing
+  pub stall : Option ℕ
+  pub bounded : number_said (option_copied given.stall) ≡ Ok stall
+  pub same : asked ≡ Store archive file stall request given.log
 
 -- ---- The words of `handle`.
 
@@ -267,6 +272,7 @@ pairs_beside (word ∷ words) = if has_equals word.now then word ∷ words else 
 pub record IsGivenToHandle {W : Type 0} (g : named.Ghosts W) (words : W) (given : GivenHandle) : Type 0 where
   pub archive : g.stands words (codes "archive") (option_copied given.archive)
   pub length : g.stands words (codes "length") (option_copied given.length)
+  pub stall : g.stands words (codes "stall") (option_copied given.stall)
   pub is_check : g.stated words (codes "check") given.is_check
   pub is_flush : g.stated words (codes "flush") given.is_flush
 
@@ -280,6 +286,9 @@ pub record Handles (given : GivenHandle) (asked : HandleWords) : Type 0 where
   pub length : asked.length ≡ length_of stated
   -- what states a length, and is no number
   pub faulty : option_copied asked.faulty_length ≡ (if is_some asked.length then None else stated)
+  -- for how many seconds the input may give nothing, and what states that and is no number
+  pub stall : asked.stall ≡ length_of (option_copied given.stall)
+  pub faulty_stall : option_copied asked.faulty_stall ≡ (if is_some asked.stall then None else option_copied given.stall)
   -- what the process allows its core, and its dump mode
   pub core_limit : IsNumberAt (codes "limit=") (pairs_beside given.words.now) asked.core_limit
   pub mode : IsNumberAt (codes "mode=") (pairs_beside given.words.now) asked.mode

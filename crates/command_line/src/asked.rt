@@ -49,6 +49,8 @@ pub(crate) enum Asked<'a> {
     Store {
         archive: ArchivePath<'a>,
         file: &'a str,
+        // For how many seconds the input may give nothing, if that is bounded.
+        stall: Option<u64>,
         request: StoreRequest,
         // Where its outcome is told, if it is.
         log: Option<&'a str>,

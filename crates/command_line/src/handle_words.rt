@@ -17,6 +17,7 @@ use std::alloc::Global;
 pub(crate) struct GivenHandle<'g, 'a> {
     archive: Option<&'a str>,
     length: Option<&'a str>,
+    stall: Option<&'a str>,
     is_check: bool,
     is_flush: bool,
     // The name of the configuration, and what is known of a core.
@@ -32,6 +33,7 @@ impl<'g, 'a> GivenHandle<'g, 'a> {
         GivenHandle {
             archive: named.word("archive"),
             length: named.word("length"),
+            stall: named.word("stall"),
             is_check: named.states("check"),
             is_flush: named.states("flush"),
             words,
@@ -51,6 +53,7 @@ pub(crate) fn handle_words<'a>(
     let config = checked_if(config)?;
     let stated = stated_length(given.length, pairs);
     let length = length_of(stated);
+    let stall = length_of(given.stall);
     let (begin, left_out) = known_pairs(alloc, pairs)?;
     let archive = checked_if(given.archive)?;
     Ok(HandleWords {
@@ -60,6 +63,8 @@ pub(crate) fn handle_words<'a>(
         left_out,
         length,
         faulty_length: if length.is_none() { stated } else { None },
+        stall,
+        faulty_stall: if stall.is_none() { given.stall } else { None },
         core_limit: number_at(pairs, "limit="),
         mode: number_at(pairs, "mode="),
         is_check: given.is_check,

@@ -30,6 +30,7 @@ pub(crate) struct GivenStore<'g, 'a> {
     pairs: &'g [&'a str],
     label: Option<&'a str>,
     length: Option<&'a str>,
+    stall: Option<&'a str>,
     // The bytes of a text are taken as they are.
     escapes: bool,
     pin: bool,
@@ -56,6 +57,7 @@ impl<'g, 'a> GivenStore<'g, 'a> {
             pairs,
             label: words.word("label"),
             length: words.word("length"),
+            stall: words.word("stall"),
             escapes: words.states("escape"),
             pin: words.states("pin"),
             fit: words.states("fit"),
@@ -81,10 +83,12 @@ pub(crate) fn store_words<'a>(
     ensures refused { IfErr result (spec.IsRefused given.now) }
 {
     let file = checked(given.file)?;
+    let stall = number_of(given.stall)?;
     let request = request_of(alloc, given)?;
     Ok(Asked::Store {
         archive,
         file,
+        stall,
         request,
         log: given.log,
     })

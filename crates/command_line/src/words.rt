@@ -16,7 +16,7 @@ use command_words::{
     Context, Watched, asked_help, context_of, in_order, line_in_place_of_a_command, tell_help,
     tell_notes, words_of,
 };
-use core_handler::{Log, Teller, handle, store_told, tell_lost_words, write_trouble};
+use core_handler::{Log, Source, Teller, handle, store_told, tell_lost_words, write_trouble};
 use diagnostics::{Nobody, Onlooker};
 use inspector_cli::memory_session;
 use intake::Settings;
@@ -228,6 +228,7 @@ fn answer_asked<
         Asked::Store {
             archive,
             file,
+            stall,
             request,
             log,
         } => {
@@ -244,7 +245,7 @@ fn answer_asked<
                 rt,
                 teller,
                 archive,
-                file,
+                Source { path: file, stall },
                 request,
                 input,
                 output,

@@ -86,7 +86,7 @@ fn push_kind(ordered: &mut Vec<String>, words: &[String], wanted: Kind) -> Resul
 // The kind of the word after this one, if that is this option's value. `store` has options that a handler has not.
 fn kind_of_value(word: &str) -> Option<Kind> {
     match word {
-        "--archive" | "--length" => Some(Kind::Known),
+        "--archive" | "--length" | "--stall" => Some(Kind::Known),
         "--keep"
         | "--bytes"
         | "--before"
@@ -102,8 +102,11 @@ fn kind_of_value(word: &str) -> Option<Kind> {
 // The kind of a word that is no option's value.
 fn kind_of(word: &str) -> Kind {
     match word {
-        "--check" | "--flush" | "--help" | "-h" | "--archive" | "--length" => Kind::Known,
+        "--check" | "--flush" | "--help" | "-h" | "--archive" | "--length" | "--stall" => {
+            Kind::Known
+        }
         _ if word.starts_with("--archive=") || word.starts_with("--length=") => Kind::Known,
+        _ if word.starts_with("--stall=") => Kind::Known,
         _ if word.starts_with('-') => Kind::Unknown,
         _ => Kind::Plain,
     }

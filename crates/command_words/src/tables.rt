@@ -65,7 +65,7 @@ pub(crate) static STORE: CommandWords = CommandWords {
     after_help: None,
     words: &[
         ARCHIVE, FILE, PAIRS, EXEC, PIN, LABEL, ESCAPE, KEEP, BYTES, BEFORE, FIT, FAIR, CUT,
-        NO_WAIT, TEMPLATE, USES_PID, LIMIT, LOG, QUIET, LENGTH,
+        NO_WAIT, TEMPLATE, USES_PID, LIMIT, LOG, QUIET, LENGTH, STALL,
     ],
 };
 
@@ -73,7 +73,7 @@ pub(crate) static HANDLE: CommandWords = CommandWords {
     name: "handle",
     about: "stores a core from standard input as a configuration says, and tells its outcome to a log: the kernel's handler",
     after_help: None,
-    words: &[HANDLER_PAIRS, HANDLER_ARCHIVE, CHECK, FLUSH, LENGTH],
+    words: &[HANDLER_PAIRS, HANDLER_ARCHIVE, CHECK, FLUSH, LENGTH, STALL],
 };
 
 pub(crate) static LOOK: CommandWords = CommandWords {
@@ -367,4 +367,13 @@ const LENGTH: Word = Word {
     takes: Takes::Text,
     default: None,
     help: "what is stored has exactly N bytes: if it ends before, or goes on, nothing is stored (`no Short`, `no TooLong`)",
+};
+
+// For how long standard input may give nothing.
+const STALL: Word = Word {
+    id: "stall",
+    shown: "SECONDS",
+    takes: Takes::Text,
+    default: None,
+    help: "refuses what comes from standard input (`no File`) once that gave nothing for SECONDS: of a pipe or a socket that is non-blocking, and of nothing else",
 };

@@ -98,6 +98,9 @@ fn tell_config<O: Output>(reply: &mut Reply<'_, O>, config: &Config<'_>, archive
     tell_flag_line(reply, b"no-wait ", config.no_wait);
     tell_text_line(reply, b"label ", config.label);
     tell_text_line(reply, b"log ", Some(config.log.unwrap_or(KERNEL_LOG)));
+    if config.stall.is_some() {
+        tell_number_line(reply, b"stall ", config.stall);
+    }
     if config.spool.is_some() || config.spool_bytes.is_some() {
         tell_text_line(reply, b"spool ", config.spool);
         tell_number_line(reply, b"spool-bytes ", config.spool_bytes);

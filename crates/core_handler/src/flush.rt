@@ -204,6 +204,8 @@ fn spooled_words(alloc: Global, line: &[u8], length: Option<u64>) -> Option<Hand
         left_out: Vec::new(alloc),
         length,
         faulty_length: None,
+        stall: None,
+        faulty_stall: None,
         core_limit: None,
         mode: number_in_line(line, b"mode="),
         is_check: false,

@@ -15,7 +15,7 @@ use crate::log::{KERNEL_LOG, Level, Log};
 use crate::outcome_lines::{Place, lost_line, words_of};
 use crate::requesting::{is_limited, request_of, seconds_of};
 use crate::spool_store::store_by_spool;
-use crate::teller::{Spooling, Teller, store_told};
+use crate::teller::{Source, Spooling, Teller, store_told};
 use archive_files::{ArchivePath, Collected, Failure, FileWord, Refusal, StoreRequest};
 use arrayvec::ArrayVec;
 use diagnostics::Onlooker;
@@ -57,6 +57,10 @@ pub struct HandleWords<'a> {
     pub length: Option<u64>,
     /// What states its length, and is no number.
     pub faulty_length: Option<&'a str>,
+    /// For how many seconds the input may give nothing if it is non-blocking, if that is stated.
+    pub stall: Option<u64>,
+    /// What states that, and is no number.
+    pub faulty_stall: Option<&'a str>,
     /// How many bytes its process allows a core file, the soft limit, if that is stated.
     pub core_limit: Option<u64>,
     /// The dump mode of its process, if that is stated.
@@ -107,7 +111,7 @@ pub fn handle<
     onlooker: &mut W,
 ) -> Result<(), Failure> {
     let document = read_document(rt, words.path());
-    let config = Config::of(&document.value);
+    let config = with_stall(Config::of(&document.value), words.stall);
     if words.is_check {
         return check(rt, &words, &document, output, note);
     }
@@ -119,6 +123,14 @@ pub fn handle<
             handler.tell_lost(rt, &words, "", b"File", UNNAMED);
             Err(Failure::Refused(Refusal::File(FileWord::Archive, FileFault::Missing)))
         }
+    }
+}
+
+// A configuration. If it does not bound for how long the input may give nothing, the words may.
+fn with_stall<'t>(config: Config<'t>, stall: Option<u64>) -> Config<'t> {
+    Config {
+        stall: config.stall.or(stall),
+        ..config
     }
 }
 
@@ -168,7 +180,8 @@ fn handle_in<
             rt, handler, folder, words, place, request, input, output, onlooker,
         ),
         None => {
-            let (ended, _) = handler.store(rt, place, "-", request, input, output, onlooker);
+            let source = handler.input();
+            let (ended, _) = handler.store(rt, place, source, request, input, output, onlooker);
             ended
         }
     }
@@ -226,6 +239,9 @@ fn tell_faults<R: AllocGlobal + Files<File = File>>(
     if let Some(length) = words.faulty_length {
         handler.tell_left_out(rt, b"no length: ", length);
     }
+    if let Some(stall) = words.faulty_stall {
+        handler.tell_left_out(rt, b"no number of seconds: ", stall);
+    }
 }
 
 impl<'a> Handler<'a> {
@@ -244,6 +260,14 @@ impl<'a> Handler<'a> {
                 spooling,
                 ..self.teller
             },
+        }
+    }
+
+    // The input, from which a core comes.
+    pub(crate) fn input(&self) -> Source<'static> {
+        Source {
+            path: "-",
+            stall: self.config.stall,
         }
     }
 
@@ -436,7 +460,7 @@ impl<'a> Handler<'a> {
         )
     }
 
-    // Stores the core, from the input (-) or from a file, and tells what became of it.
+    // Stores the core, and tells what became of it.
     pub(crate) fn store<
         R: AllocGlobal + Files<File = File> + Clock,
         I: Read,
@@ -446,7 +470,7 @@ impl<'a> Handler<'a> {
         &self,
         rt: &R,
         place: ArchivePath<'_>,
-        file: &str,
+        source: Source<'_>,
         request: StoreRequest,
         input: &mut I,
         output: &mut O,
@@ -457,7 +481,7 @@ impl<'a> Handler<'a> {
             rt,
             self.teller,
             place,
-            file,
+            source,
             request,
             input,
             output,

@@ -6,7 +6,9 @@ use crate::berth::{Berth, make_berth};
 use crate::handling::{HANDLER_LIMIT, HandleWords, Handler};
 use crate::line_numbers::number_in_line;
 use crate::log::Level;
+use crate::patient_input::PatientInput;
 use crate::spool_paths::SpoolPaths;
+use crate::teller::{Source, stall_words};
 use archive_files::{ArchivePath, Collected, Failure, StoreRequest};
 use diagnostics::Onlooker;
 use disk_model::FileFault;
@@ -49,7 +51,8 @@ pub(crate) fn store_by_spool<
         }
         Err(why) => {
             tell_unspooled(rt, handler, why);
-            let (ended, _) = handler.store(rt, place, "-", request, input, output, onlooker);
+            let source = handler.input();
+            let (ended, _) = handler.store(rt, place, source, request, input, output, onlooker);
             ended
         }
     }
@@ -142,7 +145,9 @@ fn take<'a, R: AllocGlobal + Files<File = File> + Clock, I: Read, O: Output, W: 
     let Berth { file, back, piece } = berth;
     let mut file = file;
     let mut piece = piece;
-    let taken = receive(&mut file, input, &mut piece, room);
+    let mut patient = PatientInput::new(rt, input, handler.config.stall);
+    let taken = receive(&mut file, &mut patient, &mut piece, room);
+    let stalled = patient.stalled();
     let Some(unspooled) = unspooled_of(taken) else {
         let (ended, _) = store_kept(
             rt,
@@ -156,27 +161,74 @@ fn take<'a, R: AllocGlobal + Files<File = File> + Clock, I: Read, O: Output, W: 
         );
         return ended;
     };
-    tell_unspooled(rt, handler, unspooled.why);
-    let ended = match rewound(back) {
-        Ok(front) => {
-            let mut rest = Rest {
-                reader: rest_of(front, unspooled.bytes, piece.bytes(), input),
-            };
-            let (ended, _) = handler.store(rt, place, "-", request, &mut rest, output, onlooker);
-            ended
-        }
-        Err(_) => {
-            handler.tell(
+    let ended = match stalled {
+        Some(seconds) => refuse_stalled(rt, handler, place.path, request, seconds, output),
+        None => {
+            tell_unspooled(rt, handler, unspooled.why);
+            let held = piece.bytes();
+            store_rest(
                 rt,
-                Level::Error,
-                b"lost: what was spooled of it could not be read",
-            );
-            Err(Failure::Told)
+                handler,
+                place,
+                request,
+                back,
+                unspooled.bytes,
+                held,
+                input,
+                output,
+                onlooker,
+            )
         }
     };
     discard(&mut file, unspooled.why);
     let _ = fs::remove_file(rt, paths.words.as_str());
     ended
+}
+
+// Stores a core that is not in the spool: the first bytes of its file, those that were read besides, and the rest of the input.
+fn store_rest<R: AllocGlobal + Files<File = File> + Clock, I: Read, O: Output, W: Onlooker>(
+    rt: &R,
+    handler: &Handler<'_>,
+    place: ArchivePath<'_>,
+    request: StoreRequest,
+    back: File,
+    bytes: u64,
+    held: &[u8],
+    input: &mut I,
+    output: &mut O,
+    onlooker: &mut W,
+) -> Result<(), Failure> {
+    let Ok(front) = rewound(back) else {
+        let why = b"lost: what was spooled of it could not be read";
+        handler.tell(rt, Level::Error, why);
+        return Err(Failure::Told);
+    };
+    let mut rest = Rest {
+        reader: rest_of(front, bytes, held, input),
+    };
+    let source = handler.input();
+    let (ended, _) = handler.store(rt, place, source, request, &mut rest, output, onlooker);
+    ended
+}
+
+// Refuses a core since the input gave nothing for so many seconds.
+fn refuse_stalled<R: AllocGlobal + Files<File = File> + Clock, O: Output>(
+    rt: &R,
+    handler: &Handler<'_>,
+    archive: &str,
+    request: StoreRequest,
+    seconds: u64,
+    output: &mut O,
+) -> Result<(), Failure> {
+    let name = request.printed_name(rt.alloc());
+    let words = stall_words(rt.alloc(), seconds);
+    handler
+        .teller
+        .tell_lost(rt, archive, b"", name.text(), b"File", words.text());
+    let mut reply = Reply::new(output);
+    reply.tell(b"no File\n");
+    reply.finish()?;
+    Err(Failure::Stalled(seconds))
 }
 
 // What was taken of a core, and the rest of it.
@@ -226,10 +278,14 @@ pub(crate) fn store_kept<R: AllocGlobal + Files<File = File> + Clock, O: Output,
 ) -> (Result<(), Failure>, Outcome) {
     let waiting = handler.waiting();
     let mut nothing: &[u8] = b"";
+    let source = Source {
+        path: paths.at(stage),
+        stall: None,
+    };
     let (ended, outcome) = waiting.store(
         rt,
         place,
-        paths.at(stage),
+        source,
         request,
         &mut nothing,
         output,

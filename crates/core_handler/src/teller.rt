@@ -6,8 +6,9 @@ use crate::log::{Level, Log};
 use crate::outcome_lines::{
     Place, lack_words, lacks_of, lost_line, reason_outcome, replies_outcome, stored_line, words_of,
 };
+use crate::patient_input::PatientInput;
 use archive_files::{
-    ArchivePath, Collected, Failure, Held, Refusal, StoreRequest, reason_of, store_file,
+    ArchivePath, Collected, Failure, Held, Refusal, StoreRequest, reason_of, store_file, tell_stall,
 };
 use diagnostics::{Onlooker, Trouble};
 use disk_model::FileDisk;
@@ -46,6 +47,15 @@ pub struct Spooling<'a> {
     pub makes_room: bool,
 }
 
+/// What is stored.
+#[derive(Clone, Copy)]
+pub struct Source<'a> {
+    /// The path of a file, or - for the standard input.
+    pub path: &'a str,
+    /// For how many seconds a standard input that is non-blocking may give nothing, if that is bounded.
+    pub stall: Option<u64>,
+}
+
 /// Stores a file, or the standard input, tells what became of it, and answers that. What can't be read of the case goes to a note, too. An onlooker is
 /// told how far the store is, and which call on the archive's file failed. A long wait for the archive's lock is told to the log.
 ///
@@ -57,7 +67,7 @@ pub fn store_told<R: AllocGlobal + Files<File = File> + Clock, I: Read, O: Outpu
     rt: &R,
     teller: Teller<'_>,
     place: ArchivePath<'_>,
-    file: &str,
+    source: Source<'_>,
     request: StoreRequest,
     input: &mut I,
     output: &mut O,
@@ -72,8 +82,18 @@ pub fn store_told<R: AllocGlobal + Files<File = File> + Clock, I: Read, O: Outpu
     }
     let has_label = request.has_label();
     let mut reply = Held::new(teller.alloc, output);
-    let (ended, disk, waited) = store_timed(rt, place, file, request, input, &mut reply, onlooker);
+    let mut patient = PatientInput::new(rt, input, source.stall);
+    let (ended, disk, waited) = store_timed(
+        rt,
+        place,
+        source.path,
+        request,
+        &mut patient,
+        &mut reply,
+        onlooker,
+    );
     teller.tell_wait(rt, place.path, waited);
+    let ended = with_stall(ended, reply.text(), patient.stalled());
     let outcome = teller.tell_outcome(
         rt,
         place.path,
@@ -188,6 +208,11 @@ impl<'a> Teller<'a> {
                 let words = words_of(self.alloc, Some(*refusal), reason.text(), trouble);
                 self.tell_lost(rt, archive, replies, name, reason.text(), words.text());
                 self.outcome_by(reason.text())
+            }
+            Err(Failure::Stalled(seconds)) => {
+                let words = stall_words(self.alloc, *seconds);
+                self.tell_lost(rt, archive, replies, name, refused, words.text());
+                self.outcome_by(refused)
             }
             _ => {
                 let words = words_of(self.alloc, None, refused, trouble);
@@ -322,6 +347,30 @@ impl<'a> Teller<'a> {
         let _ = reply.finish();
         let _ = write_whole(note, line.text());
     }
+}
+
+// How a store ended, if the input gave nothing for so many seconds: it is that for which the core was refused, if it could not be read.
+fn with_stall(
+    ended: Result<(), Failure>,
+    replies: &[u8],
+    stalled: Option<u64>,
+) -> Result<(), Failure> {
+    match (ended, stalled) {
+        (Err(Failure::Told), Some(seconds))
+            if replies_outcome(replies).refused == b"File".as_slice() => {
+            Err(Failure::Stalled(seconds))
+        }
+        (ended, _) => ended,
+    }
+}
+
+// That the input gave nothing for so many seconds.
+pub(crate) fn stall_words(alloc: Global, seconds: u64) -> Collected {
+    let mut words = Collected::new(alloc);
+    let mut reply = Reply::new(&mut words);
+    tell_stall(&mut reply, seconds);
+    let _ = reply.finish();
+    words
 }
 
 // How many bytes a case has, and by which signal its process ended.

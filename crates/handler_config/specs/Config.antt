@@ -5,7 +5,7 @@ use Rattle.toml.specs.Data.{Data}
 use Rattle.handler_config.specs.Keys.{key_word}
 use Rattle.handler_config.specs.Values.{text_at, natural_at, age_at, burst_at, flag_at}
 use Rattle.handler_config.specs.declared.config.Config.{Config}
-use Rattle.handler_config.specs.declared.keys.Key.TheVariants.{Archive, Keep, Bytes, Before, Limit, Fit, Fair, Cut, Burst, ObeyLimit, Template, UsesPid, NoWait, Label, Log, Spool, SpoolBytes}
+use Rattle.handler_config.specs.declared.keys.Key.TheVariants.{Archive, Keep, Bytes, Before, Limit, Fit, Fair, Cut, Burst, ObeyLimit, Template, UsesPid, NoWait, Stall, Label, Log, Spool, SpoolBytes}
 
 pub record Says (document : Data) (c : Config) : Type 0 where
   pub archive : option_copied c.archive ≡ text_at (key_word Archive) document
@@ -21,6 +21,7 @@ pub record Says (document : Data) (c : Config) : Type 0 where
   pub template : option_copied c.template ≡ text_at (key_word Template) document
   pub uses_pid : c.uses_pid ≡ flag_at (key_word UsesPid) document
   pub no_wait : c.no_wait ≡ flag_at (key_word NoWait) document
+  pub stall : c.stall ≡ natural_at (key_word Stall) document
   pub label : option_copied c.label ≡ text_at (key_word Label) document
   pub log : option_copied c.log ≡ text_at (key_word Log) document
   pub spool : option_copied c.spool ≡ text_at (key_word Spool) document

@@ -4,7 +4,7 @@ use Rattle.std.specs.Str.{bytes_eq}
 use Rattle.toml.specs.Data.{Data, as_str, as_bool}
 use Rattle.handler_config.specs.Values.{natural_in, age_in, burst_in}
 use Rattle.handler_config.specs.declared.keys.Key.{Key}
-use Rattle.handler_config.specs.declared.keys.Key.TheVariants.{Archive, Keep, Bytes, Before, Limit, Fit, Fair, Cut, Burst, ObeyLimit, Template, UsesPid, NoWait, Label, Log, Spool, SpoolBytes}
+use Rattle.handler_config.specs.declared.keys.Key.TheVariants.{Archive, Keep, Bytes, Before, Limit, Fit, Fair, Cut, Burst, ObeyLimit, Template, UsesPid, NoWait, Stall, Label, Log, Spool, SpoolBytes}
 use Rattle.handler_config.specs.declared.keys.Fault.{Fault}
 use Rattle.handler_config.specs.declared.keys.Fault.TheVariants.{Unknown, NotText, NotNumber, NotFlag, NotAge, NotBurst}
 
@@ -23,6 +23,7 @@ key_word ObeyLimit = codes "obey-limit"
 key_word Template = codes "template"
 key_word UsesPid = codes "uses-pid"
 key_word NoWait = codes "no-wait"
+key_word Stall = codes "stall"
 key_word Label = codes "label"
 key_word Log = codes "log"
 key_word Spool = codes "spool"
@@ -47,11 +48,12 @@ key_of word =
     else (if is_word_of word Template then Some Template
     else (if is_word_of word UsesPid then Some UsesPid
     else (if is_word_of word NoWait then Some NoWait
+    else (if is_word_of word Stall then Some Stall
     else (if is_word_of word Label then Some Label
     else (if is_word_of word Log then Some Log
     else (if is_word_of word Spool then Some Spool
     else (if is_word_of word SpoolBytes then Some SpoolBytes
-    else None))))))))))))))))
+    else None)))))))))))))))))
 
 -- a value that is missing is this fault
 abbrev pub unless : Fault → Bool → Option Fault
@@ -75,6 +77,7 @@ value_fault ObeyLimit d = unless_there NotFlag (as_bool d)
 value_fault Template d = unless_there NotText (as_str d)
 value_fault UsesPid d = unless_there NotFlag (as_bool d)
 value_fault NoWait d = unless_there NotFlag (as_bool d)
+value_fault Stall d = unless_there NotNumber (natural_in d)
 value_fault Label d = unless_there NotText (as_str d)
 value_fault Log d = unless_there NotText (as_str d)
 value_fault Spool d = unless_there NotText (as_str d)

@@ -43,6 +43,8 @@ pub struct Config<'t> {
     pub uses_pid: bool,
     /// A core is refused if another process has the archive.
     pub no_wait: bool,
+    /// For how many seconds a non-blocking input may give nothing.
+    pub stall: Option<u64>,
     /// The label of each new case.
     pub label: Option<&'t str>,
     /// The file to which each outcome is told; none if it is empty.
@@ -72,6 +74,7 @@ impl<'t> Config<'t> {
             template: text_at(document, "template"),
             uses_pid: flag_at(document, "uses-pid"),
             no_wait: flag_at(document, "no-wait"),
+            stall: natural_at(document, "stall"),
             label: text_at(document, "label"),
             log: text_at(document, "log"),
             spool: text_at(document, "spool"),

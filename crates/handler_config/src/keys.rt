@@ -35,6 +35,8 @@ pub enum Key {
     UsesPid,
     /// A core is refused if another process has the archive: true or false.
     NoWait,
+    /// For how many seconds a non-blocking input may give nothing: a number.
+    Stall,
     /// The label of each new case: a text.
     Label,
     /// The file to which each outcome is told: a text.
@@ -80,6 +82,7 @@ fn key_of(word: &str) -> Option<Key>
         "template" => Some(Key::Template),
         "uses-pid" => Some(Key::UsesPid),
         "no-wait" => Some(Key::NoWait),
+        "stall" => Some(Key::Stall),
         "label" => Some(Key::Label),
         "log" => Some(Key::Log),
         "spool" => Some(Key::Spool),
@@ -106,7 +109,7 @@ pub fn entry_fault(word: &str, value: &Value) -> Option<Fault>
         Key::Archive | Key::Template | Key::Label | Key::Log | Key::Spool => {
             unless_there(Fault::NotText, value.as_str().is_some())
         }
-        Key::Keep | Key::Bytes | Key::Limit | Key::SpoolBytes => {
+        Key::Keep | Key::Bytes | Key::Limit | Key::Stall | Key::SpoolBytes => {
             unless_there(Fault::NotNumber, natural_in(value).is_some())
         }
         Key::Before => unless_there(Fault::NotAge, age_in(value).is_some()),

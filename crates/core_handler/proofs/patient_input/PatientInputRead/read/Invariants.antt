@@ -1,5 +1,5 @@
 use Rattle.std.specs.Io.KnownBytes.{Keeps}
-use Rattle.archive_files.proofs.patient_input.PatientInputRead.read.Given as goal
+use Rattle.core_handler.proofs.patient_input.PatientInputRead.read.Given as goal
 
 -- nothing was taken so far
 abbrev pub invariant-loop : goal.invariant-loop
