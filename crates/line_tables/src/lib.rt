@@ -1,0 +1,26 @@
+//! Line tables of executables and debug files (DWARF 2 to 5): which line of which source file the code at an address
+//! comes from.
+#![tactic(auto)]
+
+mod entries;
+mod faults;
+mod files;
+mod forms;
+mod header;
+mod instructions;
+mod line_tables;
+mod lists;
+mod registers;
+mod rows;
+mod sequences;
+mod steps;
+mod texts;
+mod units;
+
+pub use faults::{LineFault, LineField, NoLine};
+pub use files::FilePath;
+pub use header::Header;
+pub use line_tables::{Line, LineTables};
+pub use registers::Row;
+pub use rows::Rows;
+pub use units::{Unit, Units};
