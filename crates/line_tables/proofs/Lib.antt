@@ -5,3 +5,5 @@ pub mod UnitPlaces
 pub mod Cuts
 pub mod Crossing
 pub mod Places
+pub mod Walking
+pub mod FirstSteps

@@ -17,3 +17,4 @@ pub mod Files
 pub mod FileWords
 pub mod Finding
 pub mod FindingWords
+pub mod Grammar

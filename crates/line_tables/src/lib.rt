@@ -8,6 +8,7 @@ mod files;
 mod forms;
 mod header;
 mod instructions;
+mod laws;
 mod line_tables;
 mod lists;
 mod registers;
@@ -20,6 +21,10 @@ mod units;
 pub use faults::{LineFault, LineField, NoLine};
 pub use files::FilePath;
 pub use header::Header;
+pub use laws::{
+    a_sequence_stands_alone, a_step_crosses, the_instructions_are_the_program,
+    the_units_are_the_walk,
+};
 pub use line_tables::{Line, LineTables};
 pub use registers::Row;
 pub use rows::Rows;
