@@ -5,6 +5,8 @@
 #[cfg(test)]
 mod elf;
 #[cfg(test)]
+mod lines;
+#[cfg(test)]
 mod lookups;
 #[cfg(test)]
 mod memory;
