@@ -64,7 +64,7 @@ unfoldable pub numbered_path : ListView → EntryView → Option PathView
 numbered_path l e =
     option_and_then (λ (d : EntryView). option_map (λ base. path base d.text e.text) (base_of l e.folder d.text)) (nth l e.folder)
 
--- Versions 2 to 4: directories have numbers from 1 on; 0 is that of the compilation, which the table does not tell.
+-- Versions 2 to 4: directories have numbers from 1 on; 0 is that of the compilation, which .debug_info has, and not the table.
 unfoldable pub listed_path : ListView → EntryView → Option PathView
 listed_path l e =
     if e.folder == 0 then Some (path [] [] e.text)
