@@ -34,11 +34,7 @@ fn crossed(address: u64, found: Option<Row>, last: Row, row: Row) -> Option<Row>
 }
 
 /// Reads the rest of a sequence, of which the first row is read, and gives the row of an address if the sequence covers it.
-fn rest_of_sequence(
-    rows: &mut Rows<'_>,
-    first: Row,
-    address: u64,
-) -> Result<Option<Row>, LineField>
+fn rest_of_sequence(rows: &mut Rows<'_>, first: Row, address: u64) -> Result<Option<Row>, LineField>
     ensures { viewed (λ row. (row, rows_left rows.new)) result ≡ cutting.cut address (Ok first ∷ rows_left rows.old) }
 {
     let mut last = first;
