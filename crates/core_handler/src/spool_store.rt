@@ -161,25 +161,20 @@ fn take<'a, R: AllocGlobal + Files<File = File> + Clock, I: Read, O: Output, W: 
         );
         return ended;
     };
-    let ended = match stalled {
-        Some(seconds) => refuse_stalled(rt, handler, place.path, request, seconds, output),
-        None => {
-            tell_unspooled(rt, handler, unspooled.why);
-            let held = piece.bytes();
-            store_rest(
-                rt,
-                handler,
-                place,
-                request,
-                back,
-                unspooled.bytes,
-                held,
-                input,
-                output,
-                onlooker,
-            )
+    if let Some(seconds) = stalled {
+        let is_kept = keep_cut(&back, unspooled.bytes);
+        if !is_kept {
+            discard(&mut file, unspooled.why);
+            let _ = fs::remove_file(rt, paths.words.as_str());
         }
-    };
+        return refuse_stalled(rt, handler, place.path, request, is_kept, seconds, output);
+    }
+    tell_unspooled(rt, handler, unspooled.why);
+    let bytes = unspooled.bytes;
+    let held = piece.bytes();
+    let ended = store_rest(
+        rt, handler, place, request, back, bytes, held, input, output, onlooker,
+    );
     discard(&mut file, unspooled.why);
     let _ = fs::remove_file(rt, paths.words.as_str());
     ended
@@ -211,20 +206,35 @@ fn store_rest<R: AllocGlobal + Files<File = File> + Clock, I: Read, O: Output, W
     ended
 }
 
-// Refuses a core since the input gave nothing for so many seconds.
+// Leaves the first bytes of a core in its file, of which there are so many. A flush stores them as a core that was cut on its way. Says
+// whether there are any.
+fn keep_cut(file: &File, bytes: u64) -> bool {
+    if bytes == 0 {
+        return false;
+    }
+    // If this fails, what is there stays.
+    let _ = file.sync_all();
+    true
+}
+
+// Refuses a core since the input gave nothing for so many seconds. Its first bytes may be kept in the spool.
 fn refuse_stalled<R: AllocGlobal + Files<File = File> + Clock, O: Output>(
     rt: &R,
     handler: &Handler<'_>,
     archive: &str,
     request: StoreRequest,
+    is_kept: bool,
     seconds: u64,
     output: &mut O,
 ) -> Result<(), Failure> {
     let name = request.printed_name(rt.alloc());
     let words = stall_words(rt.alloc(), seconds);
-    handler
-        .teller
-        .tell_lost(rt, archive, b"", name.text(), b"File", words.text());
+    let teller = if is_kept {
+        handler.waiting().teller
+    } else {
+        handler.teller
+    };
+    teller.tell_lost(rt, archive, b"", name.text(), b"File", words.text());
     let mut reply = Reply::new(output);
     reply.tell(b"no File\n");
     reply.finish()?;
