@@ -4,10 +4,17 @@ use Rattle.archive_checks.specs.Checking.{ChecksOnDisk}
 use Rattle.archive_checks.specs.declared.checking.CheckFault.{CheckFault}
 use Rattle.archive_checks.specs.declared.checking.CheckFault.TheVariants as check
 use Rattle.disk_model.specs.declared.disk.Disk as disk
+use Rattle.shared_disk.specs.declared.shared.SharedDisk as shared
+use Rattle.shared_disk.specs.declared.unlocked.Unlocked.{Unlocked}
+use Rattle.unlocked_reading.specs.Checking.{ChecksUnlocked}
+use Rattle.unlocked_reading.specs.declared.faults.UnlockedCheckFault.{UnlockedCheckFault}
+use Rattle.unlocked_reading.specs.declared.faults.UnlockedCheckFault.TheVariants as stop
 use Rattle.archive_files.specs.declared.failures.Failure.{Failure}
+use Rattle.archive_files.specs.Looking.{look_fault}
 use Rattle.archive_files.specs.declared.failures.Failure.TheVariants.{Refused, Faulted}
+use Rattle.archive_files.specs.declared.failures.FileWord.TheVariants as word
 use Rattle.archive_files.specs.declared.failures.Refusal.{Refusal}
-use Rattle.archive_files.specs.declared.failures.Refusal.TheVariants.{Open, Call}
+use Rattle.archive_files.specs.declared.failures.Refusal.TheVariants.{Open, Call, File}
 use Rattle.inspector_cli.specs.declared.session.SessionFault.TheVariants.{WriteFailed}
 
 abbrev pub check_told : Result (Unit {0}) CheckFault → Result (Unit {0}) Failure
@@ -22,3 +29,17 @@ abbrev pub ChecksTaken : {D : Type 0} → disk.Ghosts D → Bool → Option (Lis
 ChecksTaken {D} g sees taken taken' lost lost' (Ok before) r left =
     (after : D) × (checked : Result (Unit {0}) CheckFault) × (left ≡ Some after) × ChecksOnDisk g sees taken taken' lost lost' before checked after × (r ≡ check_told checked)
 ChecksTaken g sees taken taken' lost lost' (Err refusal) r left = (r ≡ Err (Refused refusal)) × (left ≡ None) × (taken' ≡ taken) × (lost' ≡ lost)
+
+-- How it is told whether an archive that was looked at is sound. Of one that can't be opened nothing is told here.
+abbrev pub looked_told : Result (Unit {0}) UnlockedCheckFault → Option (Result (Unit {0}) Failure)
+looked_told (Ok u) = Some (Ok u)
+looked_told (Err (stop.Open fault)) = None
+looked_told (Err (stop.Reopen fault)) = None
+looked_told (Err (stop.Archive fault)) = Some (Err (Refused (Call fault)))
+looked_told (Err (stop.Look fault)) = Some (Err (Refused (File word.Archive (look_fault fault))))
+looked_told (Err stop.Output) = Some (Err (Faulted WriteFailed))
+
+-- The archive is checked from a look at it on, while others may change it.
+abbrev pub ChecksLooked : {S : Type 0} (g : shared.Ghosts S) → disk.Ghosts (Unlocked S g) → Bool → Option (List ℕ) → Option (List ℕ) → ℕ → ℕ → S → Option (Result (Unit {0}) Failure) → Type 0
+ChecksLooked g U sees taken taken' lost lost' s r =
+    (checked : Result (Unit {0}) UnlockedCheckFault) × ChecksUnlocked g U s sees taken taken' lost lost' checked × (r ≡ looked_told checked)

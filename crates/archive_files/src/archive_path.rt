@@ -4,3 +4,13 @@ pub struct ArchivePath<'a> {
     pub path: &'a str,
     pub waits: bool,
 }
+
+impl<'a> ArchivePath<'a> {
+    /// The same file, without waiting.
+    pub(crate) fn at_once(self) -> ArchivePath<'a> {
+        ArchivePath {
+            path: self.path,
+            waits: false,
+        }
+    }
+}

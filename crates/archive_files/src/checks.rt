@@ -1,11 +1,13 @@
 // Whether the archive in a file is sound.
 ghost use Rattle.std.specs.Prelude.{◌≡◌};
-ghost use Rattle.archive_files.specs.Checks.{ChecksTaken, check_told};
+ghost use Rattle.archive_files.specs.Checks.{ChecksLooked, ChecksTaken, check_told};
+ghost use Rattle.shared_disk.specs.Looks.{shared_of};
 
 use crate::archive_path::ArchivePath;
 use crate::archives::{Access, take_disk, tell_trouble};
-use crate::failures::{Failure, Refusal};
+use crate::failures::{Failure, FileWord, Refusal};
 use crate::held::Held;
+use crate::looking::{look_fault, take_look};
 use crate::salvaging::fault_found;
 use archive_checks::{CheckFault, check_archive};
 use diagnostics::Onlooker;
@@ -13,15 +15,63 @@ use disk_model::Disk;
 use inspector_cli::SessionFault;
 use journal_layout::{BLOCK, OpenFault};
 use script_streams::{Output, Reply};
+use shared_disk::{Looked, SharedDisk, Unlocked};
 use std::alloc::Global;
 use std::fs::File;
 use std::rt::Files;
 use std::time::Clock;
+use unlocked_reading::{UnlockedCheckFault, check_unlocked};
 
-/// Tells what the archive in a file holds and that it is sound, or where it is damaged. An archive that opens, but with a damaged gate
-/// that may hide records, is not sound. The file's lock is shared meanwhile with others that only look. With `sees_images` each image is
-/// read too.
+/// Tells what the archive in a file holds and that it is sound, or where it is damaged. With `sees_images` each image is read too. It takes
+/// no lock: a case that is deleted meanwhile is told as one that is not there. Only an archive that can't be opened is looked at under its
+/// lock, which is shared with others that only look. An archive that opens, but with a damaged gate that may hide records, is not sound; that
+/// is looked at if nobody changes the archive.
 pub fn check<R: AllocGlobal + Files<File = File> + Clock, O: Output, W: Onlooker>(
+    rt: &R,
+    place: ArchivePath<'_>,
+    sees_images: bool,
+    output: &mut O,
+    onlooker: &mut W,
+) -> Result<(), Failure> {
+    let looked = take_look(rt, place)?;
+    let mut reply = Held::new(rt.alloc(), output);
+    let Some(checked) = check_looked(rt.alloc(), looked, sees_images, &mut reply) else {
+        drop(reply);
+        return check_locked(rt, place, sees_images, output, onlooker);
+    };
+    if let (Ok(()), Some(fault)) = (&checked, fault_found(rt, place, onlooker)) {
+        drop(reply);
+        return Err(tell_hidden(fault, output));
+    }
+    reply.finish()?;
+    checked
+}
+
+// Tells what the archive holds that was looked at, and that it is sound. Answers how that ended; nothing if the archive can't be opened.
+fn check_looked<S: SharedDisk + Drop, O: Output>(
+    alloc: Global,
+    looked: Looked<S>,
+    sees_images: bool,
+    output: &mut O,
+) -> Option<Result<(), Failure>>
+    ensures { ChecksLooked S.SharedDisk ⟦<Unlocked<'static, S> as Disk>⟧ sees_images (O.taken output.old) (O.taken output.new) (O.failures output.old) (O.failures output.new) (shared_of looked) result }
+{
+    match check_unlocked(alloc, looked, sees_images, output) {
+        Ok(()) => Some(Ok(())),
+        Err(UnlockedCheckFault::Open(_) | UnlockedCheckFault::Reopen(_)) => None,
+        Err(UnlockedCheckFault::Archive(fault)) => Some(Err(Failure::Refused(Refusal::Call(
+            fault,
+        )))),
+        Err(UnlockedCheckFault::Look(fault)) => Some(Err(Failure::Refused(Refusal::File(
+            FileWord::Archive,
+            look_fault(fault),
+        )))),
+        Err(UnlockedCheckFault::Output) => Some(Err(Failure::Faulted(SessionFault::WriteFailed))),
+    }
+}
+
+// The same of an archive whose lock is shared, which tells where it is damaged.
+fn check_locked<R: AllocGlobal + Files<File = File> + Clock, O: Output, W: Onlooker>(
     rt: &R,
     place: ArchivePath<'_>,
     sees_images: bool,
@@ -33,10 +83,6 @@ pub fn check<R: AllocGlobal + Files<File = File> + Clock, O: Output, W: Onlooker
     let (checked, disk) = check_taken(rt.alloc(), taken, sees_images, &mut reply);
     if let Some(disk) = &disk {
         tell_trouble(disk, onlooker);
-    }
-    if let (Ok(()), Some(fault)) = (&checked, fault_found(rt, place, onlooker)) {
-        drop(reply);
-        return Err(tell_hidden(fault, output));
     }
     reply.finish()?;
     checked

@@ -1,22 +1,26 @@
 // Archives, copied into new files.
 ghost use Rattle.std.specs.Prelude.{◌≡◌, true, false, Some, OnOk};
 ghost use Rattle.disk_model.specs.declared.held_facts.Hold.TheVariants.{Alone};
+ghost use Rattle.archive_files.specs.Copying.{CopiesDisk};
 ghost use Rattle.whole_files.specs.Whole.{IsWritten, IsWhole};
 
 use crate::archive_path::ArchivePath;
 use crate::archives::{
-    Access, disk_to_change, make_file, name_refusal, settle_made, take_disk, take_file,
-    tell_trouble,
+    Access, disk_to_change, make_file, name_refusal, settle_made, take_file, tell_trouble,
 };
+use crate::asking::unasked;
 use crate::copy_over::{copy_disk, larger_wish};
 use crate::failures::{Danger, FileWord, Refusal};
 use crate::folders::shared_among;
+use crate::looking::take_look;
 use crate::over_disk::look_over;
 use archive_care::CopyWish;
 use archive_checks::shape_on;
 use diagnostics::Onlooker;
-use disk_model::{FileDisk, FileFault, HeldFile, OpenFile};
-use journal_layout::Shape;
+use disk_model::{Disk, FileDisk, FileFault, HeldFile, OpenFile};
+use intake::{ArchiveFault, ByteRange};
+use journal_layout::{BLOCK, Shape};
+use shared_disk::{Looked, SharedDisk};
 use shown_progress::CountedDisk;
 use std::alloc::Global;
 use std::fs;
@@ -24,7 +28,8 @@ use std::fs::File;
 use std::os::unix::fs::MetadataExt;
 use std::rt::Files;
 use std::time::Clock;
-use whole_files::{NewFile, PartFile, clear, clear_part, folder_of, give_name, take_place};
+use unlocked_reading::{Places, Reads, find_cases, stay};
+use whole_files::{NewFile, PartFile, clear, clear_part, folder_of, give_name, remove, take_place};
 
 /// What is asked of a copy of an archive.
 #[derive(Clone, Copy)]
@@ -44,15 +49,12 @@ pub struct CopyWords {
 // The bits of a mode that are rights of the group and of others.
 const OTHERS_RIGHTS: u32 = 0o077;
 
-// What is held until a copy has its name: both disks with their locks.
-#[derive(Drop)]
-struct Copied {
-    from: FileDisk,
-    onto: FileDisk,
-}
+// How often an archive is copied of which a case is gone before the copy is whole.
+const MOST_COPIES: u32 = 3;
 
 /// Copies the archive in a file into a new file, which has its name only once it is whole and durable: until then it is called
-/// NEW.part. The archive's lock is shared meanwhile with others that only look.
+/// NEW.part. It takes no lock, so others may change the archive meanwhile: the copy is what the archive had at its begin. If a case is
+/// gone by its end, it is made anew. The last time the archive's lock is shared with others that only look, so that no case goes.
 pub fn copy_archive_file<R: AllocGlobal + Files<File = File> + Clock, W: Onlooker>(
     rt: &R,
     place: ArchivePath<'_>,
@@ -60,15 +62,25 @@ pub fn copy_archive_file<R: AllocGlobal + Files<File = File> + Clock, W: Onlooke
     wanted: CopyWords,
     onlooker: &mut W,
 ) -> Result<(), Refusal> {
-    let from = take_disk(rt, place, Access::Looking, onlooker)?;
     let mut file = PartFile::new(rt.alloc(), rt, new)?;
-    copy_named(rt.alloc(), from, &mut file, wanted, onlooker)
+    for _ in 0..MOST_COPIES {
+        let looked = take_look(rt, place)?;
+        match copy_named(rt.alloc(), looked, &mut file, wanted, onlooker) {
+            Err(Refusal::Call(ArchiveFault::NoCase)) => {}
+            ended => return ended,
+        }
+    }
+    let held = take_file(rt, place, Access::Looking, onlooker).map_err(refused)?;
+    let looked = take_look(rt, place)?;
+    let ended = copy_named(rt.alloc(), looked, &mut file, wanted, onlooker);
+    drop(held);
+    ended
 }
 
-// Copies the archive on a disk into a new file, which gets its name then.
-fn copy_named<'a, R: Files<File = File>, W: Onlooker>(
+// Copies the archive that was looked at into a new file, which gets its name then. Answers NoCase if a case of it is gone by then.
+fn copy_named<'a, R: Files<File = File>, S: SharedDisk + Drop, W: Onlooker>(
     alloc: Global,
-    from: FileDisk,
+    looked: Looked<S>,
     file: &mut PartFile<'a, R>,
     wanted: CopyWords,
     onlooker: &mut W,
@@ -76,10 +88,19 @@ fn copy_named<'a, R: Files<File = File>, W: Onlooker>(
     ensures whole { OnOk result (IsWhole false (⟦<PartFile<'a, R> as NewFile>⟧.facts file.new)) }
 {
     clear(file).map_err(|fault| Refusal::File(FileWord::New, fault))?;
-    // The locks of both files are kept until the new one has its name.
-    let copy = copy_part(alloc, from, file, wanted, onlooker)?;
+    let front = looked.unlocked(Vec::new(alloc));
+    let Places { numbers, ranges } = find_cases(alloc, front, Reads::All).map_err(unasked)?;
+    let mut ranges = ranges;
+    widen(&mut ranges);
+    let (copied, _) = copy_part(alloc, looked.unlocked(ranges), file, wanted, onlooker);
+    let onto = copied?;
+    if let Err(fault) = stay(alloc, looked.into_shared(), &numbers) {
+        remove(file);
+        return Err(unasked(fault));
+    }
+    // The lock of the new file is kept until it has its name.
     let named = give_name(file);
-    drop(copy);
+    drop(onto);
     named.map_err(|fault| name_refusal(FileWord::New, fault))
 }
 
@@ -106,6 +127,16 @@ pub fn resize_archive_file<R: AllocGlobal + Files<File = File> + Clock, W: Onloo
     copy_in_place(rt.alloc(), &old, &mut file, wanted, onlooker)
 }
 
+// Makes each range one of whole blocks: a copy reads all of an image's last block. While a case is there, nobody writes a block of it.
+fn widen(ranges: &mut Vec<ByteRange>) {
+    for index in 0..ranges.len() {
+        let rest = ranges[index].length % BLOCK;
+        if rest > 0 {
+            ranges[index].length = ranges[index].length.saturating_add(BLOCK - rest);
+        }
+    }
+}
+
 // Copies the archive in a file that is open, and locked, into a new file, which takes its place then.
 fn copy_in_place<'a, R: Files<File = File>, W: Onlooker>(
     alloc: Global,
@@ -119,9 +150,13 @@ fn copy_in_place<'a, R: Files<File = File>, W: Onlooker>(
 {
     clear_part(file).map_err(refused)?;
     let from = disk_beside(alloc, old).map_err(refused)?;
-    let copy = copy_part(alloc, from, file, wanted, onlooker)?;
+    let (copied, from) = copy_part(alloc, from, file, wanted, onlooker);
+    tell_trouble(&from, onlooker);
+    // The locks of both files are kept until the new one has its name.
+    let onto = copied?;
     let placed = take_place(file, old.file());
-    drop(copy);
+    drop(onto);
+    drop(from);
     placed.map_err(|fault| name_refusal(FileWord::Archive, fault))
 }
 
@@ -147,77 +182,78 @@ fn disk_beside(alloc: Global, file: &OpenFile) -> Result<FileDisk, FileFault>
     disk_to_change(alloc, file.try_clone()?)
 }
 
-// Copies the archive on a disk into a new file of this name. A copy that fails leaves no file. If the records of its cases leave no room in
-// a half, it is tried again with larger ones, unless a size is asked for.
-fn copy_part<'a, R: Files<File = File>, W: Onlooker>(
+// Copies the archive on a disk into a new file of this name, and hands that disk back. A copy that fails leaves no file. If the records of
+// its cases leave no room in a half, it is tried again with larger ones, unless a size is asked for.
+fn copy_part<'a, R: Files<File = File>, D: Disk + Drop, W: Onlooker>(
     alloc: Global,
-    from: FileDisk,
+    from: D,
     file: &mut PartFile<'a, R>,
     wanted: CopyWords,
     onlooker: &mut W,
-) -> Result<Copied, Refusal>
-    ensures written { OnOk result (IsWritten (⟦<PartFile<'a, R> as NewFile>⟧.facts file.new)) }
+) -> (Result<FileDisk, Refusal>, D)
+    ensures written { OnOk result.0 (IsWritten (⟦<PartFile<'a, R> as NewFile>⟧.facts file.new)) }
 {
     let (looked, from) = look_over(alloc, from, 0);
-    looked?;
+    if let Err(refusal) = looked {
+        return (Err(refusal), from);
+    }
     let mut from = from;
     let Some(shape) = shape_on(&mut from) else {
-        return Err(Refusal::File(FileWord::Archive, FileFault::Settle));
+        return (Err(refused(FileFault::Settle)), from);
     };
     let wish = wish_of(wanted, shape);
-    let (refusal, from) = match copy_into(alloc, from, file, wish, wanted.is_sparse, onlooker) {
-        Ok(copied) => return Ok(copied),
-        Err(refused) => refused,
+    let (copied, from) = copy_into(alloc, from, file, wish, wanted.is_sparse, onlooker);
+    let refusal = match copied {
+        Ok(onto) => return (Ok(onto), from),
+        Err(refusal) => refusal,
     };
-    let Some(larger) = larger_wish(wanted.half_blocks, wish, refusal) else {
-        return Err(refusal);
-    };
-    match copy_into(alloc, from, file, larger, wanted.is_sparse, onlooker) {
-        Ok(copied) => Ok(copied),
-        Err((refusal, _)) => Err(refusal),
+    match larger_wish(wanted.half_blocks, wish, refusal) {
+        Some(larger) => copy_into(alloc, from, file, larger, wanted.is_sparse, onlooker),
+        None => (Err(refusal), from),
     }
 }
 
-// Copies the archive on a disk into a new file, as a wish says, or hands its disk back. A copy that fails leaves no file.
-fn copy_into<'a, R: Files<File = File>, W: Onlooker>(
+// Copies the archive on a disk into a new file, as a wish says, and hands that disk back. A copy that fails leaves no file.
+fn copy_into<'a, R: Files<File = File>, D: Disk, W: Onlooker>(
     alloc: Global,
-    from: FileDisk,
+    from: D,
     file: &mut PartFile<'a, R>,
     wish: CopyWish,
     is_sparse: bool,
     onlooker: &mut W,
-) -> Result<Copied, (Refusal, FileDisk)>
-    ensures written { OnOk result (IsWritten (⟦<PartFile<'a, R> as NewFile>⟧.facts file.new)) }
+) -> (Result<FileDisk, Refusal>, D)
+    ensures written { OnOk result.0 (IsWritten (⟦<PartFile<'a, R> as NewFile>⟧.facts file.new)) }
 {
     let length = match wish.shape.length() {
         Ok(length) => length,
-        Err(fault) => return Err((Refusal::from(fault), from)),
+        Err(fault) => return (Err(Refusal::from(fault)), from),
     };
     let onto = match make_file(alloc, file, length, is_sparse, onlooker) {
         Ok(onto) => onto,
-        Err(refusal) => return Err((refusal, from)),
+        Err(refusal) => return (Err(refusal), from),
     };
     let (copied, from, mut onto) = copy_counted(alloc, from, onto, wish, onlooker);
+    tell_trouble(&onto, onlooker);
     match settle_made(file, &mut onto, copied) {
-        Ok(()) => Ok(Copied { from, onto }),
-        Err(refusal) => Err((refusal, from)),
+        Ok(()) => (Ok(onto), from),
+        Err(refusal) => (Err(refusal), from),
     }
 }
 
 // Copies the archive on a disk onto a new disk, and gives both disks.
-fn copy_counted<W: Onlooker>(
+fn copy_counted<D: Disk, W: Onlooker>(
     alloc: Global,
-    from: FileDisk,
+    from: D,
     onto: FileDisk,
     wish: CopyWish,
     onlooker: &mut W,
-) -> (Result<(), Refusal>, FileDisk, FileDisk) {
+) -> (Result<(), Refusal>, D, FileDisk)
+    ensures { CopiesDisk D.Disk ⟦<FileDisk as Disk>⟧ wish from onto result.0 result.1 result.2 }
+{
     onlooker.begin("copies", None);
-    let (copied, from, onto) = copy_disk(alloc, CountedDisk::new(from, onlooker), onto, wish);
-    let from = from.into_disk();
+    let (copied, from, onto) = copy_disk(alloc, from, CountedDisk::new(onto, onlooker), wish);
+    let onto = onto.into_disk();
     onlooker.end();
-    tell_trouble(&from, onlooker);
-    tell_trouble(&onto, onlooker);
     (copied, from, onto)
 }
 

@@ -2,30 +2,49 @@
 use crate::archive_path::ArchivePath;
 use crate::archives::{Access, take_disk};
 use crate::collected::Collected;
+use crate::failures::Refusal;
 use archive_checks::{find_gap, tell_gap};
 use diagnostics::Nobody;
-use script_streams::Reply;
+use disk_model::FileFault;
+use script_streams::{Output, Reply};
 use std::fs::File;
 use std::rt::Files;
 use std::time::Clock;
 
+// What is noted if another process has the archive's lock.
+const UNSEEN: &[u8] =
+    b"another process is changing it, so no check was made for a damaged gate that hides cases, or for the wrong half of the journal";
+
 /// Notes what the two halves of an archive's journal say of one another, if no writing leaves them so. An archive that can't be opened is
-/// left to whoever tells why. The file's lock is shared meanwhile with others that only look.
+/// left to whoever tells why. The file's lock is shared meanwhile with others that only look. If another process has it, that is noted
+/// instead: nobody waits for it.
 pub fn note_gap<R: AllocGlobal + Files<File = File> + Clock>(
     rt: &R,
     place: ArchivePath<'_>,
     note: &mut Collected,
 ) {
-    let Ok(disk) = take_disk(rt, place, Access::Looking, &mut Nobody) else {
-        return;
-    };
-    let mut disk = disk;
-    let Ok(Some(gap)) = find_gap(rt.alloc(), &mut disk) else {
-        return;
-    };
-    let mut reply = Reply::new(note);
-    reply.tell_text(place.path.as_bytes());
+    match take_disk(rt, place.at_once(), Access::Looking, &mut Nobody) {
+        Ok(disk) => {
+            let mut disk = disk;
+            if let Ok(Some(gap)) = find_gap(rt.alloc(), &mut disk) {
+                let mut reply = Reply::new(note);
+                tell_subject(&mut reply, place.path);
+                tell_gap(&mut reply, gap);
+                let _ = reply.finish();
+            }
+        }
+        Err(Refusal::File(_, FileFault::Busy)) => {
+            let mut reply = Reply::new(note);
+            tell_subject(&mut reply, place.path);
+            reply.tell(UNSEEN);
+            let _ = reply.finish();
+        }
+        Err(_) => {}
+    }
+}
+
+// Tells which archive a note is about.
+fn tell_subject<O: Output>(reply: &mut Reply<'_, O>, path: &str) {
+    reply.tell_text(path.as_bytes());
     reply.tell(b": ");
-    tell_gap(&mut reply, gap);
-    let _ = reply.finish();
 }

@@ -176,13 +176,13 @@ fn tell_found<'a, R: Files<File = File>, O: Output>(
 }
 
 /// The first fault of an archive that `salvage` finds, if there is one: also that of a gate by which the archive opens without the
-/// records after it.
+/// records after it. It is looked for only if no other process has the archive's lock.
 pub fn fault_found<R: AllocGlobal + Files<File = File> + Clock, W: Onlooker>(
     rt: &R,
     place: ArchivePath<'_>,
     onlooker: &mut W,
 ) -> Option<OpenFault> {
-    let source = open_source(rt, place, onlooker).ok()?;
+    let source = open_source(rt, place.at_once(), onlooker).ok()?;
     let found = find_cases(rt.alloc(), &source).ok()?;
     found.fault()
 }

@@ -6,8 +6,8 @@ use crate::log::{KERNEL_LOG, Log, LogFault};
 use crate::outcome_lines::words_of;
 use crate::spool_paths::path_in;
 use archive_files::{
-    Access, ArchivePath, Collected, Failure, Refusal, fault_found, note_file_system, note_gap,
-    reason_of, shape_on, shared_folder, take_disk,
+    ArchivePath, Collected, Failure, Refusal, fault_found, note_file_system, note_gap, reason_of,
+    shape_on, shared_folder, take_look,
 };
 use diagnostics::Nobody;
 use disk_model::Disk;
@@ -350,9 +350,10 @@ fn tell_size<R: AllocGlobal + Files<File = File> + Clock, O: Output>(
         return false;
     };
     let place = ArchivePath { path, waits: true };
-    match take_disk(rt, place, Access::Looking, &mut Nobody) {
-        Ok(disk) => {
-            let is_kept = tell_archive(rt.alloc(), reply, config, disk);
+    match take_look(rt, place) {
+        Ok(looked) => {
+            let front = looked.unlocked(Vec::new(rt.alloc()));
+            let is_kept = tell_archive(rt.alloc(), reply, config, front);
             is_kept && !tell_hidden(rt, reply, place)
         }
         Err(refusal) => {

@@ -1,7 +1,6 @@
 // The cores that wait in the spool are stored.
 use crate::handling::{HandleWords, Handler};
 use crate::line_numbers::number_in_line;
-use crate::lock_watch::LockWatch;
 use crate::log::Level;
 use crate::outcome_lines::words_of;
 use crate::spool_paths::SpoolPaths;
@@ -274,7 +273,13 @@ fn try_name<R: AllocGlobal + Files<File = File> + Clock, O: Output, W: Onlooker>
         return Some(Outcome::OutOfMemory);
     };
     let name = request.printed_name(rt.alloc());
-    match twin_in(rt, handler, waiting, name.text(), onlooker) {
+    match twin_of(
+        rt,
+        waiting.place,
+        name.text(),
+        waiting.file,
+        bytes_of(waiting.file),
+    ) {
         Twin::Other => None,
         Twin::Same => {
             tell_same(rt, handler, waiting, name.text());
@@ -283,22 +288,6 @@ fn try_name<R: AllocGlobal + Files<File = File> + Clock, O: Output, W: Onlooker>
         }
         Twin::None => Some(store_waiting(rt, handler, waiting, request, output, onlooker)),
     }
-}
-
-// What the archive has already under the name of a core. A long wait for its lock is told.
-fn twin_in<R: AllocGlobal + Files<File = File> + Clock, W: Onlooker>(
-    rt: &R,
-    handler: &Handler<'_>,
-    waiting: &Waiting<'_>,
-    name: &[u8],
-    onlooker: &mut W,
-) -> Twin {
-    let bytes = bytes_of(waiting.file);
-    let mut watch = LockWatch::new(rt, onlooker);
-    let twin = twin_of(rt, waiting.place, name, waiting.file, bytes, &mut watch);
-    let waited = watch.waited();
-    handler.teller.tell_wait(rt, waiting.place.path, waited);
-    twin
 }
 
 fn store_waiting<R: AllocGlobal + Files<File = File> + Clock, O: Output, W: Onlooker>(

@@ -1,8 +1,8 @@
 // A case that an archive has already under the name of a core.
 ghost use Rattle.std.specs.Prelude.{None};
 
-use archive_files::{Access, ArchivePath, Collected, extract, take_disk};
-use diagnostics::{Nobody, Onlooker, after_failure};
+use archive_files::{ArchivePath, Collected, extract, take_look};
+use diagnostics::{Nobody, after_failure};
 use disk_model::Disk;
 use intake::{Archive, Settings};
 use script_streams::{Output, Reply, StreamFault};
@@ -10,7 +10,6 @@ use std::alloc::Global;
 use std::fs::File;
 use std::os::unix::fs::FileExt;
 use std::rt::Files;
-use std::time::Clock;
 
 // How many bytes are compared at a time.
 const CHUNK: usize = 4096;
@@ -65,20 +64,19 @@ impl Output for Comparison<'_> {
     }
 }
 
-// What an archive has under this name, as it prints, beside a core that is in this file and has so many bytes. An onlooker is told of a wait
-// for the archive's lock.
-pub(crate) fn twin_of<R: AllocGlobal + Files<File = File> + Clock, W: Onlooker>(
+// What an archive has under this name, as it prints, beside a core that is in this file and has so many bytes. It takes no lock.
+pub(crate) fn twin_of<R: AllocGlobal + Files<File = File>>(
     rt: &R,
     place: ArchivePath<'_>,
     name: &[u8],
     file: &File,
     bytes: u64,
-    onlooker: &mut W,
 ) -> Twin {
-    let Ok(disk) = take_disk(rt, place, Access::Looking, onlooker) else {
+    let Ok(looked) = take_look(rt, place) else {
         return Twin::None;
     };
-    let Some(found) = case_named(rt.alloc(), disk, name) else {
+    let front = looked.unlocked(Vec::new(rt.alloc()));
+    let Some(found) = case_named(rt.alloc(), front, name) else {
         return Twin::None;
     };
     if found.length == bytes && has_bytes(rt, place, found.seq, file) {

@@ -1,11 +1,11 @@
-// A disk whose reads are counted.
+// A disk whose writes are counted.
 ghost use Rattle.std.specs.Prelude.{◌≡◌};
 ghost use Rattle.shown_progress.specs.Counted.{disk_below};
 
 use diagnostics::Onlooker;
 use disk_model::{Disk, DiskFault};
 
-/// A disk as it is. An onlooker is told of each byte that is read of it.
+/// A disk as it is. An onlooker is told of each byte that is written to it.
 #[derive(Drop)]
 pub struct CountedDisk<'p, D, W: Onlooker> {
     disk: D,
@@ -64,11 +64,11 @@ impl<D: Disk, W: Onlooker> Disk for CountedDisk<'_, D, W> {
     }
 
     fn read_at(&mut self, at: u64, into: &mut [u8]) -> Result<(), DiskFault> {
-        self.onlooker.advance(into.len() as u64);
         self.disk.read_at(at, into)
     }
 
     fn write_at(&mut self, at: u64, from: &[u8]) -> Result<(), DiskFault> {
+        self.onlooker.advance(from.len() as u64);
         self.disk.write_at(at, from)
     }
 
