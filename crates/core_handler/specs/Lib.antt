@@ -1,2 +1,3 @@
 pub mod Requesting
 pub mod Fronts
+pub mod Spooling

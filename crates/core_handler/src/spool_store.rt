@@ -1,5 +1,6 @@
 // A core goes from the input to the spool first, and is stored from there.
-ghost use Rattle.std.specs.Prelude.{◌≡◌, false, Err, IfOk, IfSome};
+ghost use Rattle.std.specs.Prelude.{◌≡◌, ◌^◌, ◌+◌, ◌-◌, true, false, None, Err, IfOk, IfSome, min};
+ghost use Rattle.core_handler.specs.Spooling.{is_under_name, limit_in};
 ghost use Rattle.whole_files.specs.Whole.{IsMade};
 
 use crate::berth::{Berth, make_berth};
@@ -105,7 +106,9 @@ fn room_in<R: AllocGlobal + Files<File = File> + Clone + Drop>(
     rt: &R,
     handler: &Handler<'_>,
     folder: &str,
-) -> Room {
+) -> Room
+    ensures most { result.most ≡ min (limit_in handler.now.config + 1) (2 ^ 64 - 1) }
+{
     let limit = handler.config.limit.unwrap_or(HANDLER_LIMIT);
     let left = match handler.config.spool_bytes {
         Some(most) => Some(most.saturating_sub(bytes_in(rt, folder))),
@@ -264,7 +267,8 @@ fn rewound(file: File) -> io::Result<File> {
 
 // Why a core is not in the spool, if it is not. One that is whole under its name is there, though that may not be durable.
 fn unspooled_of(taken: Result<u64, Unspooled>) -> Option<Unspooled>
-    ensures { IfSome result (λ u. taken ≡ Err u) }
+    ensures why { IfSome result (λ u. taken ≡ Err u) }
+    ensures there { result ≡ None → is_under_name taken ≡ true }
 {
     match taken {
         Ok(_) => None,

@@ -1,5 +1,5 @@
 // A case that an archive has already under the name of a core.
-ghost use Rattle.std.specs.Prelude.{None};
+ghost use Rattle.std.specs.Prelude.{◌≡◌, ◌&&◌, None};
 
 use archive_files::{ArchivePath, Collected, extract, take_look};
 use diagnostics::{Nobody, after_failure};
@@ -128,5 +128,12 @@ fn has_bytes<R: AllocGlobal + Files<File = File>>(
         failures: 0,
     };
     let copied = extract(rt, place, case.as_str(), None, &mut comparison, &mut Nobody);
-    copied.is_ok() && comparison.is_same
+    is_same_image(copied.is_ok(), &comparison)
+}
+
+// Whether an image is the bytes that it was compared with: it was copied to its end, and no byte differed.
+fn is_same_image(is_copied: bool, comparison: &Comparison<'_>) -> bool
+    ensures { result ≡ (is_copied && comparison.now.is_same) }
+{
+    is_copied && comparison.is_same
 }
