@@ -20,7 +20,7 @@ _corekeep() {
         COMPREPLY=($(compgen -W "SIGSEGV SIGABRT SIGBUS SIGFPE SIGILL SIGTRAP SIGSYS SIGQUIT" -- "$word"))
         return
         ;;
-    --log | --archive)
+    --log | --archive | --spool)
         COMPREPLY=($(compgen -f -- "$word"))
         return
         ;;
@@ -33,7 +33,7 @@ _corekeep() {
     case ${COMP_WORDS[1]} in
     format) options="--half --data --sparse --layout --quiet --help" ;;
     run) options="--no-wait $session --help" ;;
-    store) options="--exec --pin --label --escape --keep --bytes --before --fit --fair --cut --length --stall --log --no-wait --quiet $session --help" ;;
+    store) options="--exec --pin --label --escape --keep --bytes --before --fit --fair --cut --length --stall --spool --log --no-wait --quiet $session --help" ;;
     handle) options="--check --flush --archive --length --stall --help" ;;
     list) options="--json --kind --name --pid --signal --since --until --label --pinned --last --no-wait --help" ;;
     info) options="--threads --json --no-wait --help" ;;

@@ -175,8 +175,8 @@ IsNoneOf command (name ∷ names) = (command ≡ name → ⊥) × IsNoneOf comma
 -- what a command over an archive asks for
 abbrev pub IsOver : Given → ArchivePath → Asked → Type 0
 IsOver given archive (asked.Run place settings) = (given.command.now ≡ codes "run") × (place ≡ archive) × AreSettings given settings
-IsOver given archive (asked.Store place file stall request log) =
-    (given.command.now ≡ codes "store") × (store : GivenStore) × IsGiven found_under given store × (store.pairs.now ≡ given.words.items) × AsksToStore store archive (asked.Store place file stall request log)
+IsOver given archive (asked.Store place file stall request log spool) =
+    (given.command.now ≡ codes "store") × (store : GivenStore) × IsGiven found_under given store × (store.pairs.now ≡ given.words.items) × AsksToStore store archive (asked.Store place file stall request log spool)
 IsOver given archive (asked.Extract place case file) =
     (given.command.now ≡ codes "extract") × (place ≡ archive) × (case.now ≡ text_said given (codes "case")) × (option_copied file ≡ text_in given (codes "file"))
 IsOver given archive (asked.List place wanted) = (given.command.now ≡ codes "list") × (place ≡ archive) × IsListed given wanted

@@ -14,6 +14,7 @@ use Rattle.command_words.specs.RawWords.{bytes_meant}
 use Rattle.core_handler.specs.Fronts.{named_by}
 use Rattle.core_handler.specs.Requesting.{order_of, policy_within}
 use Rattle.core_handler.specs.declared.handling.HandleWords.{HandleWords}
+use Rattle.core_handler.specs.declared.spool_store.SpoolWords.{SpoolWords}
 use Rattle.inspector_cli.specs.Storing.{line_stream}
 use Rattle.name_template.specs.Template.{template_fault}
 use Rattle.name_template.specs.declared.template.TemplateFault.{TemplateFault}
@@ -188,8 +189,21 @@ pub record IsGiven {W : Type 0} (g : named.Ghosts W) (words : W) (given : GivenS
   pub uses_pid : g.stated words (codes "uses-pid") given.settings.uses_pid
   pub limit : g.counts words (codes "limit") given.settings.limit
   pub log : g.stands words (codes "log") (option_copied given.log)
+  pub spool : g.stands words (codes "spool") (option_copied given.spool)
 
--- What `store` asks for over this archive: which file is stored, as what, and where it is told.
+-- The directory of the spool that a core goes to first. An executable goes to none.
+abbrev pub spool_said : GivenStore → Option (List ℕ)
+spool_said given = if is_some (option_copied given.exec) then None else option_copied given.spool
+
+-- Nothing goes to a spool; or a core does, with the line that begins it, and cases go for it if they go for the others.
+abbrev pub IsSpooled : GivenStore → Option (List ℕ) → Option SpoolWords → Type 0
+IsSpooled given None None = Unit {0}
+IsSpooled given None (Some spool) = ⊥
+IsSpooled given (Some folder) None = ⊥
+IsSpooled given (Some folder) (Some spool) =
+    (spool.folder.now ≡ folder) × IsBegun given (option_copied given.exec) (pairs_of given) spool.begin.items × (spool.fit ≡ given.fit)
+
+-- What `store` asks for over this archive: which file is stored, as what, through which spool, and where it is told.
 pub record AsksToStore (given : GivenStore) (archive : ArchivePath) (asked : Asked) : Type 0 where
   pub file : Bor (List ℕ)
   pub path : file.now ≡ given.file.now
@@ -198,7 +212,10 @@ pub record AsksToStore (given : GivenStore) (archive : ArchivePath) (asked : Ask
   -- for how many seconds the input may give nothing
   pub stall : Option ℕ
   pub bounded : number_said (option_copied given.stall) ≡ Ok stall
-  pub same : asked ≡ Store archive file stall request given.log
+  -- a core goes there first
+  pub spool : Option SpoolWords
+  pub spooled : IsSpooled given (spool_said given) spool
+  pub same : asked ≡ Store archive file stall request given.log spool
 
 -- ---- The words of `handle`.
 

@@ -19,7 +19,7 @@ use archive_files::{
 use case_info::InfoWords;
 use case_listing::ListWords;
 use command_words::{Given, is_text};
-use core_handler::HandleWords;
+use core_handler::{HandleWords, SpoolWords};
 use inspector_cli::Naming;
 use journal_layout::Shape;
 use name_template::Template;
@@ -54,6 +54,8 @@ pub(crate) enum Asked<'a> {
         request: StoreRequest,
         // Where its outcome is told, if it is.
         log: Option<&'a str>,
+        // The spool that a core goes to first, if there is one.
+        spool: Option<SpoolWords<'a>>,
     },
     // The image of a case, in a new file or on the output.
     Extract {

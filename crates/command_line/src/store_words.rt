@@ -9,7 +9,7 @@ use crate::begin_line::{core_line, valued_line};
 use crate::named_words::NamedWords;
 use archive_files::{ArchivePath, Refusal, StoreRequest, StoreWords};
 use arrayvec::ArrayVec;
-use core_handler::{order_of, policy_within};
+use core_handler::{SpoolWords, order_of, policy_within};
 use inspector_cli::StoreOptions;
 use retention::Policy;
 use script_lines::{Call, Question, parse_question};
@@ -40,6 +40,8 @@ pub(crate) struct GivenStore<'g, 'a> {
     settings: SessionWords<'a>,
     // Where the outcome is told.
     log: Option<&'a str>,
+    // The directory of the spool.
+    spool: Option<&'a str>,
 }
 
 impl<'g, 'a> GivenStore<'g, 'a> {
@@ -69,6 +71,7 @@ impl<'g, 'a> GivenStore<'g, 'a> {
                 limit: words.count("limit"),
             },
             log: words.word("log"),
+            spool: words.word("spool"),
         }
     }
 }
@@ -85,13 +88,33 @@ pub(crate) fn store_words<'a>(
     let file = checked(given.file)?;
     let stall = number_of(given.stall)?;
     let request = request_of(alloc, given)?;
+    let spool = spool_of(alloc, given)?;
     Ok(Asked::Store {
         archive,
         file,
         stall,
         request,
         log: given.log,
+        spool,
     })
+}
+
+// The spool that a core goes to first. An executable goes to none: if it were cut on its way, a flush would store it under its name.
+fn spool_of<'a>(
+    alloc: Global,
+    given: &GivenStore<'_, 'a>,
+) -> Result<Option<SpoolWords<'a>>, Refusal>
+    ensures spooled { IfOk result (λ spool. spec.IsSpooled given.now (spec.spool_said given.now) spool) }
+    ensures refused { IfErr result (spec.IsRefused given.now) }
+{
+    match (given.spool, given.exec) {
+        (Some(folder), None) => Ok(Some(SpoolWords {
+            folder: checked(folder)?,
+            begin: first_line(alloc, given)?,
+            fit: given.fit,
+        })),
+        _ => Ok(None),
+    }
 }
 
 // What is stored, and by what. The template is looked at behind the words.

@@ -1,12 +1,12 @@
 // The program: what its words ask for, and the status that it ends with.
 ghost use Rattle.std.specs.Prelude.{◌≡◌, ◌≤◌, false};
-ghost use Rattle.command_words.specs.Notes.{IsQuietButForNotes, IsQuietButForSomeNotes, may_note, notes_file_system, subject};
+ghost use Rattle.command_words.specs.Notes.{IsQuietButForNotes, IsQuietButForSomeNotes, may_note, second_subject, subject};
 
 use crate::ask_words::{AskedLine, Form};
 use crate::asked::{Asked, SessionWords, naming_of, read_words};
 use crate::endings::{Clues, Ending, tell_ending};
 use archive_files::{
-    Access, ArchivePath, Collected, Failure, NewArchive, Refusal, ask, check, copy_archive_file,
+    Access, ArchivePath, Failure, NewArchive, Refusal, StoreRequest, ask, check, copy_archive_file,
     look, make_archive, names_output, note_file_system, note_gap, note_shared, resize_archive_file,
     run_over, salvage, take_disk, tell_trouble,
 };
@@ -16,7 +16,10 @@ use command_words::{
     Context, Watched, asked_help, context_of, in_order, line_in_place_of_a_command, tell_help,
     tell_notes, words_of,
 };
-use core_handler::{Log, Source, Teller, handle, store_told, tell_lost_words, write_trouble};
+use core_handler::{
+    Log, Notes, Source, SpoolWords, Teller, handle, store_spooled, store_told, tell_lost_words,
+    write_trouble,
+};
 use diagnostics::{Nobody, Onlooker};
 use inspector_cli::memory_session;
 use intake::Settings;
@@ -29,15 +32,6 @@ use std::fs::File;
 use std::io::Read;
 use std::rt::{Env, Files};
 use std::time::Clock;
-
-// What people are told though a command did what was asked.
-#[derive(Drop)]
-struct Notes {
-    // On the case, the archive or the folder.
-    subject: Collected,
-    // On the file system of the archive.
-    file_system: Collected,
-}
 
 /// The program but for its standard streams, which its `main` hands in. Its words are those of the process, of any bytes.
 /// It answers the status that the program ends with, as `run_words` does. An onlooker is told how far it is.
@@ -113,7 +107,7 @@ pub fn run_words<
     // or `handle` looked at, or on a file that was made; and behind it one on the file system of an archive that was made or checked.
     ensures most { result ≤ 2 }
     ensures quiet { result ≡ 0 → may_note words.now ≡ false → errors.new ≡ errors.old }
-    ensures notes { result ≡ 0 → IsQuietButForNotes (subject words.now) (notes_file_system words.now) E.Output errors.old errors.new }
+    ensures notes { result ≡ 0 → IsQuietButForNotes (subject words.now) (second_subject words.now) E.Output errors.old errors.new }
 {
     run_watched(rt, words, input, output, errors, &mut Nobody)
 }
@@ -129,23 +123,15 @@ pub fn run_watched<
 >(rt: &R, words: &[String], input: &mut I, output: &mut O, errors: &mut E, onlooker: &mut W) -> u8
     ensures most { result ≤ 2 }
     ensures quiet { result ≡ 0 → may_note words.now ≡ false → errors.new ≡ errors.old }
-    ensures notes { result ≡ 0 → IsQuietButForNotes (subject words.now) (notes_file_system words.now) E.Output errors.old errors.new }
+    ensures notes { result ≡ 0 → IsQuietButForNotes (subject words.now) (second_subject words.now) E.Output errors.old errors.new }
 {
     let mut watched = Watched::new(output);
-    let mut notes = Notes {
-        subject: Collected::new(rt.alloc()),
-        file_system: Collected::new(rt.alloc()),
-    };
+    let mut notes = Notes::new(rt.alloc());
     let mut listener = Listener::new(onlooker);
     let answered = answer_words(rt, words, input, &mut watched, &mut notes, &mut listener);
     let trouble = listener.trouble();
     let line = watched.into_line();
-    tell_notes(
-        words,
-        notes.subject.text(),
-        notes.file_system.text(),
-        errors,
-    );
+    tell_notes(words, notes.subject.text(), notes.second.text(), errors);
     match answered {
         Ok(()) => 0,
         Err(ending) => {
@@ -231,28 +217,12 @@ fn answer_asked<
             stall,
             request,
             log,
+            spool,
         } => {
-            let teller = Teller {
-                alloc: rt.alloc(),
-                log: Log {
-                    path: log.unwrap_or(""),
-                    archive: Some(archive.path),
-                },
-                mode: None,
-                spooling: None,
-            };
-            let (ended, _) = store_told(
-                rt,
-                teller,
-                archive,
-                Source { path: file, stall },
-                request,
-                input,
-                output,
-                &mut notes.subject,
-                onlooker,
-            );
-            ended
+            let source = Source { path: file, stall };
+            store_noting(
+                rt, archive, source, request, log, &spool, input, output, notes, onlooker,
+            )
         }
         Asked::Extract {
             archive,
@@ -295,6 +265,47 @@ fn answer_asked<
     }
 }
 
+// Stores a file, by way of a spool if there is one, and notes what people are to know of it.
+fn store_noting<
+    R: AllocGlobal + Files<File = File> + Clock + Clone + Drop,
+    I: Read,
+    O: Output,
+    W: Onlooker,
+>(
+    rt: &R,
+    archive: ArchivePath<'_>,
+    source: Source<'_>,
+    request: StoreRequest,
+    log: Option<&str>,
+    spool: &Option<SpoolWords<'_>>,
+    input: &mut I,
+    output: &mut O,
+    notes: &mut Notes,
+    onlooker: &mut W,
+) -> Result<(), Failure> {
+    let teller = Teller {
+        alloc: rt.alloc(),
+        log: Log {
+            path: log.unwrap_or(""),
+            archive: Some(archive.path),
+        },
+        mode: None,
+        spooling: None,
+    };
+    match spool {
+        Some(spool) => store_spooled(
+            rt, spool, teller, archive, source, request, input, output, notes, onlooker,
+        ),
+        None => {
+            let note = &mut notes.subject;
+            let (ended, _) = store_told(
+                rt, teller, archive, source, request, input, output, note, onlooker,
+            );
+            ended
+        }
+    }
+}
+
 // Makes an archive, and notes what is to be known of the file system that it lies on.
 fn make_noting<R: AllocGlobal + Files<File = File>, W: Onlooker>(
     rt: &R,
@@ -304,7 +315,7 @@ fn make_noting<R: AllocGlobal + Files<File = File>, W: Onlooker>(
     onlooker: &mut W,
 ) -> Result<(), Failure> {
     make_archive(rt, path, wanted, onlooker)?;
-    note_file_system(rt, path, &mut notes.file_system);
+    note_file_system(rt, path, &mut notes.second);
     Ok(())
 }
 
@@ -319,7 +330,7 @@ fn check_noting<R: AllocGlobal + Files<File = File> + Clock, O: Output, W: Onloo
 ) -> Result<(), Failure> {
     let checked = check(rt, place, sees_images, output, onlooker);
     note_gap(rt, place, &mut notes.subject);
-    note_file_system(rt, place.path, &mut notes.file_system);
+    note_file_system(rt, place.path, &mut notes.second);
     checked
 }
 

@@ -44,13 +44,17 @@ abbrev pub may_note : {Z : Type 0} → List (String Z) → Bool
 may_note [] = false
 may_note (word ∷ words) = may_note_of (string_bytes word) (word ∷ words)
 
--- the command may note the file system that its archive lies on, behind its other note: it is asked to make the archive, or to look at it
-abbrev pub notes_file_system_of : List ℕ → Bool
-notes_file_system_of command = if bytes_eq command (codes "format") then true else bytes_eq command (codes "check")
+-- what a second note is on if there is one, by the command: the file system of the archive that is made or looked at, or the spool of the
+-- case that is stored; the others have no second note
+abbrev pub second_subject_of : List ℕ → List ℕ
+second_subject_of command =
+    if bytes_eq command (codes "format") then codes "file system " else
+    if bytes_eq command (codes "check") then codes "file system " else
+    if bytes_eq command (codes "store") then codes "spool " else []
 
-abbrev pub notes_file_system : {Z : Type 0} → List (String Z) → Bool
-notes_file_system [] = false
-notes_file_system (word ∷ words) = notes_file_system_of (string_bytes word)
+abbrev pub second_subject : {Z : Type 0} → List (String Z) → List ℕ
+second_subject [] = []
+second_subject (word ∷ words) = second_subject_of (string_bytes word)
 
 -- the line of a note
 abbrev pub note_line : List ℕ → List ℕ → List ℕ
@@ -61,11 +65,11 @@ abbrev pub IsQuietButForANote : List ℕ → {E : Type 0} → output.Ghosts E �
 IsQuietButForANote on {E} g old new =
     (new ≡ old) ⊎ ((note : List ℕ) × (front : List ℕ) × (rest : List ℕ) × (note_line on note ≡ front ++ rest) × Appends (g.taken old) (g.taken new) front)
 
--- The same, and then the same of a note on a file system, if there may be one.
-abbrev pub IsQuietButForNotes : List ℕ → Bool → {E : Type 0} → output.Ghosts E → E → E → Type 0
-IsQuietButForNotes on has_other {E} g old new =
-    (between : E) × IsQuietButForANote on g old between × IsQuietButForANote (codes "file system ") g between new × (has_other ≡ false → new ≡ between)
+-- The same, and then the same of a note on this, unless a second note is on nothing.
+abbrev pub IsQuietButForNotes : List ℕ → List ℕ → {E : Type 0} → output.Ghosts E → E → E → Type 0
+IsQuietButForNotes on second {E} g old new =
+    (between : E) × IsQuietButForANote on g old between × IsQuietButForANote second g between new × (second ≡ [] → new ≡ between)
 
 -- The same, whatever the words are.
 abbrev pub IsQuietButForSomeNotes : {E : Type 0} → output.Ghosts E → E → E → Type 0
-IsQuietButForSomeNotes {E} g old new = (command : List ℕ) × IsQuietButForNotes (subject_of command) (notes_file_system_of command) g old new
+IsQuietButForSomeNotes {E} g old new = (command : List ℕ) × IsQuietButForNotes (subject_of command) (second_subject_of command) g old new

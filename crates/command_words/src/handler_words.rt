@@ -94,7 +94,8 @@ fn kind_of_value(word: &str) -> Option<Kind> {
         | "--log"
         | "--template"
         | "--limit"
-        | "--exec" => { Some(Kind::Unknown) }
+        | "--exec"
+        | "--spool" => { Some(Kind::Unknown) }
         _ => None,
     }
 }

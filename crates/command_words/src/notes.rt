@@ -1,34 +1,40 @@
 // What people are told though a command did what was asked: of a case that was stored, of an archive that was looked at, and of a file that
 // was made.
 ghost use Rattle.std.specs.Prelude.{◌≡◌, false};
-ghost use Rattle.command_words.specs.Notes.{IsQuietButForANote, IsQuietButForNotes, asks_to_check, checks_archive, makes_file, may_note, notes_file_system, subject};
+ghost use Rattle.command_words.specs.Notes.{IsQuietButForANote, IsQuietButForNotes, asks_to_check, checks_archive, makes_file, may_note, second_subject, subject};
 
 use script_streams::{Output, Reply};
 
 /// Tells people of a note, if there is one: if the words ask to store a file, what can't be read of the case; if they ask to look at an
 /// archive, that the half of its journal which is taken may be the wrong one; if they ask to make a file, that others may write its folder.
-/// Then it tells them what is to be known of the file system, if the words ask to make an archive, or to check one.
-pub fn tell_notes<E: Output>(words: &[String], note: &[u8], file_system: &[u8], errors: &mut E)
+/// Then comes the second note, if there is one: on the file system, if the words ask to make an archive or to check one; on the spool, if
+/// they ask to store a file.
+pub fn tell_notes<E: Output>(words: &[String], note: &[u8], second: &[u8], errors: &mut E)
     ensures quiet { may_note words.now ≡ false → errors.new ≡ errors.old }
-    ensures notes { IsQuietButForNotes (subject words.now) (notes_file_system words.now) E.Output errors.old errors.new }
+    ensures notes { IsQuietButForNotes (subject words.now) (second_subject words.now) E.Output errors.old errors.new }
 {
     if !may_note(words) {
         return;
     }
     tell_note_line(subject(words), note, errors);
-    if !notes_file_system(words) {
+    let on = second_subject(words);
+    if on.is_empty() {
         return;
     }
-    tell_note_line(b"file system ", file_system, errors);
+    tell_note_line(on, second, errors);
 }
 
-// Whether the file system of the archive is noted.
-fn notes_file_system(words: &[String]) -> bool
-    ensures { result ≡ notes_file_system words.now }
+// What a second note of these words is on. It is empty if they have none.
+fn second_subject(words: &[String]) -> &'static [u8]
+    ensures { result.now ≡ second_subject words.now }
 {
-    match words.first() {
-        Some(word) => word.as_str() == "format" || word.as_str() == "check",
-        None => false,
+    let Some(word) = words.first() else {
+        return b"";
+    };
+    match word.as_str() {
+        "format" | "check" => b"file system ",
+        "store" => b"spool ",
+        _ => b"",
     }
 }
 

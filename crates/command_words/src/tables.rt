@@ -65,7 +65,7 @@ pub(crate) static STORE: CommandWords = CommandWords {
     after_help: None,
     words: &[
         ARCHIVE, FILE, PAIRS, EXEC, PIN, LABEL, ESCAPE, KEEP, BYTES, BEFORE, FIT, FAIR, CUT,
-        NO_WAIT, TEMPLATE, USES_PID, LIMIT, LOG, QUIET, LENGTH, STALL,
+        NO_WAIT, TEMPLATE, USES_PID, LIMIT, LOG, QUIET, LENGTH, STALL, SPOOL,
     ],
 };
 
@@ -376,4 +376,13 @@ const STALL: Word = Word {
     takes: Takes::Text,
     default: None,
     help: "refuses what comes from standard input (`no File`) once that gave nothing for SECONDS: of a pipe or a socket that is non-blocking, and of nothing else",
+};
+
+// The spool that a core goes to first.
+const SPOOL: Word = Word {
+    id: "spool",
+    shown: "DIR",
+    takes: Takes::Text,
+    default: None,
+    help: "takes a core that comes through a pipe into a file in this directory first, and stores it from there: a slow sender keeps nobody waiting, and a core that the archive can't take now stays there until `handle --flush` stores it",
 };

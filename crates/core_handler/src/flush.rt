@@ -2,6 +2,7 @@
 use crate::handling::{HandleWords, Handler};
 use crate::line_numbers::number_in_line;
 use crate::log::Level;
+use crate::notes::Notes;
 use crate::outcome_lines::words_of;
 use crate::spool_paths::SpoolPaths;
 use crate::spool_store::{settle_files, store_kept, tell_unremoved};
@@ -298,6 +299,7 @@ fn store_waiting<R: AllocGlobal + Files<File = File> + Clock, O: Output, W: Onlo
     output: &mut O,
     onlooker: &mut W,
 ) -> Outcome {
+    let mut notes = Notes::new(rt.alloc());
     let (_, outcome) = store_kept(
         rt,
         handler,
@@ -306,6 +308,7 @@ fn store_waiting<R: AllocGlobal + Files<File = File> + Clock, O: Output, W: Onlo
         waiting.paths,
         waiting.stage,
         output,
+        &mut notes,
         onlooker,
     );
     outcome

@@ -12,9 +12,10 @@ use crate::config_file::{DEFAULT_CONFIG, Document, Trouble, read_document};
 use crate::flush::flush;
 use crate::labels::escaped_label;
 use crate::log::{KERNEL_LOG, Level, Log};
+use crate::notes::Notes;
 use crate::outcome_lines::{Place, lost_line, words_of};
 use crate::requesting::{is_limited, request_of, seconds_of};
-use crate::spool_store::store_by_spool;
+use crate::spool_store::{KeptWords, store_by_spool};
 use crate::teller::{Source, Spooling, Teller, store_told};
 use archive_files::{ArchivePath, Collected, Failure, FileWord, Refusal, StoreRequest};
 use arrayvec::ArrayVec;
@@ -175,13 +176,23 @@ fn handle_in<
     let Some(request) = handler.wanted(rt, words)? else {
         return handler.refuse_limited(rt, words, archive, output);
     };
+    // The kernel's handler has nobody who reads notes: the log has all of them.
+    let mut notes = Notes::new(rt.alloc());
     match handler.config.spool {
-        Some(folder) => store_by_spool(
-            rt, handler, folder, words, place, request, input, output, onlooker,
-        ),
+        Some(folder) => {
+            let kept = KeptWords {
+                begin: &words.begin,
+                length: words.length,
+            };
+            store_by_spool(
+                rt, handler, folder, kept, place, request, input, output, &mut notes, onlooker,
+            )
+        }
         None => {
             let source = handler.input();
-            let (ended, _) = handler.store(rt, place, source, request, input, output, onlooker);
+            let (ended, _) = handler.store(
+                rt, place, source, request, input, output, &mut notes, onlooker,
+            );
             ended
         }
     }
@@ -474,9 +485,9 @@ impl<'a> Handler<'a> {
         request: StoreRequest,
         input: &mut I,
         output: &mut O,
+        notes: &mut Notes,
         onlooker: &mut W,
     ) -> (Result<(), Failure>, Outcome) {
-        let mut note = Collected::new(self.teller.alloc);
         store_told(
             rt,
             self.teller,
@@ -485,7 +496,7 @@ impl<'a> Handler<'a> {
             request,
             input,
             output,
-            &mut note,
+            &mut notes.subject,
             onlooker,
         )
     }

@@ -4,26 +4,117 @@ ghost use Rattle.core_handler.specs.Spooling.{is_under_name, limit_in};
 ghost use Rattle.whole_files.specs.Whole.{IsMade};
 
 use crate::berth::{Berth, make_berth};
-use crate::handling::{HANDLER_LIMIT, HandleWords, Handler};
+use crate::handling::{HANDLER_LIMIT, Handler};
 use crate::line_numbers::number_in_line;
 use crate::log::Level;
+use crate::notes::Notes;
 use crate::patient_input::PatientInput;
 use crate::spool_paths::SpoolPaths;
-use crate::teller::{Source, stall_words};
+use crate::teller::{Source, Teller, stall_words};
 use archive_files::{ArchivePath, Collected, Failure, StoreRequest};
 use diagnostics::Onlooker;
 use disk_model::FileFault;
+use handler_config::Config;
 use script_streams::{Output, Reply};
 use spool::{
-    CoreFiles, NotSpooled, Outcome, Room, SpoolName, Stage, Unspooled, discard, entries_in,
-    receive, rest_of, settle, taken_bytes, words_text,
+    CoreFiles, Fate, NotSpooled, Outcome, Room, SpoolName, Stage, Unspooled, discard, entries_in,
+    fate_of, receive, rest_of, settle, taken_bytes, words_text,
 };
 use std::fs::File;
 use std::io::{Chain, Read, Seek, SeekFrom, Take};
 use std::rt::Files;
 use std::time::{Clock, Duration};
 use std::{fs, io};
+use toml::Value;
 use whole_files::{NameFault, NewFile, PartFile};
+
+/// The spool that a core goes to, and what it keeps of the core's words.
+#[derive(Drop)]
+pub struct SpoolWords<'a> {
+    /// The directory.
+    pub folder: &'a str,
+    /// The line of a script that begins the stream.
+    pub begin: Vec<u8>,
+    /// Cases go so that the core finds room.
+    pub fit: bool,
+}
+
+// The words of a core that stay with it in the spool.
+#[derive(Clone, Copy)]
+pub(crate) struct KeptWords<'w> {
+    // The line of a script that begins the stream.
+    pub(crate) begin: &'w [u8],
+    // How many bytes the core has, if that is stated.
+    pub(crate) length: Option<u64>,
+}
+
+/// Stores a file, or the standard input, as `store_told` does. A core that is in no regular file goes into a spool first, and is stored from
+/// there. A note says if it stays in the spool, or why it was not put there.
+///
+/// # Errors
+///
+/// Those of `store_told`.
+pub fn store_spooled<
+    R: AllocGlobal + Files<File = File> + Clock + Clone + Drop,
+    I: Read,
+    O: Output,
+    W: Onlooker,
+>(
+    rt: &R,
+    spool: &SpoolWords<'_>,
+    teller: Teller<'_>,
+    place: ArchivePath<'_>,
+    source: Source<'_>,
+    request: StoreRequest,
+    input: &mut I,
+    output: &mut O,
+    notes: &mut Notes,
+    onlooker: &mut W,
+) -> Result<(), Failure> {
+    let nothing = Value::Boolean(false);
+    let config = Config {
+        limit: Some(request.limit()),
+        fit: spool.fit,
+        stall: source.stall,
+        spool: Some(spool.folder),
+        ..Config::of(&nothing)
+    };
+    let handler = Handler { config, teller };
+    let folder = spool.folder;
+    let kept = KeptWords {
+        begin: &spool.begin,
+        length: request.stated_length(),
+    };
+    if source.path == "-" {
+        return store_by_spool(
+            rt, &handler, folder, kept, place, request, input, output, notes, onlooker,
+        );
+    }
+    match stream_at(rt, source.path) {
+        Some(file) => {
+            let mut file = file;
+            store_by_spool(
+                rt, &handler, folder, kept, place, request, &mut file, output, notes, onlooker,
+            )
+        }
+        None => {
+            let (ended, _) = handler.store(
+                rt, place, source, request, input, output, notes, onlooker,
+            );
+            ended
+        }
+    }
+}
+
+// The file under a path, if it is a pipe, a socket or a device. The others are whole where they are.
+fn stream_at<R: Files<File = File>>(rt: &R, path: &str) -> Option<File> {
+    let file = File::open(rt, path).ok()?;
+    let about = file.metadata().ok()?;
+    if about.is_file() || about.is_dir() {
+        return None;
+    }
+    Some(file)
+}
 
 // Takes a core from the input into the spool, and stores it from there. One that is not in the spool then is stored as it comes: what was
 // taken of it, and the rest.
@@ -36,24 +127,27 @@ pub(crate) fn store_by_spool<
     rt: &R,
     handler: &Handler<'_>,
     folder: &str,
-    words: &HandleWords<'_>,
+    words: KeptWords<'_>,
     place: ArchivePath<'_>,
     request: StoreRequest,
     input: &mut I,
     output: &mut O,
+    notes: &mut Notes,
     onlooker: &mut W,
 ) -> Result<(), Failure> {
     match prepare(rt, folder, words) {
         Ok((paths, berth)) => {
             let room = room_in(rt, handler, folder);
             take(
-                rt, handler, place, request, &paths, berth, room, input, output, onlooker,
+                rt, handler, place, request, &paths, berth, room, input, output, notes, onlooker,
             )
         }
         Err(why) => {
-            tell_unspooled(rt, handler, why);
+            tell_unspooled(rt, handler, why, notes);
             let source = handler.input();
-            let (ended, _) = handler.store(rt, place, source, request, input, output, onlooker);
+            let (ended, _) = handler.store(
+                rt, place, source, request, input, output, notes, onlooker,
+            );
             ended
         }
     }
@@ -63,7 +157,7 @@ pub(crate) fn store_by_spool<
 fn prepare<'a, R: AllocGlobal + Files<File = File> + Clock>(
     rt: &'a R,
     folder: &str,
-    words: &HandleWords<'_>,
+    words: KeptWords<'_>,
 ) -> Result<(SpoolPaths, Berth<'a, R>), NotSpooled>
     ensures made { IfOk result (λ b. IsMade (⟦<PartFile<'a, R> as NewFile>⟧.facts b.1.file)) }
     ensures unsynced { IfOk result (λ b. (⟦<PartFile<'a, R> as NewFile>⟧.facts b.1.file).is_synced ≡ false) }
@@ -73,7 +167,7 @@ fn prepare<'a, R: AllocGlobal + Files<File = File> + Clock>(
     let Ok(paths) = SpoolPaths::of(alloc, folder, spool_name(rt, words)) else {
         return Err(no_memory);
     };
-    let Ok(text) = words_text(alloc, &words.begin, words.length) else {
+    let Ok(text) = words_text(alloc, words.begin, words.length) else {
         return Err(no_memory);
     };
     match make_berth(rt, &paths, &text) {
@@ -83,10 +177,10 @@ fn prepare<'a, R: AllocGlobal + Files<File = File> + Clock>(
 }
 
 // The name of a core in the spool: when it came, and the number of its process.
-fn spool_name<R: Clock>(rt: &R, words: &HandleWords<'_>) -> SpoolName {
+fn spool_name<R: Clock>(rt: &R, words: KeptWords<'_>) -> SpoolName {
     SpoolName {
         stamp: nanoseconds_of(rt.since_1970()),
-        pid: number_in_line(&words.begin, b"pid=").unwrap_or(0),
+        pid: number_in_line(words.begin, b"pid=").unwrap_or(0),
     }
 }
 
@@ -140,6 +234,7 @@ fn take<'a, R: AllocGlobal + Files<File = File> + Clock, I: Read, O: Output, W: 
     room: Room,
     input: &mut I,
     output: &mut O,
+    notes: &mut Notes,
     onlooker: &mut W,
 ) -> Result<(), Failure>
     requires made { IsMade (⟦<PartFile<'a, R> as NewFile>⟧.facts berth.file) }
@@ -160,6 +255,7 @@ fn take<'a, R: AllocGlobal + Files<File = File> + Clock, I: Read, O: Output, W: 
             paths,
             Stage::Whole,
             output,
+            notes,
             onlooker,
         );
         return ended;
@@ -170,13 +266,20 @@ fn take<'a, R: AllocGlobal + Files<File = File> + Clock, I: Read, O: Output, W: 
             discard(&mut file, unspooled.why);
             let _ = fs::remove_file(rt, paths.words.as_str());
         }
+        if is_kept {
+            note_spool(
+                handler,
+                b"keeps the bytes that came, until `handle --flush` stores them",
+                notes,
+            );
+        }
         return refuse_stalled(rt, handler, place.path, request, is_kept, seconds, output);
     }
-    tell_unspooled(rt, handler, unspooled.why);
+    tell_unspooled(rt, handler, unspooled.why, notes);
     let bytes = unspooled.bytes;
     let held = piece.bytes();
     let ended = store_rest(
-        rt, handler, place, request, back, bytes, held, input, output, onlooker,
+        rt, handler, place, request, back, bytes, held, input, output, notes, onlooker,
     );
     discard(&mut file, unspooled.why);
     let _ = fs::remove_file(rt, paths.words.as_str());
@@ -194,6 +297,7 @@ fn store_rest<R: AllocGlobal + Files<File = File> + Clock, I: Read, O: Output, W
     held: &[u8],
     input: &mut I,
     output: &mut O,
+    notes: &mut Notes,
     onlooker: &mut W,
 ) -> Result<(), Failure> {
     let Ok(front) = rewound(back) else {
@@ -205,7 +309,9 @@ fn store_rest<R: AllocGlobal + Files<File = File> + Clock, I: Read, O: Output, W
         reader: rest_of(front, bytes, held, input),
     };
     let source = handler.input();
-    let (ended, _) = handler.store(rt, place, source, request, &mut rest, output, onlooker);
+    let (ended, _) = handler.store(
+        rt, place, source, request, &mut rest, output, notes, onlooker,
+    );
     ended
 }
 
@@ -288,6 +394,7 @@ pub(crate) fn store_kept<R: AllocGlobal + Files<File = File> + Clock, O: Output,
     paths: &SpoolPaths,
     stage: Stage,
     output: &mut O,
+    notes: &mut Notes,
     onlooker: &mut W,
 ) -> (Result<(), Failure>, Outcome) {
     let waiting = handler.waiting();
@@ -303,8 +410,16 @@ pub(crate) fn store_kept<R: AllocGlobal + Files<File = File> + Clock, O: Output,
         request,
         &mut nothing,
         output,
+        notes,
         onlooker,
     );
+    if fate_of(outcome) == Fate::Stay {
+        note_spool(
+            handler,
+            b"keeps the core, until `handle --flush` stores it",
+            notes,
+        );
+    }
     settle_files(rt, handler, paths, stage, outcome);
     (ended, outcome)
 }
@@ -338,21 +453,46 @@ pub(crate) fn tell_unremoved<R: AllocGlobal + Files<File = File>>(
 }
 
 // Tells that a core is not in the spool, and why.
-fn tell_unspooled<R: Files<File = File>>(rt: &R, handler: &Handler<'_>, why: NotSpooled) {
+fn tell_unspooled<R: Files<File = File>>(
+    rt: &R,
+    handler: &Handler<'_>,
+    why: NotSpooled,
+    notes: &mut Notes,
+) {
     let mut line = Collected::new(handler.teller.alloc);
     let mut reply = Reply::new(&mut line);
     reply.tell(b"not spooled: ");
-    match why {
-        NotSpooled::File(fault) => reply.tell(fault_text(fault)),
-        NotSpooled::Unwritten(FileFault::Full) => reply.tell(b"the file system is full"),
-        NotSpooled::Unwritten(_) => reply.tell(b"a write of its file failed"),
-        NotSpooled::Unread => reply.tell(b"the core could not be read"),
-        NotSpooled::Full => reply.tell(b"spool-bytes leaves no room for it"),
-        NotSpooled::Unsynced => reply.tell(b"a sync of its file failed"),
-        NotSpooled::Name(_) => reply.tell(b"its file did not get its name"),
-    }
+    reply.tell(unspooled_text(why));
     let _ = reply.finish();
     handler.tell(rt, Level::Warning, line.text());
+    note_spool(handler, line.text(), notes);
+}
+
+// Notes what becomes of a core in the spool.
+fn note_spool(handler: &Handler<'_>, words: &[u8], notes: &mut Notes) {
+    let Some(folder) = handler.config.spool else {
+        return;
+    };
+    let mut line = Collected::new(handler.teller.alloc);
+    let mut reply = Reply::new(&mut line);
+    reply.tell_text(folder.as_bytes());
+    reply.tell(b": ");
+    reply.tell(words);
+    let _ = reply.finish();
+    notes.second = line;
+}
+
+// Why a core is not in the spool, in words.
+fn unspooled_text(why: NotSpooled) -> &'static [u8] {
+    match why {
+        NotSpooled::File(fault) => fault_text(fault),
+        NotSpooled::Unwritten(FileFault::Full) => b"the file system is full",
+        NotSpooled::Unwritten(_) => b"a write of its file failed",
+        NotSpooled::Unread => b"the core could not be read",
+        NotSpooled::Full => b"spool-bytes leaves no room for it",
+        NotSpooled::Unsynced => b"a sync of its file failed",
+        NotSpooled::Name(_) => b"its file did not get its name",
+    }
 }
 
 // Why a file of the spool could not be made.
