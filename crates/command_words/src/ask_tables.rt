@@ -5,7 +5,7 @@ use crate::tables::{ARCHIVE, CommandWords, NO_WAIT, Takes, Word};
 
 pub(crate) static ASK: CommandWords = CommandWords {
     name: "ask",
-    about: "carries out one line of a script over an archive, and writes its reply; the status is 1 where it is refused",
+    about: "Carry out one line of a script over an archive, and print its reply; the status is 1 if it is refused",
     after_help: Some(ASK_HELP),
     words: &[ARCHIVE, LINE, JSON, NO_WAIT, TEXT, PLAIN],
 };
@@ -16,7 +16,7 @@ const LINE: Word = Word {
     shown: "WORD",
     takes: Takes::Words(1),
     default: None,
-    help: "the line, as `delete 3`, `pin 3`, `retire keep=10` or `free`",
+    help: "The line, such as `delete 3`, `pin 3`, `retire keep=10` or `free`",
 };
 
 // What `find` looks for.
@@ -25,7 +25,7 @@ const TEXT: Word = Word {
     shown: "TEXT",
     takes: Takes::Text,
     default: None,
-    help: "of `find N`: looks for these bytes, whatever they are, in place of HEX",
+    help: "For `find N`: look for these bytes, whatever they are, instead of HEX",
 };
 
 // Whether people read the reply.
@@ -34,5 +34,5 @@ const PLAIN: Word = Word {
     shown: "",
     takes: Takes::FlagWithoutJson,
     default: None,
-    help: "tells the reply for people: what it has as \\xHH is the byte itself, if that is a space or prints",
+    help: "Print the reply for people: each \\xHH as the byte itself, if that is a space or prints",
 };

@@ -3,14 +3,14 @@ use crate::tables::{ARCHIVE, CommandWords, NEW_BLOCKS, NO_WAIT, Takes, Word};
 
 pub(crate) static CHECK: CommandWords = CommandWords {
     name: "check",
-    about: "tells what an archive holds and that it is sound, or where it is damaged",
+    about: "Print what an archive holds, and that it is sound or where it is damaged",
     after_help: None,
     words: &[ARCHIVE, IMAGES, NO_WAIT],
 };
 
 pub(crate) static COPY: CommandWords = CommandWords {
     name: "copy",
-    about: "copies an archive into a new file, each case under its number; its size may be another",
+    about: "Copy an archive into a new file, each case under its number; the new archive may have another size",
     after_help: None,
     words: &[
         ARCHIVE, NEW, NEW_HALF, NEW_DATA, NEW_LAYOUT, NEW_SPARSE, NO_WAIT, QUIET,
@@ -19,7 +19,7 @@ pub(crate) static COPY: CommandWords = CommandWords {
 
 pub(crate) static RESIZE: CommandWords = CommandWords {
     name: "resize",
-    about: "makes an archive larger or smaller: copies it into a file beside it, which takes its place",
+    about: "Make an archive larger or smaller: copy it into a file in the same directory, which then replaces it",
     after_help: None,
     words: &[
         ARCHIVE,
@@ -34,18 +34,18 @@ pub(crate) static RESIZE: CommandWords = CommandWords {
 
 pub(crate) static SALVAGE: CommandWords = CommandWords {
     name: "salvage",
-    about: "copies the cases of a damaged archive into a new file, and tells of each whether it is whole",
+    about: "Copy the cases of a damaged archive into a new file, and print for each whether it is whole",
     after_help: None,
     words: &[ARCHIVE, NEW, SHAPE_HALF, SHAPE_DATA, NO_WAIT, QUIET],
 };
 
-// Whether nothing is shown of how far it is.
+// Whether no progress is shown.
 pub(crate) const QUIET: Word = Word {
     id: "quiet",
     shown: "",
     takes: Takes::Flag,
     default: None,
-    help: "does not show on a terminal how far it is",
+    help: "Show no progress on a terminal",
 };
 
 // Whether images are read.
@@ -54,7 +54,7 @@ const IMAGES: Word = Word {
     shown: "",
     takes: Takes::Flag,
     default: None,
-    help: "reads each image too, and tells whether its headers and notes are sound, or the first faulty field; an image of another machine has one too, and is kept whole all the same",
+    help: "Read each image too, and print whether its headers and notes are sound, or their first invalid field; an image of another machine has one too, and is kept whole anyway",
 };
 
 // The file of a copy.
@@ -63,7 +63,7 @@ const NEW: Word = Word {
     shown: "NEW",
     takes: Takes::Place,
     default: None,
-    help: "the file to make, which only its owner may read and write; one that exists is refused",
+    help: "The file to make, which only its owner may read and write; a file that exists is refused",
 };
 
 // The blocks in each half of a copy's journal.
@@ -72,7 +72,7 @@ const NEW_HALF: Word = Word {
     shown: "N",
     takes: NEW_BLOCKS,
     default: None,
-    help: "blocks of 4096 bytes in each half of the new journal; as many as there are, if this is left out",
+    help: "Blocks of 4096 bytes in each half of the new journal [default: as many as there are]",
 };
 
 // The data blocks of a copy.
@@ -81,7 +81,7 @@ const NEW_DATA: Word = Word {
     shown: "N",
     takes: NEW_BLOCKS,
     default: None,
-    help: "data blocks of 4096 bytes of the new archive; as many as there are, if this is left out",
+    help: "Data blocks of 4096 bytes of the new archive [default: as many as there are]",
 };
 
 // The blocks in each half of the journal of an archive whose superblock is damaged.
@@ -90,7 +90,7 @@ const SHAPE_HALF: Word = Word {
     shown: "N",
     takes: NEW_BLOCKS,
     default: None,
-    help: "blocks of 4096 bytes in each half of the journal, if the archive's superblock or its length says another number; NEW has as many",
+    help: "Blocks of 4096 bytes in each half of the journal, if the archive's superblock or its length gives another number; NEW has as many",
 };
 
 // Its data blocks.
@@ -99,7 +99,7 @@ const SHAPE_DATA: Word = Word {
     shown: "N",
     takes: NEW_BLOCKS,
     default: None,
-    help: "data blocks of 4096 bytes, if the archive's superblock or its length says another number; NEW has as many",
+    help: "Data blocks of 4096 bytes, if the archive's superblock or its length gives another number; NEW has as many",
 };
 
 // The version of a copy's layout.
@@ -117,7 +117,7 @@ const NEW_SPARSE: Word = Word {
     shown: "",
     takes: Takes::Flag,
     default: None,
-    help: "does not write the new file's zeros: quick, but the file system may be full when a core file comes",
+    help: "Do not write the new file's zeros: quick, but the file system may be full when a core arrives",
 };
 
 // Whether rights on an archive go that can't be copied.
@@ -126,5 +126,5 @@ const DROP_RIGHTS: Word = Word {
     shown: "",
     takes: Takes::Flag,
     default: None,
-    help: "rights of the group and of others, access control lists, extended attributes and labels need not come along: the new file has its owner's rights alone",
+    help: "Give up rights of the group and of others, access control lists, extended attributes and labels that can't be copied: the new file has its owner's rights alone",
 };

@@ -14,7 +14,7 @@ pub(crate) fn commands() -> [&'static CommandWords; 14]
     ensures { is_simple (grammar (map (λ command. command.now) result)) ≡ true }
 {
     [
-        &FORMAT, &RUN, &STORE, &HANDLE, &LIST, &ASK, &LOOK, &EXTRACT, &MEMORY, &INFO, &CHECK,
-        &COPY, &RESIZE, &SALVAGE,
+        &FORMAT, &STORE, &LIST, &INFO, &ASK, &EXTRACT, &LOOK, &RUN, &CHECK, &COPY, &RESIZE,
+        &SALVAGE, &HANDLE, &MEMORY,
     ]
 }

@@ -27,11 +27,11 @@ pub enum Context {
 static SALVAGE_MEANINGS: [Meaning; 3] = [
     Meaning {
         reason: b"NotAnArchive",
-        words: b"the file is no archive, or its superblock is damaged and nothing else tells its shape: --half N and --data N say how it was made",
+        words: b"the file is no archive, or its superblock is damaged and nothing else gives its shape: state it with --half N and --data N",
     },
     Meaning {
         reason: b"UnknownVersion",
-        words: b"the archive is of a later version of the layout, or the version of a half is damaged and nothing tells the shape: --half N and --data N say how the archive was made",
+        words: b"the archive is of a later version of the layout, or the version of a half is damaged and nothing gives the shape: state it with --half N and --data N",
     },
     Meaning {
         reason: b"Damaged",
@@ -41,7 +41,7 @@ static SALVAGE_MEANINGS: [Meaning; 3] = [
 
 // What the shape in the superblock means to it.
 const SHAPE: &[u8] =
-    b"this byte of the superblock is damaged, or the file is not as long as its superblock says: corekeep salvage ARCHIVE NEW finds the shape, and if it doesn't, --half N and --data N say how the archive was made";
+    b"this byte of the superblock is damaged, or the file is not as long as its superblock says: corekeep salvage ARCHIVE NEW finds the shape; if it doesn't, state it with --half N and --data N";
 
 // Those that mean more to `store`, when it names the case.
 static NAME_MEANINGS: [Meaning; 2] = [
@@ -71,7 +71,7 @@ static HANDLER_MEANINGS: [Meaning; 1] = [Meaning {
 static LIST_MEANINGS: [Meaning; 2] = [
     Meaning {
         reason: b"BadLine",
-        words: b"the value of a filter can't be read: --kind takes core or exec, --signal a number or a name as SEGV, --since and --until 2h, 3d, 2026-11-25, 2026-11-25T14:03:11Z or @SECONDS",
+        words: b"the value of a filter can't be read: --kind takes core or exec, --signal a number or a name such as SEGV, --since and --until 2h, 3d, 2026-11-25, 2026-11-25T14:03:11Z or @SECONDS",
     },
     Meaning {
         reason: b"Disk",
@@ -89,7 +89,7 @@ static LOOK_MEANINGS: [Meaning; 1] = [Meaning {
 static COPY_MEANINGS: [Meaning; 2] = [
     Meaning {
         reason: b"SpaceFull",
-        words: b"the cases take more blocks than --data says: a larger one, or delete or retire cases before (corekeep info ARCHIVE tells how many blocks there are, and how many are free)",
+        words: b"the cases take more blocks than --data says: a larger one, or delete or retire cases before (corekeep info ARCHIVE shows how many blocks there are, and how many are free)",
     },
     Meaning {
         reason: b"JournalFull",

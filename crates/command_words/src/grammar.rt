@@ -41,14 +41,15 @@ fn subcommands_of<'a>(
 }
 
 // What help shows after the commands.
-const STATUSES: &str =
-    "Statuses: 0; 1 where an archive, a file, a shape, a template, a line of `ask` or a step of `store` is refused \
-     (`no REASON` on standard output, of `extract` on standard error) or a session ends before its script \
-     (`fault NAME` on standard error); 2 where these words are refused.";
+const STATUSES: &str = "Statuses:\n\
+     \x20\x200  it is done\n\
+     \x20\x201  it is refused (`no REASON` on standard output, and its meaning on standard error; `extract` prints both on standard error),\n\
+     \x20\x20   or a session ended before its script (`fault NAME` on standard error)\n\
+     \x20\x202  the words of the command line are refused";
 
 static PROGRAM: CommandWords = CommandWords {
     name: "corekeep",
-    about: "keeps images of programs and their memory as numbered cases in an archive",
+    about: "Keeps core dumps of RISC-V 64 Linux processes, with their executables, in one archive file of fixed size, and answers questions about them",
     after_help: Some(STATUSES),
     words: &[],
 };

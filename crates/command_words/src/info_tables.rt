@@ -4,7 +4,7 @@ use crate::tables::{ARCHIVE, CommandWords, NO_WAIT, Takes, Word};
 
 pub(crate) static INFO: CommandWords = CommandWords {
     name: "info",
-    about: "tells what is known of a case, on one screen, or of an archive",
+    about: "Show a crash on one screen, or the state of an archive",
     after_help: None,
     words: &[ARCHIVE, INFO_CASE, THREADS, JSON, NO_WAIT],
 };
@@ -15,7 +15,7 @@ const INFO_CASE: Word = Word {
     shown: "CASE",
     takes: Takes::NewPlace,
     default: None,
-    help: "a case, by its number, its name or as `last`; the archive, if this is left out",
+    help: "A case: its number, its name, or last; without it, the archive is shown",
 };
 
 // Whether all threads are shown.
@@ -24,5 +24,5 @@ const THREADS: Word = Word {
     shown: "",
     takes: Takes::Flag,
     default: None,
-    help: "shows the frames of each thread",
+    help: "Show the frames of each thread",
 };

@@ -3,7 +3,7 @@ use crate::tables::{ARCHIVE, CommandWords, NO_WAIT, Takes, Word};
 
 pub(crate) static LIST: CommandWords = CommandWords {
     name: "list",
-    about: "lists the cases of an archive",
+    about: "List the cases of an archive",
     after_help: None,
     words: &[
         ARCHIVE, NO_WAIT, JSON, KIND, NAME_PART, PID, SIGNAL, SINCE, UNTIL, LABEL_PART, PINNED,
@@ -17,7 +17,7 @@ pub(crate) const JSON: Word = Word {
     shown: "",
     takes: Takes::Flag,
     default: None,
-    help: "tells it as JSON, for programs",
+    help: "Print JSON, for programs",
 };
 
 // Of which kind a case is.
@@ -26,7 +26,7 @@ const KIND: Word = Word {
     shown: "KIND",
     takes: Takes::Text,
     default: None,
-    help: "only core files (core) or executables (exec)",
+    help: "Only core files (core) or executables (exec)",
 };
 
 // A part of its name.
@@ -35,7 +35,7 @@ const NAME_PART: Word = Word {
     shown: "TEXT",
     takes: Takes::Text,
     default: None,
-    help: "only cases with this text in the name",
+    help: "Only cases with this text in the name",
 };
 
 // Its process.
@@ -44,7 +44,7 @@ const PID: Word = Word {
     shown: "PID",
     takes: Takes::Bytes,
     default: None,
-    help: "only cores of this process",
+    help: "Only cores of this process",
 };
 
 // Its signal.
@@ -53,7 +53,7 @@ const SIGNAL: Word = Word {
     shown: "SIGNAL",
     takes: Takes::Text,
     default: None,
-    help: "only cores of this signal: its number, or its name as SEGV or SIGSEGV",
+    help: "Only cores of this signal: its number, or its name such as SEGV or SIGSEGV",
 };
 
 // The earliest time.
@@ -62,7 +62,7 @@ const SINCE: Word = Word {
     shown: "WHEN",
     takes: Takes::Text,
     default: None,
-    help: "only cores of this time or later: 2026-11-25, 2026-11-25T14:03:11Z, @SECONDS since the epoch, or 90s, 30m, 2h or 3d ago",
+    help: "Only cores of this time or later: 2026-11-25, 2026-11-25T14:03:11Z, @SECONDS since the epoch, or 90s, 30m, 2h or 3d ago",
 };
 
 // The time before which it is.
@@ -71,7 +71,7 @@ const UNTIL: Word = Word {
     shown: "WHEN",
     takes: Takes::Text,
     default: None,
-    help: "only cores from before this time",
+    help: "Only cores from before this time",
 };
 
 // A part of its label.
@@ -80,7 +80,7 @@ const LABEL_PART: Word = Word {
     shown: "TEXT",
     takes: Takes::Text,
     default: None,
-    help: "only cases with this text in the label",
+    help: "Only cases with this text in the label",
 };
 
 // Whether it is pinned.
@@ -89,7 +89,7 @@ const PINNED: Word = Word {
     shown: "",
     takes: Takes::Flag,
     default: None,
-    help: "only pinned cases",
+    help: "Only pinned cases",
 };
 
 // How many are told.
@@ -98,5 +98,5 @@ const LAST: Word = Word {
     shown: "K",
     takes: Takes::Bytes,
     default: None,
-    help: "only the K cases of the greatest numbers among these",
+    help: "Only the K newest of these cases, by number",
 };

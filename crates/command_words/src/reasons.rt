@@ -26,7 +26,7 @@ static MEANINGS: [Meaning; 41] = [
     },
     Meaning {
         reason: b"Burst",
-        words: b"as many cores of this program as may be were stored shortly before (burst)",
+        words: b"too many cores of this program were stored shortly before (burst)",
     },
     Meaning {
         reason: b"Limit",
@@ -74,7 +74,7 @@ static MEANINGS: [Meaning; 41] = [
     },
     Meaning {
         reason: b"BadLine",
-        words: b"the words are not in the grammar",
+        words: b"the words are invalid",
     },
     Meaning {
         reason: b"LineTooLong",
@@ -82,7 +82,7 @@ static MEANINGS: [Meaning; 41] = [
     },
     Meaning {
         reason: b"Damaged",
-        words: b"the archive is damaged: this byte is in its first faulty field; corekeep salvage ARCHIVE NEW copies what can be read",
+        words: b"the archive is damaged: this byte is in its first invalid field; corekeep salvage ARCHIVE NEW copies what can be read",
     },
     Meaning {
         reason: b"UnknownVersion",

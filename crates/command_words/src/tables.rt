@@ -47,21 +47,21 @@ pub(crate) struct CommandWords {
 
 pub(crate) static FORMAT: CommandWords = CommandWords {
     name: "format",
-    about: "makes an archive in a new file, with no case in it",
+    about: "Make an archive in a new file, with no case in it",
     after_help: None,
     words: &[NEW_ARCHIVE, SPARSE, LAYOUT, HALF, DATA, QUIET],
 };
 
 pub(crate) static RUN: CommandWords = CommandWords {
     name: "run",
-    about: "runs the script on standard input over an archive, and writes its replies to standard output",
+    about: "Run the script on standard input over an archive, and write its replies to standard output",
     after_help: None,
     words: &[ARCHIVE, NO_WAIT, TEMPLATE, USES_PID, LIMIT],
 };
 
 pub(crate) static STORE: CommandWords = CommandWords {
     name: "store",
-    about: "stores a core file as a case of an archive, named by the template, or an executable",
+    about: "Store a core file as a case of an archive, named by the template, or an executable",
     after_help: None,
     words: &[
         ARCHIVE, FILE, PAIRS, EXEC, PIN, LABEL, ESCAPE, KEEP, BYTES, BEFORE, FIT, FAIR, CUT,
@@ -71,30 +71,30 @@ pub(crate) static STORE: CommandWords = CommandWords {
 
 pub(crate) static HANDLE: CommandWords = CommandWords {
     name: "handle",
-    about: "stores a core from standard input as a configuration says, and tells its outcome to a log: the kernel's handler",
+    about: "Store a core from standard input by a configuration, and log the outcome: the kernel's handler",
     after_help: None,
     words: &[HANDLER_PAIRS, HANDLER_ARCHIVE, CHECK, FLUSH, LENGTH, STALL],
 };
 
 pub(crate) static LOOK: CommandWords = CommandWords {
     name: "look",
-    about: "answers the lines on standard input that change nothing, while others may store cores",
+    about: "Answer the lines on standard input that change nothing, while others may store cores",
     after_help: Some(
-        "It ends with its input: on a terminal by Ctrl-D. `ask --help` lists the lines.",
+        "It ends with its input: on a terminal, with Ctrl-D. `ask --help` lists the lines.",
     ),
     words: &[ARCHIVE, NO_WAIT],
 };
 
 pub(crate) static EXTRACT: CommandWords = CommandWords {
     name: "extract",
-    about: "writes the image of a case, byte for byte, and nothing else; what is refused is told on standard error",
+    about: "Write the image of a case, byte for byte, and nothing else; a refusal goes to standard error",
     after_help: None,
     words: &[ARCHIVE, CASE, NEW_FILE, NO_WAIT, QUIET],
 };
 
 pub(crate) static MEMORY: CommandWords = CommandWords {
     name: "memory",
-    about: "runs the script on standard input over a fresh archive in memory, which is gone at its end",
+    about: "Run the script on standard input over a fresh archive in memory, which is gone at its end",
     after_help: None,
     words: &[HALF, DATA, TEMPLATE, USES_PID, LIMIT],
 };
@@ -105,7 +105,7 @@ const NEW_ARCHIVE: Word = Word {
     shown: "ARCHIVE",
     takes: Takes::Place,
     default: None,
-    help: "the file to make, which only its owner may read and write; one that exists is refused",
+    help: "The file to make, which only its owner may read and write; a file that exists is refused",
 };
 
 // The file of an archive.
@@ -114,7 +114,7 @@ pub(crate) const ARCHIVE: Word = Word {
     shown: "ARCHIVE",
     takes: Takes::Place,
     default: None,
-    help: "the archive's file",
+    help: "The archive's file",
 };
 
 // Whether the file's zeros are left out.
@@ -123,7 +123,7 @@ const SPARSE: Word = Word {
     shown: "",
     takes: Takes::Flag,
     default: None,
-    help: "does not write the file's zeros: quick, but the file system may be full when a core file comes",
+    help: "Do not write the file's zeros: quick, but the file system may be full when a core arrives",
 };
 
 // The version of the layout.
@@ -132,7 +132,7 @@ const LAYOUT: Word = Word {
     shown: "VERSION",
     takes: Takes::Within(1, 2),
     default: Some("1"),
-    help: "the version of the layout: 1, which programs of before labels open too, or 2, which keeps labels",
+    help: "The version of the layout: 1, which older programs open too, or 2, which keeps labels",
 };
 
 // The blocks in each half of the journal.
@@ -141,7 +141,7 @@ const HALF: Word = Word {
     shown: "N",
     takes: Takes::Blocks,
     default: None,
-    help: "blocks of 4096 bytes in each half of the journal, 1 to 4096",
+    help: "Blocks of 4096 bytes in each half of the journal, 1 to 4096",
 };
 
 // The data blocks.
@@ -150,7 +150,7 @@ const DATA: Word = Word {
     shown: "N",
     takes: Takes::Blocks,
     default: None,
-    help: "data blocks of 4096 bytes, 1 to 16777216",
+    help: "Data blocks of 4096 bytes, 1 to 16777216",
 };
 
 // Whether to be refused where another process has the archive.
@@ -159,7 +159,7 @@ pub(crate) const NO_WAIT: Word = Word {
     shown: "",
     takes: Takes::Flag,
     default: None,
-    help: "answers `no Busy` where another process has the archive, in place of waiting for it",
+    help: "Be refused (`no Busy`) if another process has the archive, instead of waiting for it",
 };
 
 // How cores are named.
@@ -168,7 +168,7 @@ const TEMPLATE: Word = Word {
     shown: "T",
     takes: Takes::Text,
     default: Some("core.%e.%p"),
-    help: "how core files are named, a template of core(5)",
+    help: "How core files are named, a template of core(5)",
 };
 
 // Whether names have the process.
@@ -177,7 +177,7 @@ const USES_PID: Word = Word {
     shown: "",
     takes: Takes::Flag,
     default: None,
-    help: "adds a dot and the process to names whose template has no %p",
+    help: "Add a dot and the process to names whose template has no %p",
 };
 
 // The most bytes of an image.
@@ -186,7 +186,7 @@ const LIMIT: Word = Word {
     shown: "N",
     takes: Takes::Bytes,
     default: Some("1073741824"),
-    help: "the most bytes that an image may have",
+    help: "The most bytes that an image may have",
 };
 
 // What is stored.
@@ -195,7 +195,7 @@ const FILE: Word = Word {
     shown: "FILE",
     takes: Takes::Place,
     default: None,
-    help: "what to store: a file or a pipe, or - for standard input",
+    help: "The file or pipe to store, or - for standard input",
 };
 
 // What is known of a core.
@@ -204,7 +204,7 @@ const PAIRS: Word = Word {
     shown: "KEY=VALUE",
     takes: Takes::Words(0),
     default: None,
-    help: "what is known of the core; KEY is comm, exe, host, pid, tid, sig, uid, gid, mode, time or limit, and a byte of a text outside 0x21 to 0x7e, or a backslash, is \\xHH, unless --escape is there",
+    help: "Facts about the core; KEY is comm, exe, host, pid, tid, sig, uid, gid, mode, time or limit; in a text, a byte outside 0x21 to 0x7e and a backslash are written \\xHH, unless --escape is given",
 };
 
 // Where the outcome is told.
@@ -213,7 +213,7 @@ const LOG: Word = Word {
     shown: "PATH",
     takes: Takes::Text,
     default: None,
-    help: "adds a line to this file, made if it does not exist, that says what became of FILE; /dev/kmsg is the kernel's log",
+    help: "Add a line to this file that says what became of FILE; the file is made if it does not exist; /dev/kmsg is the kernel's log",
 };
 
 // The configuration of a handler, and what is known of a core.
@@ -222,7 +222,7 @@ const HANDLER_PAIRS: Word = Word {
     shown: "WORD",
     takes: Takes::Words(0),
     default: None,
-    help: "the configuration's file (else /etc/corekeep.conf), and then KEY=VALUE as `store --escape` takes them; a pair that is none is told and left out; behind the first pair no word is an option",
+    help: "The configuration's file [default: /etc/corekeep.conf], and then KEY=VALUE as `store --escape` takes them; an invalid pair is logged and ignored; after the first pair no word is an option",
 };
 
 // The archive of a handler.
@@ -231,7 +231,7 @@ const HANDLER_ARCHIVE: Word = Word {
     shown: "ARCHIVE",
     takes: Takes::Text,
     default: None,
-    help: "the archive's file if the configuration names none, or can't be read",
+    help: "The archive's file, if the configuration names none or can't be read",
 };
 
 // Whether a handler's configuration is told, and nothing is stored.
@@ -240,7 +240,7 @@ const CHECK: Word = Word {
     shown: "",
     takes: Takes::Flag,
     default: None,
-    help: "stores nothing: tells what holds by the configuration, each fault with its line, and whether the archive is large enough",
+    help: "Store nothing: print the meaning of the configuration, each fault with its line, and whether the archive is large enough",
 };
 
 // Whether the cores of the spool are stored, and none from the input.
@@ -249,7 +249,7 @@ const FLUSH: Word = Word {
     shown: "",
     takes: Takes::Flag,
     default: None,
-    help: "takes no core from standard input: stores the cores that wait in the spool of the configuration (spool), the oldest first",
+    help: "Take no core from standard input: store the cores that wait in the configuration's spool, the oldest first",
 };
 
 // The name of an executable.
@@ -258,7 +258,7 @@ const EXEC: Word = Word {
     shown: "NAME",
     takes: Takes::Text,
     default: None,
-    help: "stores an executable of this name in place of a core; a byte of it outside 0x21 to 0x7e, or a backslash, is \\xHH, unless --escape is there",
+    help: "Store an executable of this name instead of a core; a byte of the name outside 0x21 to 0x7e and a backslash are written \\xHH, unless --escape is given",
 };
 
 // Whether the case is kept from retirement.
@@ -267,7 +267,7 @@ const PIN: Word = Word {
     shown: "",
     takes: Takes::Flag,
     default: None,
-    help: "pins the new case, so that no deletion and no retirement takes it: for executables",
+    help: "Pin the new case, so that nothing deletes it: for executables",
 };
 
 // What is noted of the case.
@@ -276,7 +276,7 @@ const LABEL: Word = Word {
     shown: "TEXT",
     takes: Takes::Text,
     default: None,
-    help: "gives the new case this label, of at most 64 bytes, in an archive of layout version 2; in one of version 1 the case is stored all the same",
+    help: "Give the new case this label of at most 64 bytes; an archive of layout version 1 keeps no label, and stores the case anyway",
 };
 
 // Whether bytes are taken as they are.
@@ -285,7 +285,7 @@ const ESCAPE: Word = Word {
     shown: "",
     takes: Takes::Flag,
     default: None,
-    help: "takes the bytes of each VALUE, of NAME and of TEXT as they are, whatever they are, as a process may call itself anything",
+    help: "Take the bytes of each VALUE, of NAME and of TEXT as they are, since a process may call itself anything",
 };
 
 // How many cases stay, not counting the new one.
@@ -294,7 +294,7 @@ const KEEP: Word = Word {
     shown: "K",
     takes: Takes::Text,
     default: None,
-    help: "deletes the oldest cases first, pinned ones aside, until at most K stand beside the new one",
+    help: "First delete the oldest unpinned cases, until at most K are left beside the new one",
 };
 
 // How many bytes the cases that stay have.
@@ -303,7 +303,7 @@ const BYTES: Word = Word {
     shown: "B",
     takes: Takes::Text,
     default: None,
-    help: "deletes the oldest cases first, pinned ones aside, until the others have at most B bytes together",
+    help: "First delete the oldest unpinned cases, until the rest have at most B bytes together",
 };
 
 // The time before which cases go.
@@ -312,7 +312,7 @@ const BEFORE: Word = Word {
     shown: "T",
     takes: Takes::Text,
     default: None,
-    help: "deletes the cases whose time is before T first, pinned ones aside",
+    help: "First delete the unpinned cases whose time is before T",
 };
 
 // Whether cases go while it is stored.
@@ -321,7 +321,7 @@ const FIT: Word = Word {
     shown: "",
     takes: Takes::Flag,
     default: None,
-    help: "deletes the oldest cores while FILE is stored, pinned ones aside, as often as it finds no room; executables go once no core is left",
+    help: "Delete the oldest unpinned cores while FILE is stored, as often as it finds no room; executables go once no core is left",
 };
 
 // Whether they go in the fair order.
@@ -330,7 +330,7 @@ const FAIR: Word = Word {
     shown: "",
     takes: Takes::Flag,
     default: None,
-    help: "where --fit deletes a core, one of the user whose cores have the most blocks, in place of the oldest; nothing without --fit",
+    help: "With --fit, delete a core of the user whose cores have the most blocks, instead of the oldest",
 };
 
 // Whether what is too large is cut.
@@ -339,7 +339,7 @@ const CUT: Word = Word {
     shown: "",
     takes: Takes::Flag,
     default: None,
-    help: "keeps the first bytes of FILE, if it has more than the limit or finds no room",
+    help: "Keep the first bytes of FILE, if it has more than the limit or finds no room",
 };
 
 // A case.
@@ -348,7 +348,7 @@ const CASE: Word = Word {
     shown: "N",
     takes: Takes::Place,
     default: None,
-    help: "the case: its number, its name, or last",
+    help: "The case: its number, its name, or last",
 };
 
 // A new file for an image.
@@ -357,7 +357,7 @@ const NEW_FILE: Word = Word {
     shown: "FILE",
     takes: Takes::NewPlace,
     default: None,
-    help: "a new file for the image, which goes to standard output where this is left out",
+    help: "A new file for the image [default: standard output]",
 };
 
 // How many bytes FILE has.
@@ -366,7 +366,7 @@ const LENGTH: Word = Word {
     shown: "N",
     takes: Takes::Text,
     default: None,
-    help: "what is stored has exactly N bytes: if it ends before, or goes on, nothing is stored (`no Short`, `no TooLong`)",
+    help: "Store FILE only if it has exactly N bytes (otherwise `no Short` or `no TooLong`)",
 };
 
 // For how long standard input may give nothing.
@@ -375,7 +375,7 @@ const STALL: Word = Word {
     shown: "SECONDS",
     takes: Takes::Text,
     default: None,
-    help: "refuses what comes from standard input (`no File`) once that gave nothing for SECONDS: of a pipe or a socket that is non-blocking, and of nothing else",
+    help: "Give up (`no File`) once standard input gave nothing for SECONDS, if it is a pipe or a socket that is non-blocking",
 };
 
 // The spool that a core goes to first.
@@ -384,5 +384,5 @@ const SPOOL: Word = Word {
     shown: "DIR",
     takes: Takes::Text,
     default: None,
-    help: "takes a core that comes through a pipe into a file in this directory first, and stores it from there: a slow sender keeps nobody waiting, and a core that the archive can't take now stays there until `handle --flush` stores it",
+    help: "Take a core that comes through a pipe into a file of this directory first, and store it from there: a slow sender keeps nobody waiting, and a core that the archive can't take now stays there until `handle --flush` stores it",
 };
