@@ -1,3 +1,4 @@
 pub mod Requesting
 pub mod Fronts
 pub mod Spooling
+pub mod Telling

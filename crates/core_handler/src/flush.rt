@@ -1,4 +1,6 @@
 // The cores that wait in the spool are stored.
+ghost use Rattle.std.specs.Prelude.{◌≡◌, IfSome};
+
 use crate::handling::{HandleWords, Handler};
 use crate::line_numbers::number_in_line;
 use crate::log::Level;
@@ -196,7 +198,10 @@ fn no_words(alloc: Global) -> Option<HandleWords<'static>> {
     spooled_words(alloc, b"begin core 0", None)
 }
 
-fn spooled_words(alloc: Global, line: &[u8], length: Option<u64>) -> Option<HandleWords<'static>> {
+fn spooled_words(alloc: Global, line: &[u8], length: Option<u64>) -> Option<HandleWords<'static>>
+    ensures begin { IfSome result (λ words. words.begin.items ≡ line.now) }
+    ensures length { IfSome result (λ words. words.length ≡ length) }
+{
     Some(HandleWords {
         config: None,
         archive: None,

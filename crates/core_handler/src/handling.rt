@@ -6,6 +6,7 @@ ghost use Rattle.archive_files.specs.declared.failures.Refusal.TheVariants.{OutO
 ghost use Rattle.script_streams.specs.Replies.{no_reply};
 ghost use Rattle.name_template.specs.Template.{template_fault};
 ghost use Rattle.core_handler.specs.Requesting.{AsksBy, IsRequested, IsWanted, template_of};
+ghost use Rattle.core_handler.specs.Telling as spec;
 
 use crate::checking::check;
 use crate::config_file::{DEFAULT_CONFIG, Document, Trouble, read_document};
@@ -199,7 +200,10 @@ fn handle_in<
 }
 
 // Where a configuration has outcomes told, if the words name this archive.
-pub(crate) fn log_of<'a>(config: &Config<'a>, archive: Option<&'a str>) -> Log<'a> {
+pub(crate) fn log_of<'a>(config: &Config<'a>, archive: Option<&'a str>) -> Log<'a>
+    ensures path { result.path.now ≡ spec.log_said (option_copied config.now.log) }
+    ensures archive { option_copied result.archive ≡ spec.archive_said (option_copied config.now.archive) (option_copied archive.entry) }
+{
     Log {
         path: config.log.unwrap_or(KERNEL_LOG),
         archive: config.archive.or(archive),
