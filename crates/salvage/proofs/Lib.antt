@@ -8,6 +8,7 @@ mod FrontLemmas
 mod HalfLemmas
 mod MendLemmas
 mod NumberLemmas
+mod PadLemmas
 mod PatchLemmas
 mod ReadLemmas
 mod ReadsLemmas

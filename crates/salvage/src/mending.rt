@@ -1,5 +1,5 @@
 // What takes the place of a damaged superblock, of the header of a half, or of a file's length.
-ghost use Rattle.std.specs.Prelude.{◌≡◌, ◌+◌, ◌*◌, ◌^◌, ◌<◌, ◌≤◌, length, IfOk, IsTrue, IsOkUnless, Some};
+ghost use Rattle.std.specs.Prelude.{◌≡◌, ◌↔◌, ◌+◌, ◌*◌, ◌^◌, ◌<◌, ◌≤◌, length, IfOk, IfSome, IsTrue, IsOkUnless, OnOk, Some};
 ghost use Rattle.case_journal.specs.Viewing.{IsOpenRefusal};
 ghost use Rattle.journal_layout.specs.Layout.{IsWithinLimits, data_start, disk_length};
 ghost use Rattle.journal_layout.specs.Stands.{records_area};
@@ -7,7 +7,8 @@ ghost use Rattle.journal_layout.specs.declared.shape.Half.{Half};
 ghost use Rattle.extents.specs.Runs.{blocks_of};
 ghost use Rattle.journal_layout.specs.Case.{case_of};
 ghost use Rattle.salvage.specs.declared.mending.Mended.{Mended};
-ghost use Rattle.salvage.specs.Mending.{AreBelow, IsMended, MendsArchive, Spares, blocks_in};
+ghost use Rattle.journal_layout.specs.Front.{is_known};
+ghost use Rattle.salvage.specs.Mending.{AreBelow, HasLength, HasSecond, IsHeader, IsMend, IsMended, IsSureHalf, IsSureMend, MayBegin, MendsArchive, Spares, blocks_in, is_of_headers, is_of_superblock, padded, said_shape};
 
 use crate::cases_found::{read_front, read_halves};
 use crate::doubts::generation_at;
@@ -79,7 +80,8 @@ pub struct Mended {
 // Reads the bytes from place `at` on; zeros are behind the end.
 fn read_some<S: Source>(source: &S, at: u64, into: &mut [u8]) -> Result<(), OpenFault>
     requires { at + length into.old < 2 ^ 64 }
-    ensures { IsOkUnless result OpenFault.Disk }
+    ensures only { IsOkUnless result OpenFault.Disk }
+    ensures bytes { OnOk result (IsTrue (S.is_honest source.now) → into.new ≡ padded (S.seen source.now) at (length into.old)) }
 {
     match Stretched::new(source, u64::MAX).read_at(at, into) {
         Ok(()) => Ok(()),
@@ -89,7 +91,8 @@ fn read_some<S: Source>(source: &S, at: u64, into: &mut [u8]) -> Result<(), Open
 
 // The shape that the superblock says.
 fn said_shape<S: Source>(source: &S) -> Result<Shape, OpenFault>
-    ensures { IsOpenRefusal result }
+    ensures only { IsOpenRefusal result }
+    ensures said { IsTrue (S.is_honest source.now) → IfOk result (λ shape. shape ≡ said_shape (S.seen source.now)) }
 {
     let mut bytes = [0u8; 24];
     read_some(source, 0, &mut bytes)?;
@@ -100,7 +103,9 @@ fn said_shape<S: Source>(source: &S) -> Result<Shape, OpenFault>
 }
 
 // Whether an archive of this shape has so many bytes.
-fn has_length(shape: Shape, bytes: u64) -> bool {
+fn has_length(shape: Shape, bytes: u64) -> bool
+    ensures { IsTrue result ↔ HasLength shape bytes }
+{
     match shape.length() {
         Ok(length) => length == bytes,
         Err(_) => false,
@@ -108,19 +113,25 @@ fn has_length(shape: Shape, bytes: u64) -> bool {
 }
 
 // Whether these bytes are the header of a half that was written, of a version that is known.
-fn is_header(bytes: &[u8]) -> bool {
+fn is_header(bytes: &[u8]) -> bool
+    ensures { IsTrue result ↔ IsHeader bytes.now }
+{
     are_zeros(bytes, 1, 4)
         && are_zeros(bytes, 16, 32)
         && is_known(number_at(bytes, 4))
         && generation_at(bytes, 0) > 0
 }
 
-fn is_known(version: u32) -> bool {
+fn is_known(version: u32) -> bool
+    ensures { result ≡ is_known version }
+{
     version == PLAIN || version == LABELLED
 }
 
 // Whether a record may begin with these bytes.
-fn is_head(bytes: &[u8]) -> bool {
+fn is_head(bytes: &[u8]) -> bool
+    ensures { IsTrue result ↔ MayBegin bytes.now }
+{
     let length = number_at(bytes, 4);
     was_open(byte_at(bytes, 0))
         && (1..=5).contains(&byte_at(bytes, 1))
@@ -133,7 +144,8 @@ fn is_head(bytes: &[u8]) -> bool {
 // Whether the second half of a journal begins where a first half of `half_blocks` blocks ends: there is a header there, and a record
 // after it.
 fn is_half<S: Source>(source: &S, half_blocks: u32) -> Result<bool, OpenFault>
-    ensures { IsOpenRefusal result }
+    ensures only { IsOpenRefusal result }
+    ensures half { IsTrue (S.is_honest source.now) → IfOk result (λ is. IsTrue is ↔ HasSecond (S.seen source.now) half_blocks) }
 {
     let mut bytes = [0u8; 40];
     read_some(source, BLOCK * (1 + u64::from(half_blocks)), &mut bytes)?;
@@ -156,6 +168,19 @@ fn find_half_blocks<S: Source>(source: &S) -> Result<Option<u32>, OpenFault>
     Ok(found)
 }
 
+// Whether each half has so many blocks without a doubt: the superblock says so and the file's length agrees, or the second half begins
+// where the first one ends.
+fn is_sure_half<S: Source>(source: &S, said: Shape, blocks: u32) -> Result<bool, OpenFault>
+    ensures only { IsOpenRefusal result }
+    ensures sure { IsTrue (S.is_honest source.now) → said ≡ said_shape (S.seen source.now)
+        → IfOk result (λ is. IsTrue is ↔ IsSureHalf (S.seen source.now) blocks) }
+{
+    if has_length(said, source.length()) && blocks == said.half_blocks {
+        return Ok(true);
+    }
+    is_half(source, blocks)
+}
+
 // How many blocks each half has, and whether that is without a doubt: by the words, by the superblock, or else by where the second half
 // begins.
 fn half_blocks_of<S: Source>(
@@ -163,10 +188,12 @@ fn half_blocks_of<S: Source>(
     said: Shape,
     wish: Option<u32>,
 ) -> Result<Option<(u32, bool)>, OpenFault>
-    ensures { IsOpenRefusal result }
+    ensures only { IsOpenRefusal result }
+    ensures sure { IsTrue (S.is_honest source.now) → said ≡ said_shape (S.seen source.now)
+        → IfOk result (λ found. IfSome found (λ half. IsTrue half.1 ↔ IsSureHalf (S.seen source.now) half.0)) }
 {
-    let fits = has_length(said, source.length());
-    let is_said = fits || (said.half_blocks > 0 && is_half(source, said.half_blocks)?);
+    let is_said = has_length(said, source.length())
+        || (said.half_blocks > 0 && is_half(source, said.half_blocks)?);
     let found = match wish {
         Some(blocks) => Some(blocks),
         None if is_said => Some(said.half_blocks),
@@ -174,8 +201,7 @@ fn half_blocks_of<S: Source>(
     };
     match found {
         Some(blocks) if 1 <= blocks && blocks <= MOST_HALF => {
-            let is_sure = (fits && blocks == said.half_blocks) || is_half(source, blocks)?;
-            Ok(Some((blocks, is_sure)))
+            Ok(Some((blocks, is_sure_half(source, said, blocks)?)))
         }
         _ => Ok(None),
     }
@@ -324,7 +350,9 @@ fn mended_front<S: Source>(
 }
 
 // Whether a fault is that of a superblock, or of a file's length.
-fn is_of_superblock(fault: OpenFault) -> bool {
+fn is_of_superblock(fault: OpenFault) -> bool
+    ensures { result ≡ is_of_superblock fault }
+{
     match fault {
         OpenFault::NotAnArchive => true,
         OpenFault::Damaged { field, .. } => field == Field::Shape,
@@ -333,7 +361,9 @@ fn is_of_superblock(fault: OpenFault) -> bool {
 }
 
 // Whether a fault is that of a superblock, of a file's length, or of the header of a half.
-fn is_of_headers(fault: OpenFault) -> bool {
+fn is_of_headers(fault: OpenFault) -> bool
+    ensures { result ≡ is_of_headers fault }
+{
     match fault {
         OpenFault::UnknownVersion(_) => true,
         OpenFault::Damaged { field, .. } => is_of_front(field),
@@ -353,6 +383,8 @@ pub fn find_shape<S: Source>(
 ) -> Result<Option<Mended>, OpenFault>
     ensures mends { IsTrue (S.is_honest source.now) → IfOk result (MendsArchive (S.seen source.now)) }
     ensures within { IfOk result (λ found. (m : Mended) → found ≡ Some m → length m.front.items ≤ m.length) }
+    ensures mend { IfOk result (λ found. (m : Mended) → found ≡ Some m → IsMend (S.size source.now) fault m.mend) }
+    ensures sure { IsTrue (S.is_honest source.now) → IfOk result (λ found. (m : Mended) → found ≡ Some m → IsSureMend (S.seen source.now) m.mend) }
     ensures only { IsOpenRefusal result }
 {
     if !is_of_headers(fault) {
