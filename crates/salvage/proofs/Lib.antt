@@ -7,6 +7,7 @@ mod FindLemmas
 mod FrontLemmas
 mod HalfLemmas
 mod MendLemmas
+mod NoteLemmas
 mod NumberLemmas
 mod PadLemmas
 mod PatchLemmas

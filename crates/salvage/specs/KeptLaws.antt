@@ -12,6 +12,7 @@ use Rattle.journal_layout.specs.declared.shape.Half.TheVariants.{A, B}
 use Rattle.journal_layout.specs.declared.shape.Shape.{Shape}
 use Rattle.salvage.specs.Records.{AreDrops, HasEachBut}
 use Rattle.salvage.specs.declared.records.Dropped.{Dropped}
+use Rattle.salvage.specs.declared.records.Read.{Read}
 use Rattle.salvage.specs.Copying.{bytes_by, found_bytes}
 use Rattle.salvage.specs.Finding.{StandsUntil, closes, gate_of}
 use Rattle.salvage.specs.FrontLaws.{part_other}
@@ -44,9 +45,9 @@ before_data shape A g high = omega (arith, high)
 before_data shape B g high = omega (arith, high)
 
 -- what is read after the first fault has the cases that precede it
-more_kept : (b : List ℕ) (first s : Standing) (drops : List Dropped) (m : More) → first ≡ s → AreDrops (part b 0 (data_start first.shape)) drops → IsMore b first drops m
-    → KeepsCases b (fronted m.front.items b) s
-more_kept b first s drops m is there it =
+more_kept : (b : List ℕ) (first s : Standing) (drops : List Dropped) (reads : List Read) (bound : ℕ) (m : More) → first ≡ s
+    → AreDrops (part b 0 (data_start first.shape)) drops → IsMore b first drops reads bound m → KeepsCases b (fronted m.front.items b) s
+more_kept b first s drops reads bound m is there it =
     let front : length m.front.items ≡ data_start s.shape = it.front ∙ ap (λ (u : Standing). data_start u.shape) is in
     record {
       drops = drops;
@@ -84,7 +85,7 @@ module _ (b : List ℕ) (f : Found) (s : Standing) (fault : OpenFault) (sees : S
 
   by_reading : (o : Option More) → f.more ≡ o → KeepsCases b (bytes_by o f.sight b) s
   by_reading None is = closed_kept
-  by_reading (Some m) is = more_kept b f.first.standing s f.scan.drops.items m first_is sees.drops (sees.more m is)
+  by_reading (Some m) is = let more = sees.more m is in more_kept b f.first.standing s f.scan.drops.items f.scan.reads.items more.0.bound m first_is sees.drops more.2
 
 -- the cases that stand before the first faulty record are kept
 pub what_stands_is_kept : WhatStandsIsKept
@@ -107,7 +108,7 @@ module _ (b : List ℕ) (f : Found) (s : Standing) (sees : SeesCases b f) (stand
 
   opening_kept : (o : Option More) → f.more ≡ o → KeepsCases b (bytes_by o f.sight b) s
   opening_kept None is = itself_kept
-  opening_kept (Some m) is = more_kept b f.first.standing s f.scan.drops.items m first_found sees.drops (sees.more m is)
+  opening_kept (Some m) is = let more = sees.more m is in more_kept b f.first.standing s f.scan.drops.items f.scan.reads.items more.0.bound m first_found sees.drops more.2
 
   module _ (sound : shut_gate b s ≡ None) where
     unshut : f.shut ≡ None

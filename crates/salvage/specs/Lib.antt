@@ -12,6 +12,7 @@ pub mod Keeping
 pub mod KeptLaws
 pub mod MendLaws
 pub mod Mending
+pub mod Noting
 pub mod Readings
 pub mod Reads
 pub mod Records

@@ -15,6 +15,7 @@ use Rattle.salvage.specs.Doubting.{IsBound, trouble_by}
 use Rattle.salvage.specs.Finding.{HasNoGate, IsShort, SeesArchive}
 use Rattle.salvage.specs.Fronts.{fronted}
 use Rattle.salvage.specs.Mending.{AreBelow, blocks_in}
+use Rattle.salvage.specs.Noting.{KeepsNoted}
 use Rattle.salvage.specs.Reads.{AreFrom, AreHalvesRead}
 use Rattle.salvage.specs.Records.{AreDrops, AreIndexed, HasEachBut, IsDeleted}
 use Rattle.salvage.specs.Showing.{IsWithin, shown}
@@ -25,15 +26,17 @@ use Rattle.salvage.specs.declared.doubts.Doubts.{Doubts}
 use Rattle.salvage.specs.declared.doubts.Trouble.{Trouble}
 use Rattle.salvage.specs.declared.mending.Mend.{Mend}
 use Rattle.salvage.specs.declared.records.Dropped.{Dropped}
+use Rattle.salvage.specs.declared.records.Read.{Read}
 
 -- A reading of the records of both halves. With other bytes in place of the superblock and the journal, the archive opens. It has each case
 -- that precedes the fault and that no record which reads deletes, with the same image in the same blocks. Its data blocks are at the same
--- places.
-pub record IsMore (b : List ℕ) (first : Standing) (drops : List Dropped) (m : More) : Type 0 where
+-- places. Each case is pinned and labelled as the records say that read, and no number of a case that is copied is given again.
+pub record IsMore (b : List ℕ) (first : Standing) (drops : List Dropped) (reads : List Read) (bound : ℕ) (m : More) : Type 0 where
   pub stands : Stands (fronted m.front.items b) m.journal.standing
   pub front : length m.front.items ≡ data_start first.shape
   pub each : HasEachBut drops m.journal.standing.cases first.cases
   pub shape : m.journal.standing.shape ≡ first.shape
+  pub noted : KeepsNoted (part b 0 (data_start first.shape)) first reads bound m.journal.standing
 
 -- Why the opening is refused, or the damaged gate of an archive that opens.
 abbrev pub fault_by : Option OpenFault → Option ℕ → Option OpenFault
@@ -59,7 +62,7 @@ pub record SeesCases (b : List ℕ) (f : Found) : Type 0 where
   -- what precedes the first fault
   pub first : Stands (shown f.sight.patch b) f.first.standing
   -- what is copied in its place, if anything is
-  pub more : (m : More) → f.more ≡ Some m → IsMore b f.first.standing f.scan.drops.items m
+  pub more : (m : More) → f.more ≡ Some m → (d : Doubts) × (f.doubts ≡ Some d) × IsMore b f.first.standing f.scan.drops.items f.scan.reads.items d.bound m
   -- what deletes a case is a record of the archive
   pub drops : AreDrops (part b 0 (data_start f.first.standing.shape)) f.scan.drops.items
   -- what is told as stored is stored by a record of the archive

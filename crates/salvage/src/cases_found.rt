@@ -10,6 +10,7 @@ ghost use Rattle.salvage.specs.Contests.{IsUncontested, Knows, OfEachBehind};
 ghost use Rattle.salvage.specs.Doubting.{IsBound, trouble_by};
 ghost use Rattle.salvage.specs.Fronts.{fronted};
 ghost use Rattle.salvage.specs.Readings.{FindsCases, FoundWithin, IsBelow, IsHeldBy, IsMore, IsWholeIn, cases_by, first_fault, reason_by};
+ghost use Rattle.salvage.specs.Noting.{KeepsNoted, greatest_copied, next_by};
 ghost use Rattle.salvage.specs.Reads.{AreFrom, AreHalvesRead, IsAmong, StayFrom, StayRead};
 ghost use Rattle.salvage.specs.Records.{AreDrops, AreIndexed, HasEachBut, IsDeletedAt};
 ghost use Rattle.salvage.specs.Shut.{IsShutFound};
@@ -22,8 +23,9 @@ use crate::choosing::{choose, is_again, size_chosen};
 use crate::doubts::{Doubts, Trouble, doubts_of, half_of, taken_half};
 use crate::finding::{Sight, find_sight, open_shown};
 use crate::fronted::Fronted;
-use crate::fronts::{last_of, make_front};
+use crate::fronts::make_front;
 use crate::mending::Mend;
+use crate::noting::{are_noted, last_of, next_by};
 use crate::records::{Fate, Read, Scan, Span, number_at};
 use crate::shut::find_shut;
 use crate::source::Source;
@@ -311,20 +313,16 @@ pub(crate) fn read_halves(alloc: Global, front: &[u8], shape: Shape) -> Result<S
     Ok(scan)
 }
 
-// The number of the next case: no number is given again that a case has which is copied. That of the records which stand counts too, as
-// far as the first fault leaves it without a doubt.
-fn next_of(first: &Journal, bound: u64, reads: &[Read]) -> u64 {
-    let stated = if bound > 0 {
-        first.next_seq().min(bound)
-    } else {
-        first.next_seq()
-    };
-    stated.max(last_of(reads).saturating_add(1))
+// The number of the next case, after those that are copied.
+fn next_of(first: &Journal, bound: u64, reads: &[Read]) -> u64
+    ensures { result ≡ next_by first.now.standing.next bound (greatest_copied reads.now) }
+{
+    next_by(first.next_seq(), bound, last_of(reads))
 }
 
 // Whether the records of the cases that are copied leave room in a half for one of the next number, or it needs none.
 fn has_room(reads: &[Read], next: u64, half: usize) -> bool {
-    next <= last_of(reads).saturating_add(1) || size_chosen(reads) <= half
+    next <= u64::from(last_of(reads)) + 1 || size_chosen(reads) <= half
 }
 
 // The archive that has the cases which are chosen, if it opens.
@@ -356,15 +354,32 @@ fn open_front<S: Source>(alloc: Global, source: &S, front: &[u8]) -> Result<Jour
     open_shown(alloc, &view, None)
 }
 
-// A reading, where it has each case of a journal that no record deletes, and is of an archive of the same shape.
-fn having_each(more: Option<More>, first: &Journal, scan: &Scan) -> Option<More>
-    ensures { (m : More) → result ≡ Some m → (more ≡ Some m) × HasEachBut scan.now.drops.items m.journal.standing.cases first.now.standing.cases × (m.journal.standing.shape ≡ first.now.standing.shape) }
+// A reading, if it is of an archive of the same shape, has each case of a journal that no record deletes, and keeps what was noted.
+fn having_each(
+    more: Option<More>,
+    first: &Journal,
+    scan: &Scan,
+    front: &[u8],
+    bound: u64,
+) -> Option<More>
+    ensures { (m : More) → result ≡ Some m → (more ≡ Some m) × HasEachBut scan.now.drops.items m.journal.standing.cases first.now.standing.cases
+        × (m.journal.standing.shape ≡ first.now.standing.shape) × KeepsNoted front.now first.now.standing scan.now.reads.items bound m.journal.standing }
 {
     let more = more?;
-    if scan.has_each(&more.journal, first) && is_same_shape(more.journal.shape(), first.shape()) {
+    if !scan.has_each(&more.journal, first) || !is_same_shape(more.journal.shape(), first.shape()) {
+        return None;
+    }
+    if keeps_noted(&more.journal, first, &scan.reads, front, bound) {
         return Some(more);
     }
     None
+}
+
+// Whether a journal says of its cases what was noted of them, and has the right next number.
+fn keeps_noted(journal: &Journal, first: &Journal, reads: &[Read], front: &[u8], bound: u64) -> bool
+    ensures { IsTrue result → KeepsNoted front.now first.now.standing reads.now bound journal.now.standing }
+{
+    journal.next_seq() == next_of(first, bound, reads) && are_noted(front, reads, journal.entries())
 }
 
 fn is_same_shape(one: Shape, other: Shape) -> bool
@@ -447,7 +462,7 @@ fn look_on<S: Source>(
     ensures all { IsTrue (S.is_honest source.now) → IfOk result (λ r. AreHalvesRead first.now.standing.shape (part (S.seen source.now) 0 (data_start first.now.standing.shape)) r.0.reads.items r.0.drops.items) }
     ensures bound { IsTrue (S.is_honest source.now) → IfOk result (λ r. IsBound first.now.standing.shape (part (S.seen source.now) 0 (data_start first.now.standing.shape)) trouble r.1.bound) }
     ensures behind { IsTrue (S.is_honest source.now) → IfOk result (λ r. OfEachBehind first.now.standing.shape (part (S.seen source.now) 0 (data_start first.now.standing.shape)) trouble.gate (Knows r.1)) }
-    ensures more { IsTrue (S.is_honest source.now) → IfOk result (λ r. (m : More) → r.2 ≡ Some m → IsMore (S.seen source.now) first.now.standing r.0.drops.items m) }
+    ensures more { IsTrue (S.is_honest source.now) → IfOk result (λ r. (m : More) → r.2 ≡ Some m → IsMore (S.seen source.now) first.now.standing r.0.drops.items r.0.reads.items r.1.bound m) }
     ensures only { IsOpenRefusal result }
 {
     let shape = first.shape();
@@ -458,7 +473,13 @@ fn look_on<S: Source>(
     let Ok(made) = choose_front(alloc, &front, &mut scan, first, taken, doubts.bound) else {
         return Err(OpenFault::OutOfMemory);
     };
-    let more = having_each(read_more(alloc, source, made)?, first, &scan);
+    let more = having_each(
+        read_more(alloc, source, made)?,
+        first,
+        &scan,
+        &front,
+        doubts.bound,
+    );
     Ok((scan, doubts, more))
 }
 

@@ -1,7 +1,9 @@
 // A superblock and a journal that say the cases which are chosen.
-ghost use Rattle.std.specs.Prelude.{◌≡◌, IfOk, length};
+ghost use Rattle.std.specs.Prelude.{◌≡◌, ◌+◌, ◌<◌, IfOk, length, slice_index};
+ghost use Rattle.salvage.specs.Fronts.{flag_byte};
 
 use crate::finding::GATE_OPEN;
+use crate::noting::last_of;
 use crate::records::{Fate, Read, Span, byte_at, put};
 use journal_records::next_record;
 use std::alloc::{AllocError, Global};
@@ -31,16 +33,22 @@ fn put_record(front: &mut [u8], at: usize, bytes: &[u8], record: Span) -> usize
     at.saturating_add(from.len())
 }
 
+// Puts the Store record of a case at a place, with its pin as it is.
+fn put_store(front: &mut [u8], at: usize, bytes: &[u8], read: &Read) -> usize
+    ensures long { length front.new ≡ length front.old }
+    ensures pinned { at + 13 < length front.old → slice_index front.new (at + 13) ≡ flag_byte read.now.entry.pinned }
+{
+    let end = put_record(front, at, bytes, read.place);
+    let pinned = u8::from(read.entry.pinned);
+    put(front, at.saturating_add(PINNED), &[pinned]);
+    end
+}
+
 // Puts the records of a case at a place.
 fn put_case(front: &mut [u8], at: usize, bytes: &[u8], read: &Read) -> usize
     ensures { length front.new ≡ length front.old }
 {
-    let end = put_record(front, at, bytes, read.place);
-    put(
-        front,
-        at.saturating_add(PINNED),
-        &[u8::from(read.entry.pinned)],
-    );
+    let end = put_store(front, at, bytes, read);
     match read.label {
         // A label of no bytes has no record.
         Some(label) if byte_at(bytes, label.start.saturating_add(12)) > 0 => {
@@ -64,17 +72,6 @@ fn put_cases(front: &mut [u8], bytes: &[u8], reads: &[Read]) -> usize
     at
 }
 
-/// The greatest number of a case that is copied; 0 if none is.
-pub(crate) fn last_of(reads: &[Read]) -> u64 {
-    let mut last = 0u64;
-    for read in reads {
-        if read.fate == Fate::Copied {
-            last = last.max(u64::from(read.entry.seq));
-        }
-    }
-    last
-}
-
 /// Makes the superblock and the journal of an archive that has the cases of `reads` which are copied. `bytes` are those of the archive
 /// up to its data blocks, and `reads` are in the order of their numbers, the greatest first. The next number has a record only if it is
 /// not the one after the last case: that says it already.
@@ -95,7 +92,7 @@ pub(crate) fn make_front(
     put(&mut front, FIRST + VERSION, &version.to_le_bytes());
     put(&mut front, FIRST + GENERATION, &1u64.to_le_bytes());
     let end = put_cases(&mut front, bytes, reads);
-    if next > last_of(reads).saturating_add(1) {
+    if next > u64::from(last_of(reads)) + 1 {
         put(&mut front, end, &next_record(next));
     }
     Ok(front)

@@ -12,6 +12,7 @@ mod fronts;
 mod held_bytes;
 mod laws;
 mod mending;
+mod noting;
 mod records;
 mod restored;
 mod shown;

@@ -1,4 +1,4 @@
-use Rattle.std.proofs.Common.{inl, refl, ap, ◌∙◌, ◌≡◌, Option, Some, subst, sym, arith, None}
+use Rattle.std.proofs.Common.{inl, refl, ap, ◌∙◌, subst, sym, arith, None}
 use Rattle.std.proofs.lemmas.Option.{none-some, same_Some}
 use Rattle.std.proofs.lemmas.Result.{err_from_is_err_and}
 use Rattle.disk_model.specs.Places.{part}
@@ -41,7 +41,7 @@ pub returns-clause-finds : goal.returns-clause-finds
 returns-clause-finds g c = λ honest. record {
   sees = c.in_ok-sight.ensures.finds honest;
   first = c.in_ok-first.ensures.gives honest;
-  more = c.in_ok-scan.ensures.more honest;
+  more = λ m is. (c.in_ok-scan.doubts, refl, c.in_ok-scan.ensures.more honest m is);
   drops = c.in_ok-scan.ensures.drops honest;
   from = c.in_ok-scan.ensures.from honest;
   indexed = c.in_ok-scan.ensures.indexed;

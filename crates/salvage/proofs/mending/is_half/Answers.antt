@@ -1,4 +1,4 @@
-use Rattle.std.proofs.Common.{◌≡◌, ◌∙◌, ◌+◌, ◌*◌, ap, ℕ}
+use Rattle.std.proofs.Common.{◌∙◌, ◌+◌, ◌*◌, ap, ℕ}
 use Rattle.salvage.specs.Mending.{padded}
 use Rattle.salvage.proofs.PadLemmas.{second_missing, second_there}
 use Rattle.salvage.proofs.mending.is_half.Goals as goal

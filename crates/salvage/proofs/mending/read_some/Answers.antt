@@ -1,4 +1,4 @@
-use Rattle.std.proofs.Common.{◌≡◌, ◌∙◌, ◌+◌, ◌≤◌, ◌<◌, ap, length, ℕ, List, subst, sym, arith, IsTrue}
+use Rattle.std.proofs.Common.{◌≡◌, ◌∙◌, ◌+◌, ◌≤◌, ap, length, ℕ, List, subst, sym, arith, IsTrue}
 use Rattle.disk_model.specs.Places.{part}
 use Rattle.salvage.specs.Mending.{padded, stretched}
 use Rattle.salvage.proofs.PadLemmas.{padded_is}
