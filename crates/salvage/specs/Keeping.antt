@@ -1,6 +1,8 @@
 -- What becomes of the cases that precede the first fault.
-use Rattle.std.specs.Prelude.{◌≡◌, ◌⊎◌, List, ℕ, None}
+use Rattle.std.specs.Prelude.{◌≡◌, ◌⊎◌, ◌<◌, List, ℕ, None}
+use Rattle.std.specs.List.{Contains}
 use Rattle.intake.specs.Blocks.{image_in}
+use Rattle.journal_layout.specs.Case.{Case}
 use Rattle.journal_layout.specs.Standing.{Standing}
 use Rattle.journal_layout.specs.Stands.{Stands}
 use Rattle.journal_layout.specs.declared.faults.OpenFault.{OpenFault}
@@ -14,8 +16,13 @@ use Rattle.salvage.specs.Readings.{SeesCases, first_fault}
 use Rattle.salvage.specs.Shut.{shut_gate}
 use Rattle.salvage.specs.declared.cases_found.Found.{Found}
 
+-- the next number is greater than that of each case
+abbrev pub AreGiven : Standing → Type 0
+AreGiven s = (c : Case) → Contains s.cases c → c.seq < s.next
+
 -- Of an archive's bytes others were made, as an archive stands that has each of these cases, with the same facts and the same blocks,
--- and the blocks hold the same images. A case is left out only if a Drop record of the archive names its number.
+-- and the blocks hold the same images. A case is left out only if a Drop record of the archive names its number. The number of a case that
+-- is there is not given again.
 pub record KeepsCases (b c : List ℕ) (s : Standing) : Type 0 where
   pub drops : List Dropped
   pub dropped : AreDrops (part b 0 (data_start s.shape)) drops
@@ -23,6 +30,7 @@ pub record KeepsCases (b c : List ℕ) (s : Standing) : Type 0 where
   pub stands : Stands c standing
   pub shape : standing.shape ≡ s.shape
   pub each : (standing ≡ s) ⊎ HasEachBut drops standing.cases s.cases
+  pub fresh : (standing ≡ s) ⊎ AreGiven standing
   pub images : (blocks : List ℕ) (len : ℕ) → image_in s.shape c blocks len ≡ image_in s.shape b blocks len
 
 -- The cases that stand before the first faulty record are kept in what is copied, but for those that a record deletes which reads.

@@ -1,7 +1,8 @@
 -- Laws of what is copied of an archive whose opening is refused.
-use Rattle.std.proofs.Common.{◌≡◌, inl, inr, ℕ, ◌+◌, ◌<◌, ◌≤◌, List, [], ◌∷◌, ◌++◌, length, take, refl, sym, ap, ◌∙◌, subst, arith, Option, None, Some}
+use Rattle.std.proofs.Common.{◌≡◌, inl, inr, ℕ, zero, suc, ◌+◌, ◌<◌, ◌≤◌, List, [], ◌∷◌, ◌++◌, length, take, get_or, refl, sym, ap, ◌∙◌, subst, arith, Option, None, Some}
 use Rattle.disk_model.specs.Places.{part}
 use Rattle.intake.specs.Blocks.{block_bytes, block_start, image_in, joined}
+use Rattle.journal_layout.specs.Case.{Case}
 use Rattle.journal_layout.specs.Layout.{data_start, half_length, half_start}
 use Rattle.journal_layout.specs.ReadingLaws.{stands_once}
 use Rattle.journal_layout.specs.Standing.{Standing}
@@ -12,13 +13,16 @@ use Rattle.journal_layout.specs.declared.shape.Half.TheVariants.{A, B}
 use Rattle.journal_layout.specs.declared.shape.Shape.{Shape}
 use Rattle.salvage.specs.Records.{AreDrops, HasEachBut}
 use Rattle.salvage.specs.declared.records.Dropped.{Dropped}
+use Rattle.salvage.specs.declared.records.Fate.{Fate}
+use Rattle.salvage.specs.declared.records.Fate.TheVariants.{Copied}
 use Rattle.salvage.specs.declared.records.Read.{Read}
 use Rattle.salvage.specs.Copying.{bytes_by, found_bytes}
 use Rattle.salvage.specs.Finding.{StandsUntil, closes, gate_of}
 use Rattle.salvage.specs.FrontLaws.{part_other}
 use Rattle.salvage.specs.Fronts.{fronted}
 use Rattle.salvage.specs.GateLaws.{closed_stands, gate_high, gate_within}
-use Rattle.salvage.specs.Keeping.{KeepsCases, WhatIsSoundIsCopied, WhatOpensIsKept, WhatStandsIsKept}
+use Rattle.salvage.specs.Keeping.{AreGiven, KeepsCases, WhatIsSoundIsCopied, WhatOpensIsKept, WhatStandsIsKept}
+use Rattle.salvage.specs.Noting.{AreNoted, KeepsNoted, greatest_copied, number_if}
 use Rattle.salvage.specs.Readings.{IsMore, SeesCases, fault_by, first_fault}
 use Rattle.salvage.specs.ShowLaws.{part_unpatched}
 use Rattle.salvage.specs.Showing.{shown}
@@ -44,6 +48,27 @@ before_data : (shape : Shape) (half : Half) (g : ℕ) → g < half_start shape h
 before_data shape A g high = omega (arith, high)
 before_data shape B g high = omega (arith, high)
 
+-- no case that is copied has a greater number
+copied_below : (reads : List Read) (k : ℕ) (r : Read) → k < length reads → get_or reads k r ≡ r → r.fate ≡ Copied → r.entry.seq ≤ greatest_copied reads
+copied_below [] k r low is copied = absurd (omega (arith, low))
+copied_below (x ∷ xs) zero r low is copied =
+    let number : number_if x.fate x.entry.seq ≡ r.entry.seq = ap (λ (y : Read). number_if y.fate y.entry.seq) is ∙ ap (λ (f : Fate). number_if f r.entry.seq) copied in
+    omega (arith, number)
+copied_below (x ∷ xs) (suc k) r low is copied = let below = copied_below xs k r (omega (arith, low)) is copied in omega (arith, below)
+
+-- so no number is given again
+given : (bytes : List ℕ) (reads : List Read) (next : ℕ) → greatest_copied reads < next → (cases : List Case) → AreNoted bytes reads cases
+    → (k : ℕ) (c : Case) → k < length cases → get_or cases k c ≡ c → c.seq < next
+given bytes reads next above [] noted k c low is = absurd (omega (arith, low))
+given bytes reads next above (x ∷ xs) ((r, (i, inside, there), by), rest) zero c low is =
+    let below = copied_below reads i r inside there by.fate in
+    let same : r.entry.seq ≡ c.seq = by.same.seq ∙ ap (λ (y : Case). y.seq) is in
+    omega (arith, below, same, above)
+given bytes reads next above (x ∷ xs) (one, rest) (suc k) c low is = given bytes reads next above xs rest k c (omega (arith, low)) is
+
+all_given : (bytes : List ℕ) (first s : Standing) (reads : List Read) (bound : ℕ) → KeepsNoted bytes first reads bound s → AreGiven s
+all_given bytes first s reads bound kept c (k, low, is) = given bytes reads s.next (omega (arith, kept.next)) s.cases kept.cases k c low is
+
 -- what is read after the first fault has the cases that precede it
 more_kept : (b : List ℕ) (first s : Standing) (drops : List Dropped) (reads : List Read) (bound : ℕ) (m : More) → first ≡ s
     → AreDrops (part b 0 (data_start first.shape)) drops → IsMore b first drops reads bound m → KeepsCases b (fronted m.front.items b) s
@@ -56,6 +81,7 @@ more_kept b first s drops reads bound m is there it =
       stands = it.stands;
       shape = it.shape ∙ ap (λ (u : Standing). u.shape) is;
       each = inr (subst (λ (u : Standing). HasEachBut drops m.journal.standing.cases u.cases) is it.each);
+      fresh = inr (all_given (part b 0 (data_start first.shape)) first m.journal.standing reads bound it.noted);
       images = images_same s.shape b (fronted m.front.items b) (λ p n behind. part_other m.front.items b p n (omega (arith, front, behind)));
     }
 
@@ -78,6 +104,7 @@ module _ (b : List ℕ) (f : Found) (s : Standing) (fault : OpenFault) (sees : S
         stands = closed_stands b s fault until;
         shape = refl;
         each = inl refl;
+        fresh = inl refl;
         images = images_same s.shape b (shown (closes (gate_of s)) b)
             (λ p n behind. part_unpatched b (gate_of s) 0 p n (gate_within b s fault until)
             (inr (omega (arith, behind, before_data s.shape s.half (gate_of s) (gate_high b s fault until)))));
@@ -104,7 +131,7 @@ module _ (b : List ℕ) (f : Found) (s : Standing) (sees : SeesCases b f) (stand
   itself_kept : KeepsCases b (shown f.sight.patch b) s
   itself_kept =
       subst (λ (p : Option Patch). KeepsCases b (shown p b) s) (sym unpatched)
-      (record { drops = []; dropped = tt; standing = s; stands = stands; shape = refl; each = inl refl; images = λ blocks len. refl })
+      (record { drops = []; dropped = tt; standing = s; stands = stands; shape = refl; each = inl refl; fresh = inl refl; images = λ blocks len. refl })
 
   opening_kept : (o : Option More) → f.more ≡ o → KeepsCases b (bytes_by o f.sight b) s
   opening_kept None is = itself_kept
