@@ -1,3 +1,7 @@
+pub mod DoneLemmas
+pub mod FrontLemmas
+pub mod HoldLemmas
+pub mod LookLemmas
 pub mod MakeLemmas
 pub mod MadeLemmas
 pub mod HeldLemmas

@@ -6,6 +6,12 @@ use Rattle.archive_care.specs.declared.faults.CopyFault.{CopyFault}
 use Rattle.archive_care.specs.declared.faults.CopyFault.TheVariants as care
 use Rattle.disk_model.specs.declared.disk.Disk as disk
 use Rattle.intake.specs.declared.faults.ArchiveFault.TheVariants as archive
+use Rattle.shared_disk.specs.Looks.{under}
+use Rattle.shared_disk.specs.declared.shared.SharedDisk as shared
+use Rattle.shared_disk.specs.declared.unlocked.Unlocked.{Unlocked}
+use Rattle.unlocked_reading.specs.Asking.{LeavesAllThere}
+use Rattle.unlocked_reading.specs.Places.{FindsCases}
+use Rattle.unlocked_reading.specs.declared.places.Places.{Places}
 use Rattle.archive_files.specs.declared.failures.Refusal.{Refusal}
 use Rattle.archive_files.specs.declared.failures.Refusal.TheVariants.{BadShape, OutOfMemory, Disk, Open, Call}
 
@@ -34,3 +40,12 @@ abbrev pub larger_wish : Option ℕ → CopyWish → Refusal → Option CopyWish
 larger_wish None wish (Call archive.JournalFull) =
     if nat_lt wish.shape.half_blocks 4096 then Some (record wish { shape = record wish.shape { half_blocks = wish.shape.half_blocks + 1 } }) else None
 larger_wish half wish refusal = None
+
+-- The archive on a disk is copied, as a wish says, and that disk is handed back.
+abbrev pub IsCopied : {D N : Type 0} → disk.Ghosts D → disk.Ghosts N → CopyWish → D → D → Type 0
+IsCopied {N = N} g h wanted from from' = (onto onto' : N) × CopiesDisk g h wanted from onto (Ok tt) from' onto'
+
+-- Each case that a look has found is there at the next look.
+abbrev pub StayThere : {S : Type 0} (g : shared.Ghosts S) → disk.Ghosts (Unlocked S g) → S → Type 0
+StayThere {S} g U s =
+    (front : Unlocked S g) × (places : Places) × (under front ≡ s) × FindsCases U front (Ok places) × LeavesAllThere g U s places.numbers.items (Ok tt)

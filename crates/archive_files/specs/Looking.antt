@@ -61,3 +61,16 @@ copy_ended (Err f) = Err (record { failure = unlocked_told f; is_front = was_the
 abbrev pub CopiesLooked : {S : Type 0} (g : shared.Ghosts S) → disk.Ghosts (Unlocked S g) → ℕ → Option (List ℕ) → Option (List ℕ) → ℕ → ℕ → Result (Looked S g) Refusal → Result (Unit {0}) Unfinished → Type 0
 CopiesLooked g U seq taken taken' lost lost' (Ok looked) r = (copied : Result (Unit {0}) UnlockedFault) × CopiesUnlocked g U (shared_of looked) seq taken taken' lost lost' copied × (r ≡ copy_ended copied)
 CopiesLooked g U seq taken taken' lost lost' (Err refusal) r = (r ≡ Err (record { failure = Aside refusal; is_front = true })) × (taken' ≡ taken) × (lost' ≡ lost)
+
+-- The image of a case was copied to an output that had taken so much, and failed so often, from a look at its archive on, if there was one.
+abbrev pub CopiesTaken : {S : Type 0} (g : shared.Ghosts S) → disk.Ghosts (Unlocked S g) → ℕ → Option (List ℕ) → ℕ → Result (Unit {0}) Unfinished → Type 0
+CopiesTaken {S} g U seq taken lost r =
+    (looked : Result (Looked S g) Refusal) × (taken' : Option (List ℕ)) × (lost' : ℕ) × CopiesLooked g U seq taken taken' lost lost' looked r
+
+-- how it is told that an image was copied, or why it was not
+abbrev pub extract_told : Result (Unit {0}) Unfinished → Result (Unit {0}) Failure
+extract_told (Ok u) = Ok u
+extract_told (Err unfinished) = Err unfinished.failure
+
+abbrev pub ExtractsTaken : {S : Type 0} (g : shared.Ghosts S) → disk.Ghosts (Unlocked S g) → ℕ → Option (List ℕ) → ℕ → Result (Unit {0}) Failure → Type 0
+ExtractsTaken g U seq taken lost r = (copied : Result (Unit {0}) Unfinished) × CopiesTaken g U seq taken lost copied × (r ≡ extract_told copied)

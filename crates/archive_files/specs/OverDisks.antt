@@ -1,6 +1,6 @@
 -- What the program does over the archive on a disk, by the values that its words say.
 use Rattle.std.specs.Prelude.{◌≡◌, ◌⊎◌, ◌&&◌, ◌||◌, nat_lt, nat_eq, not, is_none, if◌then◌else◌, ℕ, Bool, false, List, [], Option, None, Some, Result, Ok, Err, codes}
-use Rattle.std.specs.Io.KnownBytes.{Keeps}
+use Rattle.std.specs.Io.KnownBytes.{Keeps, append_known}
 use Rattle.disk_model.specs.declared.disk.Disk as disk
 use Rattle.inspector_cli.specs.Asking.{AsksAlone, as_session, line_streams}
 use Rattle.inspector_cli.specs.Life.{LifeEnds, RunsOver, StoresOver}
@@ -21,7 +21,7 @@ use Rattle.archive_files.specs.declared.failures.Failure.TheVariants.{Refused}
 use Rattle.archive_files.specs.declared.failures.Refusal.{Refusal}
 use Rattle.archive_files.specs.declared.failures.Refusal.TheVariants.{OutOfMemory, Open}
 use Rattle.archive_files.specs.declared.storing.StoreRequest.{StoreRequest}
-use Rattle.archive_files.specs.Told.{run_told, ask_told, store_told}
+use Rattle.archive_files.specs.Told.{EndsHeld, run_told, ask_told, store_told}
 
 -- A session over the archive on a disk, and how its end is told.
 abbrev pub RunsOnDisk : {D : Type 0} → disk.Ghosts D → ℕ → Naming → Streams → D → Result (Unit {0}) Failure → D → Type 0
@@ -50,6 +50,13 @@ AnswersLine g what taken taken' lost lost' before r after =
     × ((naming : Naming) (line : List ℕ) → IsLine line → said line ≡ what
     → RunsOnDisk g 0 naming (line_streams line asked taken taken' lost lost') before (run_told (as_session asked)) after)
     × (r ≡ ask_told asked)
+
+-- The same over the disk that was taken, if one was. The reply is held meanwhile, for an output that had taken so much.
+abbrev pub AnswersHeld : {D : Type 0} → disk.Ghosts D → Said → Option (List ℕ) → Result (Unit {0}) Failure → Type 0
+AnswersHeld {D} g what taken r =
+    ((refusal : Refusal) × (r ≡ Err (Refused refusal)))
+    ⊎ ((before after : D) × (taken' : Option (List ℕ)) × (lost lost' : ℕ) × (asked : Result (Unit {0}) Failure)
+    × AnswersLine g what (append_known taken []) taken' lost lost' before asked after × EndsHeld asked r)
 
 -- the length that is stated is over the limit
 abbrev pub is_over : Option ℕ → ℕ → Bool

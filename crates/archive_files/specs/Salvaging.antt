@@ -1,10 +1,10 @@
 -- The cases of an archive whose opening is refused, copied onto a new disk, and how that is told.
-use Rattle.std.specs.Prelude.{◌≡◌, ◌⊎◌, ℕ, Bool, true, false, List, Some, Result, Ok, Err, IsTrue}
+use Rattle.std.specs.Prelude.{◌≡◌, ◌⊎◌, ℕ, Bool, true, false, List, length, Some, Result, Ok, Err, IsTrue}
 use Rattle.archive_care.specs.declared.copying.CopyWish.{CopyWish}
 use Rattle.archive_care.specs.declared.faults.CopyFault.{CopyFault}
 use Rattle.disk_model.specs.declared.disk.Disk as disk
 use Rattle.salvage.specs.Copying.{CopiesAs, found_bytes}
-use Rattle.salvage.specs.Mending.{MendsArchive, restored}
+use Rattle.salvage.specs.Mending.{IsMend, IsSureMend, MendsArchive, restored}
 use Rattle.salvage.specs.Readings.{SeesCases}
 use Rattle.salvage.specs.Told.{IsAll, TellsCases}
 use Rattle.salvage.specs.declared.cases_found.Found.{Found}
@@ -24,11 +24,17 @@ SalvagesOnto g h s found wish onto r onto' =
     × CopiesAs h (g.is_honest s) (found_bytes found (g.seen s)) wish onto onto' done
     × (r ≡ copy_told done)
 
--- The cases of an archive are found: in its bytes, or in these with what was mended of them.
+-- The cases that were found are copied onto a new disk.
+abbrev pub IsSalvaged : {S N : Type 0} → source.Ghosts S → disk.Ghosts N → S → Found → Type 0
+IsSalvaged {N = N} g h s found = (wish : CopyWish) × (onto onto' : N) × SalvagesOnto g h s found wish onto (Ok tt) onto'
+
+-- The cases of an archive are found: in its bytes, or in these with what was mended of them. What was mended says of what length the file
+-- is, and that it is the archive's without a doubt only if that is so.
 abbrev pub IsFoundIn : List ℕ → Found → Type 0
 IsFoundIn b f =
     SeesCases b f
-    ⊎ ((m : Mended) × MendsArchive b (Some m) × SeesCases (restored m.front.items m.length b) f × (f.mend ≡ Some m.mend))
+    ⊎ ((m : Mended) × MendsArchive b (Some m) × IsMend (length b) m.mend.fault m.mend × IsSureMend b m.mend × SeesCases (restored m.front.items m.length b) f
+    × (f.mend ≡ Some m.mend))
 
 -- It is refused, and the output is not touched.
 abbrev pub IsRefusedAside : {O : Type 0} → O → O → Result (Unit {0}) Failure → Type 0

@@ -82,3 +82,10 @@ IfRefused _ P = Unit {0}
 abbrev pub IfFaulted : Failure → (SessionFault → Type 0) → Type 0
 IfFaulted (Faulted fault) P = P fault
 IfFaulted _ P = Unit {0}
+
+-- standard input gave nothing for so many seconds
+unfoldable pub stall_words : ℕ → List ℕ
+stall_words seconds = codes "standard input gave nothing for " ++ (decimal seconds ++ codes " seconds")
+
+abbrev pub stalled_line : ℕ → List ℕ
+stalled_line seconds = (codes "corekeep: " ++ stall_words seconds) ++ 10 ∷ []

@@ -1,8 +1,9 @@
 -- How the end of what is done over a disk is told.
-use Rattle.std.specs.Prelude.{Bool, true, false, ◌&&◌, Result, Ok, Err, is_some, if◌then◌else◌}
+use Rattle.std.specs.Prelude.{◌≡◌, ◌⊎◌, Bool, true, false, ◌&&◌, Result, Ok, Err, is_some, if◌then◌else◌}
 use Rattle.inspector_cli.specs.declared.session.LifeFault.{LifeFault}
 use Rattle.inspector_cli.specs.declared.session.LifeFault.TheVariants as life
 use Rattle.inspector_cli.specs.declared.session.StoreOutcome.{StoreOutcome}
+use Rattle.inspector_cli.specs.declared.session.SessionFault.TheVariants.{WriteFailed}
 use Rattle.archive_files.specs.declared.archives.Access.{Access}
 use Rattle.archive_files.specs.declared.archives.Access.TheVariants.{Looking, Changing}
 use Rattle.archive_files.specs.declared.failures.Failure.{Failure}
@@ -32,3 +33,7 @@ store_told (Err f) = Err (life_failure f)
 -- what is done to an archive by a line that only looks, and by any other
 abbrev pub access_by : Bool → Access
 access_by looks = if looks then Looking else Changing
+
+-- A command whose reply was held ends as it did before that was written, or the write failed.
+abbrev pub EndsHeld : Result (Unit {0}) Failure → Result (Unit {0}) Failure → Type 0
+EndsHeld ended r = (r ≡ ended) ⊎ (r ≡ Err (Faulted WriteFailed))

@@ -1,13 +1,15 @@
 // Archives, made, and taken from their files.
-ghost use Rattle.std.specs.Prelude.{◌≡◌, ◌+◌, ◌*◌, ◌≤◌, true, false, is_ok, Ok, IfOk, IsTrue, OnErr, OnOk};
+ghost use Rattle.std.specs.Prelude.{◌≡◌, ◌+◌, ◌*◌, ◌≤◌, true, false, is_ok, Err, Ok, IfOk, IsTrue, OnErr, OnOk};
 ghost use Rattle.case_journal.specs.Settling.{SettlesGates};
 ghost use Rattle.case_journal.specs.Viewing.{OnlyReads};
+ghost use Rattle.journal_layout.specs.Layout.{data_start};
 ghost use Rattle.journal_layout.specs.Standing.{Standing};
 ghost use Rattle.journal_layout.specs.Stands.{Stands};
 ghost use Rattle.diagnostics.specs.Counts.{HasRisen};
 ghost use Rattle.disk_model.specs.Holding.{just_opened, locked_if};
 ghost use Rattle.disk_model.specs.declared.held_facts.Hold.TheVariants.{Alone};
 ghost use Rattle.archive_files.specs.Locks.{hold_of};
+ghost use Rattle.archive_files.specs.declared.failures.Refusal.{Refusal};
 ghost use Rattle.whole_files.specs.Calls.{just_made};
 ghost use Rattle.whole_files.specs.Whole.{IsUnnamed, IsMade, IsWritten, IsWhole};
 
@@ -106,6 +108,8 @@ pub(crate) fn settle_made<'a, R: Files<File = File>>(
 ) -> Result<(), Refusal>
     requires made { IsMade (⟦<PartFile<'a, R> as NewFile>⟧.facts file.old) }
     ensures written { OnOk result (IsWritten (⟦<PartFile<'a, R> as NewFile>⟧.facts file.new)) }
+    ensures done { OnOk result (done ≡ Ok tt) }
+    ensures refused { (why : Refusal) → done ≡ Err why → result ≡ Err why }
 {
     if let Err(refusal) = done {
         remove(file);
@@ -290,14 +294,16 @@ fn front_of<D: Disk>(disk: &mut D) -> Result<u64, FileFault>
     ensures quiet { OnlyReads D.Disk disk.old disk.new }
     ensures most { IfOk result (λ n. n ≤ 4096 * (1 + 2 * 4096)) }
     ensures cause { OnErr result (HasRisen (D.failures disk.old) (D.failures disk.new)) }
+    ensures journal { (s : Standing) → IsTrue (D.is_honest disk.old) → Stands (D.seen disk.old) s
+        → IfOk result (λ n. n ≡ data_start s.shape) }
 {
-    let mut start = [0u8; 20];
+    let mut start = [0u8; 24];
     if disk.length() < BLOCK {
         return Ok(0);
     }
-    if disk.read_at(0, &mut start).is_err() {
+    let Ok(()) = disk.read_at(0, &mut start) else {
         return Err(FileFault::Settle);
-    }
+    };
     if !start[8..].starts_with(b"COREKEEP") {
         return Ok(0);
     }

@@ -1,6 +1,10 @@
 // Whether the archive in a file is sound.
 ghost use Rattle.std.specs.Prelude.{◌≡◌};
-ghost use Rattle.archive_files.specs.Checks.{ChecksLooked, ChecksTaken, check_told};
+ghost use Rattle.archive_files.specs.Checks.{ChecksHeld, ChecksLooked, ChecksTaken, check_told, hidden_line};
+ghost use Rattle.archive_files.specs.Telling.{IsToldAs};
+ghost use Rattle.archive_files.specs.declared.failures.Failure.TheVariants.{Refused};
+ghost use Rattle.archive_files.specs.declared.failures.Refusal.TheVariants.{Open};
+ghost use Rattle.script_streams.specs.Replies.{TellsText, telling};
 ghost use Rattle.shared_disk.specs.Looks.{shared_of};
 
 use crate::archive_path::ArchivePath;
@@ -11,7 +15,7 @@ use crate::looking::{look_fault, take_look};
 use crate::salvaging::fault_found;
 use archive_checks::{CheckFault, check_archive};
 use diagnostics::Onlooker;
-use disk_model::Disk;
+use disk_model::{Disk, FileDisk};
 use inspector_cli::SessionFault;
 use journal_layout::{BLOCK, OpenFault};
 use script_streams::{Output, Reply};
@@ -77,27 +81,40 @@ fn check_locked<R: AllocGlobal + Files<File = File> + Clock, O: Output, W: Onloo
     sees_images: bool,
     output: &mut O,
     onlooker: &mut W,
-) -> Result<(), Failure> {
+) -> Result<(), Failure>
+    ensures { ChecksHeld ⟦<FileDisk as Disk>⟧ sees_images (O.taken output.old) result }
+{
     let taken = take_disk(rt, place, Access::Looking, onlooker);
     let mut reply = Held::new(rt.alloc(), output);
     let (checked, disk) = check_taken(rt.alloc(), taken, sees_images, &mut reply);
     if let Some(disk) = &disk {
         tell_trouble(disk, onlooker);
     }
-    reply.finish()?;
-    checked
+    match reply.finish() {
+        Ok(()) => checked,
+        Err(_) => Err(Failure::Faulted(SessionFault::WriteFailed)),
+    }
 }
 
 // Tells where the gate is that may hide records.
-fn tell_hidden<O: Output>(fault: OpenFault, output: &mut O) -> Failure {
+fn tell_hidden<O: Output>(fault: OpenFault, output: &mut O) -> Failure
+    ensures failure { result ≡ Refused (Open fault) }
+    ensures told { IsToldAs (O.taken output.old) (O.taken output.new) (O.failures output.old) (O.failures output.new) (hidden_line fault) }
+{
+    let mut reply = Reply::new(output);
+    tell_gate(&mut reply, fault);
+    let _ = reply.finish();
+    Failure::Refused(Refusal::Open(fault))
+}
+
+fn tell_gate<O: Output>(reply: &mut Reply<'_, O>, fault: OpenFault)
+    ensures { TellsText (telling O.Output reply.old reply.new) (hidden_line fault) }
+{
     if let OpenFault::Damaged { at, .. } = fault {
-        let mut reply = Reply::new(output);
         reply.tell(b"damaged in block ");
         reply.tell_decimal(u128::from(at / BLOCK));
         reply.tell(b": a gate that may hide the records after it\n");
-        let _ = reply.finish();
     }
-    Failure::Refused(Refusal::Open(fault))
 }
 
 // Tells what the archive on the disk that was taken holds and that it is sound, or where it is damaged, and hands the disk on; or tells

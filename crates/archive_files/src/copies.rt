@@ -1,7 +1,8 @@
 // Archives, copied into new files.
 ghost use Rattle.std.specs.Prelude.{◌≡◌, true, false, Some, OnOk};
 ghost use Rattle.disk_model.specs.declared.held_facts.Hold.TheVariants.{Alone};
-ghost use Rattle.archive_files.specs.Copying.{CopiesDisk};
+ghost use Rattle.archive_files.specs.Copying.{CopiesDisk, IsCopied, StayThere};
+ghost use Rattle.shared_disk.specs.Looks.{shared_of};
 ghost use Rattle.whole_files.specs.Whole.{IsWritten, IsWhole};
 
 use crate::archive_path::ArchivePath;
@@ -20,7 +21,7 @@ use diagnostics::Onlooker;
 use disk_model::{Disk, FileDisk, FileFault, HeldFile, OpenFile};
 use intake::{ArchiveFault, ByteRange};
 use journal_layout::{BLOCK, Shape};
-use shared_disk::{Looked, SharedDisk};
+use shared_disk::{Looked, SharedDisk, Unlocked};
 use shown_progress::CountedDisk;
 use std::alloc::Global;
 use std::fs;
@@ -86,22 +87,31 @@ fn copy_named<'a, R: Files<File = File>, S: SharedDisk + Drop, W: Onlooker>(
     onlooker: &mut W,
 ) -> Result<(), Refusal>
     ensures whole { OnOk result (IsWhole false (⟦<PartFile<'a, R> as NewFile>⟧.facts file.new)) }
+    ensures stayed { OnOk result (StayThere S.SharedDisk ⟦<Unlocked<'static, S> as Disk>⟧ (shared_of looked)) }
 {
     clear(file).map_err(|fault| Refusal::File(FileWord::New, fault))?;
     let front = looked.unlocked(Vec::new(alloc));
-    let Places { numbers, ranges } = find_cases(alloc, front, Reads::All).map_err(unasked)?;
+    let places = match find_cases(alloc, front, Reads::All) {
+        Ok(places) => places,
+        Err(fault) => return Err(unasked(fault)),
+    };
+    let Places { numbers, ranges } = places;
     let mut ranges = ranges;
     widen(&mut ranges);
     let (copied, _) = copy_part(alloc, looked.unlocked(ranges), file, wanted, onlooker);
     let onto = copied?;
-    if let Err(fault) = stay(alloc, looked.into_shared(), &numbers) {
-        remove(file);
-        return Err(unasked(fault));
+    match stay(alloc, looked.into_shared(), &numbers) {
+        Ok(()) => {
+            // The lock of the new file is kept until it has its name.
+            let named = give_name(file);
+            drop(onto);
+            named.map_err(|fault| name_refusal(FileWord::New, fault))
+        }
+        Err(fault) => {
+            remove(file);
+            Err(unasked(fault))
+        }
     }
-    // The lock of the new file is kept until it has its name.
-    let named = give_name(file);
-    drop(onto);
-    named.map_err(|fault| name_refusal(FileWord::New, fault))
 }
 
 /// Copies the archive in a file into a file in the same folder, which takes its place once it is whole and durable. The archive's lock is held
@@ -223,6 +233,7 @@ fn copy_into<'a, R: Files<File = File>, D: Disk, W: Onlooker>(
     onlooker: &mut W,
 ) -> (Result<FileDisk, Refusal>, D)
     ensures written { OnOk result.0 (IsWritten (⟦<PartFile<'a, R> as NewFile>⟧.facts file.new)) }
+    ensures copied { OnOk result.0 (IsCopied D.Disk ⟦<FileDisk as Disk>⟧ wish from result.1) }
 {
     let length = match wish.shape.length() {
         Ok(length) => length,

@@ -2,7 +2,7 @@
 ghost use Rattle.std.specs.Prelude.{◌≡◌, ◌≢◌, ◌≤◌, true};
 ghost use Rattle.script_streams.specs.Replies.{TellsText, telling, no_reply};
 ghost use Rattle.script_streams.specs.Telling.{IsDelivered};
-ghost use Rattle.archive_files.specs.Telling.{IfFaulted, IfRefused, IsKeptAs, IsToldAs, fault_line, fault_words, file_words, is_aside, open_words, refusal_words};
+ghost use Rattle.archive_files.specs.Telling.{IfFaulted, IfRefused, IsKeptAs, IsToldAs, fault_line, fault_words, file_words, is_aside, open_words, refusal_words, stall_words, stalled_line};
 ghost use Rattle.archive_files.specs.declared.failures.Failure.TheVariants.{Faulted, Refused};
 ghost use Rattle.archive_files.specs.declared.failures.Refusal.{Refusal};
 ghost use Rattle.inspector_cli.specs.declared.session.SessionFault.{SessionFault};
@@ -226,6 +226,7 @@ pub fn tell_failure<O: Output, E: Output>(
 // Tells people that standard input gave nothing for so many seconds.
 fn tell_stalled<E: Output>(seconds: u64, errors: &mut E) -> u8
     ensures status { result ≡ 1 }
+    ensures told { IsToldAs (E.taken errors.old) (E.taken errors.new) (E.failures errors.old) (E.failures errors.new) (stalled_line seconds) }
 {
     let mut reply = Reply::new(errors);
     reply.tell(b"corekeep: ");
@@ -236,7 +237,9 @@ fn tell_stalled<E: Output>(seconds: u64, errors: &mut E) -> u8
 }
 
 /// Tells that standard input gave nothing for so many seconds.
-pub fn tell_stall<O: Output>(reply: &mut Reply<'_, O>, seconds: u64) {
+pub fn tell_stall<O: Output>(reply: &mut Reply<'_, O>, seconds: u64)
+    ensures { TellsText (telling O.Output reply.old reply.new) (stall_words seconds) }
+{
     reply.tell(b"standard input gave nothing for ");
     reply.tell_decimal(u128::from(seconds));
     reply.tell(b" seconds");

@@ -67,7 +67,9 @@ fn store_counted<I: Read, O: Output, W: Onlooker>(
     input: &mut I,
     output: &mut O,
     onlooker: &mut W,
-) -> (Result<(), Failure>, Option<FileDisk>) {
+) -> (Result<(), Failure>, Option<FileDisk>)
+    ensures { StoresTaken ⟦<FileDisk as Disk>⟧ request (I.remaining input.old) (O.taken output.old) (O.taken output.new) (O.failures output.old) (O.failures output.new) taken result.0 result.1 }
+{
     onlooker.begin("stores", length);
     let mut counted = CountedInput::new(input, onlooker);
     let (ended, disk) = store_taken(alloc, taken, request, &mut counted, output);

@@ -3,7 +3,7 @@ ghost use Rattle.std.specs.Prelude.{◌≡◌, ◌⊎◌, ◌^◌, ◌<◌, [], 
 ghost use Rattle.disk_model.specs.Calls.{read};
 ghost use Rattle.std.proofs.lemmas.Bool.{false≢true};
 ghost use Rattle.salvage.specs.Readings.{FoundWithin};
-ghost use Rattle.archive_files.specs.Salvaging.{IsRefusedAside, Salvages, SalvagesOnto, TellsFound, TellsSalvage};
+ghost use Rattle.archive_files.specs.Salvaging.{IsRefusedAside, IsSalvaged, Salvages, SalvagesOnto, TellsFound, TellsSalvage};
 ghost use Rattle.whole_files.specs.Whole.{IsWhole};
 
 use crate::archive_path::ArchivePath;
@@ -208,6 +208,7 @@ fn put_cases<'a, R: Files<File = File>, S: Source, W: Onlooker>(
 ) -> Result<(), Refusal>
     requires { FoundWithin (S.size source.now) found.now }
     ensures whole { OnOk result (IsWhole false (⟦<PartFile<'a, R> as NewFile>⟧.facts file.new)) }
+    ensures salvaged { OnOk result (IsSalvaged S.Source ⟦<FileDisk as Disk>⟧ source.now found.now) }
 {
     let wish = CopyWish {
         shape: Shape {
@@ -236,6 +237,7 @@ fn put_wished<'a, R: Files<File = File>, S: Source, W: Onlooker>(
 ) -> Result<(), Refusal>
     requires { FoundWithin (S.size source.now) found.now }
     ensures whole { OnOk result (IsWhole false (⟦<PartFile<'a, R> as NewFile>⟧.facts file.new)) }
+    ensures salvaged { OnOk result (IsSalvaged S.Source ⟦<FileDisk as Disk>⟧ source.now found.now) }
 {
     clear(file).map_err(|fault| Refusal::File(FileWord::New, fault))?;
     let onto = make_file(alloc, file, wish.shape.length()?, false, onlooker)?;

@@ -2,6 +2,8 @@
 ghost use Rattle.std.specs.Prelude.{◌≡◌, false, OnOk};
 ghost use Rattle.script_lines.specs.Commands.{question_said};
 ghost use Rattle.script_lines.specs.Said.{only_looks};
+ghost use Rattle.archive_files.specs.Looking.{CopiesTaken, ExtractsTaken};
+ghost use Rattle.archive_files.specs.OverDisks.{AnswersHeld};
 ghost use Rattle.archive_files.specs.Told.{access_by};
 ghost use Rattle.whole_files.specs.Whole.{IsWhole};
 
@@ -13,9 +15,10 @@ use crate::held::Held;
 use crate::looking::take_look;
 use crate::over_disk::{CaseNumber, Unfinished, ask_over, copy_over};
 use diagnostics::Onlooker;
-use disk_model::FileFault;
+use disk_model::{Disk, FileDisk, FileFault, OpenFile};
 use inspector_cli::{Question, SessionFault};
 use script_streams::{Output, WriteOutput};
+use shared_disk::{SharedDisk, SharedFile, Unlocked};
 use shown_progress::CountedOutput;
 use std::fs::File;
 use std::io::ErrorKind;
@@ -53,9 +56,13 @@ fn extract_to<R: AllocGlobal + Files<File = File>, O: Output, W: Onlooker>(
     case: CaseNumber,
     output: &mut O,
     onlooker: &mut W,
-) -> Result<(), Failure> {
-    let copied = copy_counted(rt, place, case, output, onlooker);
-    copied.map_err(|unfinished| unfinished.failure)
+) -> Result<(), Failure>
+    ensures { ExtractsTaken ⟦<SharedFile<OpenFile> as SharedDisk>⟧ ⟦<Unlocked<'static, SharedFile<OpenFile>> as Disk>⟧ case.seq (O.taken output.old) (O.failures output.old) result }
+{
+    match copy_counted(rt, place, case, output, onlooker) {
+        Ok(()) => Ok(()),
+        Err(unfinished) => Err(unfinished.failure),
+    }
 }
 
 // Copies the image of a case to an output.
@@ -65,7 +72,9 @@ fn copy_counted<R: AllocGlobal + Files<File = File>, O: Output, W: Onlooker>(
     case: CaseNumber,
     output: &mut O,
     onlooker: &mut W,
-) -> Result<(), Unfinished> {
+) -> Result<(), Unfinished>
+    ensures { CopiesTaken ⟦<SharedFile<OpenFile> as SharedDisk>⟧ ⟦<Unlocked<'static, SharedFile<OpenFile>> as Disk>⟧ case.seq (O.taken output.old) (O.failures output.old) result }
+{
     let looked = take_look(rt, place);
     onlooker.begin("extracts", None);
     let mut counted = CountedOutput::new(output, onlooker);
@@ -141,14 +150,21 @@ fn ask_locked<R: AllocGlobal + Files<File = File> + Clock, O: Output, W: Onlooke
     question: Question,
     output: &mut O,
     onlooker: &mut W,
-) -> Result<(), Failure> {
-    let disk = take_disk(rt, place, Access::Changing, onlooker)?;
+) -> Result<(), Failure>
+    ensures { AnswersHeld ⟦<FileDisk as Disk>⟧ (question_said question) (O.taken output.old) result }
+{
+    let disk = match take_disk(rt, place, Access::Changing, onlooker) {
+        Ok(disk) => disk,
+        Err(refusal) => return Err(Failure::Refused(refusal)),
+    };
     let mut reply = Held::new(rt.alloc(), output);
     let (asked, disk) = ask_over(rt.alloc(), disk, question, &mut reply);
     tell_trouble(&disk, onlooker);
     drop(disk);
-    reply.finish()?;
-    asked
+    match reply.finish() {
+        Ok(()) => asked,
+        Err(_) => Err(Failure::Faulted(SessionFault::WriteFailed)),
+    }
 }
 
 // A question that changes nothing needs no right to write the archive's file, and no lock while it is answered.
