@@ -1,0 +1,5 @@
+pub mod Words
+pub mod WordViews
+pub mod Tables
+pub mod Names
+pub mod Frames

@@ -1,0 +1,10 @@
+//! The signature of a crash, and the groups of the cores that have one signature.
+#![tactic(auto)]
+
+mod frames;
+mod names;
+mod tables;
+mod words;
+
+pub use frames::{FrameFacts, MappedFile, word_of};
+pub use words::{Text, Word};
