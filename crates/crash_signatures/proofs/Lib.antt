@@ -1,2 +1,4 @@
 pub mod TextLemmas
 pub mod NameLemmas
+pub mod SliceLemmas
+pub mod RecursionLemmas

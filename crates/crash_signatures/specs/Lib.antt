@@ -3,3 +3,4 @@ pub mod WordViews
 pub mod Tables
 pub mod Names
 pub mod Frames
+pub mod Recursion

@@ -3,6 +3,7 @@
 
 mod frames;
 mod names;
+mod recursion;
 mod tables;
 mod words;
 

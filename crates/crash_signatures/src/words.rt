@@ -1,6 +1,7 @@
 //! The words of a signature.
-ghost use Rattle.std.specs.Prelude.{◌≡◌, ◌≤◌, ◌++◌, length, map, take};
+ghost use Rattle.std.specs.Prelude.{◌≡◌, ◌+◌, ◌≤◌, ◌++◌, length, map, take};
 ghost use Rattle.std.specs.Cmp.Lexicographic.{slice_cmp};
+ghost use Rattle.arrayvec.specs.ArrayVec.{array_vec_len};
 ghost use Rattle.crash_signatures.specs.Words as spec;
 ghost use Rattle.crash_signatures.specs.WordViews.{said};
 
@@ -9,6 +10,9 @@ use std::cmp::Ordering;
 
 /// The bytes of a word.
 pub type Text = ArrayVec<u8, 256>;
+
+// The words of a walk.
+pub(crate) type Words = ArrayVec<Word, 96>;
 
 /// A word of a signature, for one frame.
 #[derive(Default, PartialEq, Eq, PartialOrd, Ord, Drop)]
@@ -73,5 +77,16 @@ pub(crate) fn copied(word: &Word) -> Word
     Word {
         text,
         is_mark: word.is_mark,
+    }
+}
+
+// Appends copies of words.
+pub(crate) fn add_words<const N: usize>(list: &mut ArrayVec<Word, N>, words: &[Word])
+    requires room { array_vec_len list.old + length words.now ≤ N }
+    ensures value { map said list.new.items ≡ map said list.old.items ++ map said words.now }
+    ensures count { array_vec_len list.new ≡ array_vec_len list.old + length words.now }
+{
+    for word in words {
+        list.push(copied(word));
     }
 }
