@@ -2,3 +2,4 @@ pub mod TextLemmas
 pub mod NameLemmas
 pub mod SliceLemmas
 pub mod RecursionLemmas
+pub mod StepLemmas

@@ -4,3 +4,4 @@ pub mod Tables
 pub mod Names
 pub mod Frames
 pub mod Recursion
+pub mod Steps

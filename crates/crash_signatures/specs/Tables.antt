@@ -43,7 +43,7 @@ glib_deaths =
     ∷ codes "g_log_structured_array" ∷ codes "g_assertion_message" ∷ codes "g_assertion_message_expr" ∷ codes "_g_log_abort" ∷ []
 
 -- a function by which a process ends itself, or that leads there
-abbrev pub is_death : List ℕ → Bool
+unfoldable pub is_death : List ℕ → Bool
 is_death name = is_among c_deaths name || is_among cxx_deaths name || is_among rust_deaths name || is_among glib_deaths name
 
 -- what calls `main`, and what calls a thread's first function
@@ -52,3 +52,7 @@ outer_names =
     codes "_start" ∷ codes "start" ∷ codes "_start_c" ∷ codes "__libc_start_main" ∷ codes "__libc_start_main_impl" ∷ codes "__libc_start_call_main"
     ∷ codes "generic_start_main" ∷ codes "start_thread" ∷ codes "__start_thread" ∷ codes "thread_start" ∷ codes "__thread_start" ∷ codes "clone"
     ∷ codes "__clone" ∷ codes "clone3" ∷ codes "__clone3" ∷ []
+
+-- a function that calls `main`, or a thread's first function
+unfoldable pub is_outer : List ℕ → Bool
+is_outer name = is_among outer_names name

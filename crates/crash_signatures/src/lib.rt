@@ -4,6 +4,7 @@
 mod frames;
 mod names;
 mod recursion;
+mod steps;
 mod tables;
 mod words;
 

@@ -130,6 +130,7 @@ pub(crate) fn is_ending(part: &[u8]) -> bool
 }
 
 // Whether a process ends itself by this function.
+#[tactic(auto, unfolding(crate::specs::Tables::is_death))]
 pub(crate) fn is_death(name: &[u8]) -> bool
     ensures { result ≡ spec.is_death name.now }
 {
@@ -140,8 +141,9 @@ pub(crate) fn is_death(name: &[u8]) -> bool
 }
 
 // Whether this function calls `main`, or a thread's first function.
+#[tactic(auto, unfolding(crate::specs::Tables::is_outer))]
 pub(crate) fn is_outer(name: &[u8]) -> bool
-    ensures { result ≡ spec.is_among spec.outer_names name.now }
+    ensures { result ≡ spec.is_outer name.now }
 {
     is_among(&OUTER, name)
 }
