@@ -3,3 +3,4 @@ pub mod NameLemmas
 pub mod SliceLemmas
 pub mod RecursionLemmas
 pub mod StepLemmas
+pub mod SignatureLemmas

@@ -9,7 +9,7 @@ use Rattle.crash_signatures.specs.Steps.{calls_main, count_left, ends_process, e
 use Rattle.crash_signatures.specs.WordViews.{said}
 use Rattle.crash_signatures.specs.Words.{WordSaid, same_words}
 use Rattle.crash_signatures.specs.declared.words.Word.{Word}
-use Rattle.crash_signatures.proofs.SliceLemmas.{said_from, said_to, said_within}
+use Rattle.crash_signatures.proofs.SliceLemmas.{front_same, said_from, said_to, said_within}
 
 -- the words from a place on, the word at it first
 pub said_rest : (words : List Word) (at : ℕ) (w : Word) → at < length words → w ≡ get_or words at w → drop at (map said words) ≡ said w ∷ drop (at + 1) (map said words)
@@ -41,15 +41,8 @@ module _ (words : List Word) where
   pub death_first : (n : ℕ) → n ≡ min (length words) 16 → past_death ws ≡ past_in n ws
   death_first n is = sym (ap (λ (k : ℕ). k - suffix_len lives (take n ws)) same_length ∙ ap (λ (l : List WordSaid). length (take 16 ws) - suffix_len lives l) same_front)
     where
-      by : (t : Bool) → nat_le 16 (length words) ≡ t → take n ws ≡ take 16 ws
-      by true long = let l = leb-true 16 (length words) long in let e : n ≡ 16 = omega (arith, l, is) in ap (λ (k : ℕ). take k ws) e
-      by false short =
-          let l = leb-false 16 (length words) short in
-          let m = length-map words said in
-          take_all n ws (omega (arith, l, is, m)) ∙ sym (take_all 16 ws (omega (arith, l, is, m)))
-
       same_front : take n ws ≡ take 16 ws
-      same_front = by (nat_le 16 (length words)) refl
+      same_front = let m = length-map words said in front_same n 16 ws (omega (arith, is, m))
 
       same_length : n ≡ length (take 16 ws)
       same_length = let m = length-map words said in let e = length-take n ws in let f = ap length same_front in omega (arith, is, m, e, f)

@@ -5,3 +5,5 @@ pub mod Names
 pub mod Frames
 pub mod Recursion
 pub mod Steps
+pub mod Signature
+pub mod SignatureViews

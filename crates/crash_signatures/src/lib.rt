@@ -4,9 +4,11 @@
 mod frames;
 mod names;
 mod recursion;
+mod signature;
 mod steps;
 mod tables;
 mod words;
 
 pub use frames::{FrameFacts, MappedFile, word_of};
-pub use words::{Text, Word};
+pub use signature::{HandledSignal, Signature, signature_of};
+pub use words::{Text, Word, Words};

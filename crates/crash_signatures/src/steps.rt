@@ -13,7 +13,8 @@ const DEATHS: usize = 16;
 // The words behind the last of the functions by which the process ended itself, if words are there.
 #[tactic(auto, using(crate::proofs::StepLemmas::death_gone))]
 pub(crate) fn without_death(words: &[Word]) -> &[Word]
-    ensures { map said result.now ≡ spec.without_death (map said words.now) }
+    ensures value { map said result.now ≡ spec.without_death (map said words.now) }
+    ensures short { length result.now ≤ length words.now }
 {
     let past = past_death(words);
     if past == words.len() {
@@ -44,7 +45,8 @@ fn ends_process(word: &Word) -> bool
 // The words up to the outermost part of the program's or the thread's stack. `main` stays, and so does the first word of all.
 #[tactic(auto, using(crate::proofs::StepLemmas::main_here, crate::proofs::StepLemmas::outer_here, crate::proofs::StepLemmas::inner_next, crate::proofs::StepLemmas::inner_end))]
 pub(crate) fn inner_part(words: &[Word]) -> &[Word]
-    ensures { map said result.now ≡ spec.inner_part true (map said words.now) }
+    ensures value { map said result.now ≡ spec.inner_part true (map said words.now) }
+    ensures short { length result.now ≤ length words.now }
 {
     for at in 0..words.len() {
         let word = &words[at];

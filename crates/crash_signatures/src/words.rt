@@ -11,8 +11,8 @@ use std::cmp::Ordering;
 /// The bytes of a word.
 pub type Text = ArrayVec<u8, 256>;
 
-// The words of a walk.
-pub(crate) type Words = ArrayVec<Word, 96>;
+/// The words of a walk's frames, of which at most 96 are looked at.
+pub type Words = ArrayVec<Word, 96>;
 
 /// A word of a signature, for one frame.
 #[derive(Default, PartialEq, Eq, PartialOrd, Ord, Drop)]
