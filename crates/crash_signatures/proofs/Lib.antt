@@ -4,3 +4,4 @@ pub mod SliceLemmas
 pub mod RecursionLemmas
 pub mod StepLemmas
 pub mod SignatureLemmas
+pub mod LawLemmas

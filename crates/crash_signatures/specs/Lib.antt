@@ -7,3 +7,4 @@ pub mod Recursion
 pub mod Steps
 pub mod Signature
 pub mod SignatureViews
+pub mod SignatureLaws

@@ -2,6 +2,7 @@
 #![tactic(auto)]
 
 mod frames;
+mod laws;
 mod names;
 mod recursion;
 mod signature;
@@ -10,5 +11,6 @@ mod tables;
 mod words;
 
 pub use frames::{FrameFacts, MappedFile, word_of};
+pub use laws::{a_signature_is_short, moved_alike_is_signed_alike};
 pub use signature::{HandledSignal, Signature, signature_of};
 pub use words::{Text, Word, Words};

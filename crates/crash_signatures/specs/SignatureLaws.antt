@@ -1,0 +1,36 @@
+-- What holds of signatures.
+use Rattle.std.specs.Prelude.{◌≡◌, ℕ, ◌+◌, ◌≤◌, Bool, nat_lt, List, [], ◌∷◌, length, map, Option, None, option_map}
+use Rattle.crash_signatures.specs.Frames.{FileSaid, FrameSaid, word_of}
+use Rattle.crash_signatures.specs.Signature.{HandledSaid, signature}
+use Rattle.crash_signatures.specs.Words.{WordSaid}
+
+-- at most seven words
+abbrev pub SignaturesAreShort : Type 0
+SignaturesAreShort = (ws : List WordSaid) (handled : Option HandledSaid) (is_whole : Bool) → length (signature ws handled is_whole).words ≤ 7
+
+-- the range of memory into which a file is mapped, so many bytes higher
+abbrev pub moved_file : ℕ → FileSaid → FileSaid
+moved_file distance file = record { path = file.path; start = file.start + distance; offset = file.offset }
+
+-- A frame, and the same frame where the file at its address is mapped so many bytes higher. If no file is mapped there, the pc may
+-- be another, but not one below 4096 in place of one that is not, or the other way round.
+pub record IsMoved (distance : ℕ) (f g : FrameSaid) : Type 0 where
+  pub signal : g.is_signal ≡ f.is_signal
+  pub function : g.function ≡ f.function
+  pub file : g.file ≡ option_map (moved_file distance) f.file
+  pub pc : g.pc ≡ f.pc + distance
+  pub null : nat_lt g.pc 4096 ≡ nat_lt f.pc 4096
+  pub vdso : g.is_vdso ≡ f.is_vdso
+  pub files : g.has_files ≡ f.has_files
+
+-- each frame is moved, one by another distance than the next, as its file is
+abbrev pub AreMoved : List FrameSaid → List FrameSaid → Type 0
+AreMoved [] [] = Unit {0}
+AreMoved [] (g ∷ gs) = ⊥
+AreMoved (f ∷ fs) [] = ⊥
+AreMoved (f ∷ fs) (g ∷ gs) = ((distance : ℕ) × IsMoved distance f g) × AreMoved fs gs
+
+-- frames that are moved with their files have the same signature
+abbrev pub MovedAlikeIsSignedAlike : Type 0
+MovedAlikeIsSignedAlike = (fs gs : List FrameSaid) (handled : Option HandledSaid) (is_whole : Bool) → AreMoved fs gs
+    → signature (map word_of gs) handled is_whole ≡ signature (map word_of fs) handled is_whole
