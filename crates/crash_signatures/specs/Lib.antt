@@ -8,3 +8,5 @@ pub mod Steps
 pub mod Signature
 pub mod SignatureViews
 pub mod SignatureLaws
+pub mod Program
+pub mod ProgramViews

@@ -4,6 +4,7 @@
 mod frames;
 mod laws;
 mod names;
+mod program;
 mod recursion;
 mod signature;
 mod steps;
@@ -12,5 +13,6 @@ mod words;
 
 pub use frames::{FrameFacts, MappedFile, word_of};
 pub use laws::{a_signature_is_short, moved_alike_is_signed_alike};
+pub use program::{Program, ProgramFacts, program_of};
 pub use signature::{HandledSignal, Signature, signature_of};
 pub use words::{Text, Word, Words};
