@@ -17,4 +17,6 @@ mod registers;
 #[cfg(test)]
 mod shown;
 #[cfg(test)]
+mod signatures;
+#[cfg(test)]
 mod small;
