@@ -5,3 +5,4 @@ pub mod RecursionLemmas
 pub mod StepLemmas
 pub mod SignatureLemmas
 pub mod LawLemmas
+pub mod GroupLemmas

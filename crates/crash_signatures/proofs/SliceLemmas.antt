@@ -1,5 +1,5 @@
 -- Words of a part of a slice.
-use Rattle.std.proofs.Common.{◌≡◌, ℕ, ◌+◌, ◌-◌, ◌≤◌, Bool, true, false, List, length, take, drop, map, min, refl, sym, ap, ◌∙◌, arith}
+use Rattle.std.proofs.Common.{◌≡◌, ℕ, zero, suc, ◌+◌, ◌-◌, ◌<◌, ◌≤◌, [], ◌∷◌, ◌++◌, get_or, Bool, true, false, List, length, take, drop, map, min, refl, sym, ap, ◌∙◌, arith}
 use Rattle.std.proofs.lemmas.Bool.{leb-false, leb-true}
 use Rattle.std.specs.Prelude.{nat_le}
 use Rattle.std.proofs.lemmas.List.{drop-map, length-drop, take-map, take_all}
@@ -27,3 +27,12 @@ front_same n k xs is = by (nat_le k (length xs)) refl
     by : (t : Bool) → nat_le k (length xs) ≡ t → take n xs ≡ take k xs
     by true long = let l = leb-true k (length xs) long in let e : n ≡ k = omega (arith, l, is) in ap (λ (i : ℕ). take i xs) e
     by false short = let l = leb-false k (length xs) short in take_all n xs (omega (arith, l, is)) ∙ sym (take_all k xs (omega (arith, l)))
+
+-- one more than so many
+pub take_one_more : {A : Type 0} → (xs : List A) (at : ℕ) (d : A) → at < length xs → take (at + 1) xs ≡ take at xs ++ get_or xs at d ∷ []
+take_one_more {A} xs at d below = let e : at + 1 ≡ suc at = omega arith in ap (λ (n : ℕ). take n xs) e ∙ by xs at below
+  where
+    by : (xs : List A) (at : ℕ) → at < length xs → take (suc at) xs ≡ take at xs ++ get_or xs at d ∷ []
+    by [] n below = absurd (omega (arith, below))
+    by (y ∷ ys) zero below = refl
+    by (y ∷ ys) (suc n) below = ap (λ (l : List A). y ∷ l) (by ys n (omega (arith, below)))

@@ -10,3 +10,5 @@ pub mod SignatureViews
 pub mod SignatureLaws
 pub mod Program
 pub mod ProgramViews
+pub mod Groups
+pub mod Grouping

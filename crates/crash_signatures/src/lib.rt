@@ -2,6 +2,7 @@
 #![tactic(auto)]
 
 mod frames;
+mod groups;
 mod laws;
 mod names;
 mod program;
@@ -12,6 +13,7 @@ mod tables;
 mod words;
 
 pub use frames::{FrameFacts, MappedFile, word_of};
+pub use groups::{Core, Group, grouped};
 pub use laws::{a_signature_is_short, moved_alike_is_signed_alike};
 pub use program::{Program, ProgramFacts, program_of};
 pub use signature::{HandledSignal, Signature, signature_of};
