@@ -6,3 +6,4 @@ pub mod StepLemmas
 pub mod SignatureLemmas
 pub mod LawLemmas
 pub mod GroupLemmas
+pub mod GroupLawLemmas

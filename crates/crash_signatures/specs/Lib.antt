@@ -12,3 +12,4 @@ pub mod Program
 pub mod ProgramViews
 pub mod Groups
 pub mod Grouping
+pub mod GroupLaws

@@ -112,7 +112,7 @@ fn count_left(words: &[Word]) -> usize
 // Whether the last words, so many, are the same as those before them.
 #[tactic(auto, using(crate::proofs::StepLemmas::twice))]
 fn ends_twice(words: &[Word], count: usize) -> bool
-    requires { count ≤ 3 }
+    requires { count ≤ 8 }
     ensures value { result ≡ spec.ends_twice count (map said words.now) }
     ensures long { result ≡ true → 2 * count ≤ length words.now }
 {
