@@ -10,7 +10,6 @@ use Rattle.crash_signatures.specs.WordViews.{said}
 use Rattle.crash_signatures.specs.Words.{WordSaid}
 use Rattle.crash_signatures.specs.declared.words.Word.{Word}
 use Rattle.crash_signatures.proofs.SliceLemmas.{front_same, said_from, said_to}
-use Rattle.crash_signatures.proofs.TextLemmas.{joins_more}
 
 prefix_len-map : {A B : Type 0} → (f : A → B) (p : B → Bool) (xs : List A) → prefix_len p (map f xs) ≡ prefix_len (λ x. p (f x)) xs
 prefix_len-map f p [] = refl
@@ -35,10 +34,6 @@ pub place_said : (words : List Word) (n : ℕ) (r : Option ℕ) → n ≡ min (l
 place_said words n r least is =
     is ∙ ap (position (λ w. is_signal_frame (said w))) (front_same n 16 words least) ∙ position-map said is_signal_frame (take 16 words)
     ∙ ap (position is_signal_frame) (said_to words 16)
-
-pub marked : (h : HandledSaid) (o : Option HandledSaid) (x y : List ℕ) → o ≡ Some h → x ≡ take 256 (codes "<" ++ h.name) → y ≡ take 256 (x ++ codes ">")
-    → ◌≡◌ {A = WordSaid} (record { text = y; is_mark = true }) (signal_mark o)
-marked h o x y is first second = ap (λ (t : List ℕ). record { text = t; is_mark = true }) (joins_more (codes "<") h.name (codes ">") x y first second) ∙ ap signal_mark (sym is)
 
 behind_nothing : (s : SignatureSaid) → behind [] s ≡ s
 behind_nothing s = refl

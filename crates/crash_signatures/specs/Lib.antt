@@ -13,3 +13,4 @@ pub mod ProgramViews
 pub mod Groups
 pub mod Grouping
 pub mod GroupLaws
+pub mod Places

@@ -45,10 +45,14 @@ by_cycle (Some cycle) ws is_whole = recursive cycle
 abbrev pub unhandled : List WordSaid → Bool → SignatureSaid
 unhandled ws is_whole = by_cycle (cycle_among 16 ws) ws is_whole
 
+-- the mark of a name
+abbrev pub bracketed : List ℕ → WordSaid
+bracketed name = mark (codes "<" ++ name ++ codes ">")
+
 -- the mark of the signal that was being handled
 abbrev pub signal_mark : Option HandledSaid → WordSaid
 signal_mark None = mark (codes "<signal>")
-signal_mark (Some s) = mark (codes "<" ++ s.name ++ codes ">")
+signal_mark (Some s) = bracketed s.name
 
 -- The code that was interrupted had failed itself: ILL, TRAP, ABRT, BUS and FPE, SEGV, SYS.
 abbrev pub is_fault : Option HandledSaid → Bool
@@ -74,3 +78,7 @@ is_signal_frame w = w.is_mark && bytes_eq w.text (codes "<signal>")
 -- the outermost frame or after as many as are looked at.
 abbrev pub signature : List WordSaid → Option HandledSaid → Bool → SignatureSaid
 signature ws handled is_whole = by_signal (position is_signal_frame (take 16 ws)) ws handled is_whole
+
+-- the signature of a core that is refused: the name of the field at fault
+abbrev pub refused : List ℕ → SignatureSaid
+refused field = record { words = bracketed field ∷ []; is_missing = false }

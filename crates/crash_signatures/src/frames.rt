@@ -1,10 +1,13 @@
 //! The word of a frame.
 ghost use Rattle.std.specs.Prelude.{◌≡◌, ◌++◌, codes, take};
+ghost use Rattle.std.specs.Option.{option_map};
 ghost use Rattle.script_words.specs.Printing.{hexadecimal};
 ghost use Rattle.crash_signatures.specs.Frames as spec;
+ghost use Rattle.crash_signatures.specs.Places.{place_of};
 ghost use Rattle.crash_signatures.specs.WordViews.{file_said, frame_said, said};
 
 use crate::names::{base_name, function_word};
+use crate::steps::ends_process;
 use crate::words::{Text, Word, add, joined};
 use script_words::print_hexadecimal;
 
@@ -53,6 +56,20 @@ pub fn word_of(frame: &FrameFacts<'_>) -> Word
     match frame.file {
         Some(file) => named(place_word(&file, frame.pc)),
         None => mark(place_mark(frame)),
+    }
+}
+
+/// The place of a frame in its build: the name of the mapped file, and the pc's place in it, as `word_of` has them. There is none if
+/// no file is mapped there, or if the frame's function is one by which a process ends itself.
+pub fn place_of(frame: &FrameFacts<'_>) -> Option<Text>
+    ensures { option_map (λ t. t.items) result ≡ place_of (frame_said frame.now) }
+{
+    if ends_process(&word_of(frame)) {
+        return None;
+    }
+    match frame.file {
+        Some(file) => Some(place_word(&file, frame.pc)),
+        None => None,
     }
 }
 

@@ -52,6 +52,18 @@ pub fn signature_of(words: &Words, handled: Option<HandledSignal<'_>>, is_whole:
     }
 }
 
+/// The signature of a core that is refused: the name of the field at fault, as `<e_machine>`.
+pub fn signature_of_refused(field: &[u8]) -> Signature
+    ensures { signature_said result ≡ spec.refused field.now }
+{
+    let mut words = ArrayVec::new();
+    words.push(bracketed(field));
+    Signature {
+        words,
+        is_missing: false,
+    }
+}
+
 // Where the first frame of a signal is, among the first 16.
 #[tactic(auto, using(crate::proofs::SignatureLemmas::place_said))]
 fn signal_place(words: &[Word]) -> Option<usize>
@@ -110,15 +122,20 @@ fn signal_mark(handled: Option<HandledSignal<'_>>) -> Word
     ensures { said result ≡ spec.signal_mark (option_map handled_said handled.entry) }
 {
     match handled {
-        Some(signal) => {
-            let mut text = joined(b"<", signal.name);
-            add(&mut text, b">");
-            Word {
-                text,
-                is_mark: true,
-            }
-        }
+        Some(signal) => bracketed(signal.name),
         None => mark(b"<signal>"),
+    }
+}
+
+// The mark of a name.
+fn bracketed(name: &[u8]) -> Word
+    ensures { said result ≡ spec.bracketed name.now }
+{
+    let mut text = joined(b"<", name);
+    add(&mut text, b">");
+    Word {
+        text,
+        is_mark: true,
     }
 }
 

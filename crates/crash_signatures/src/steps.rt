@@ -36,7 +36,7 @@ fn past_death(words: &[Word]) -> usize
     past
 }
 
-fn ends_process(word: &Word) -> bool
+pub(crate) fn ends_process(word: &Word) -> bool
     ensures { result ≡ spec.ends_process (said word.now) }
 {
     is_death(word.text.as_slice())

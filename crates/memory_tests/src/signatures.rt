@@ -1,9 +1,11 @@
 //! Signatures next to the walks that have them. The expected ones are of a reading of the definition in another language, which was
 //! tried on real cores; but for the last one, whose function has the name of a mark.
 use crash_signatures::{
-    FrameFacts, HandledSignal, MappedFile, Signature, Words, signature_of, word_of,
+    Core, FrameFacts, Group, HandledSignal, MappedFile, Signature, Words, grouped, signature_of,
+    word_of,
 };
 use std::process::Abort;
+use std::test::Fail;
 
 /// A frame by what it is.
 #[derive(Clone, Copy)]
@@ -593,4 +595,54 @@ fn each_walk_has_its_signature(rt: HostRuntime) {
     all_have_theirs(&rt, &WALKS_2);
     all_have_theirs(&rt, &WALKS_3);
     all_have_theirs(&rt, &WALKS_4);
+}
+
+fn core(number: u64, signature: usize, is_missing: bool, place: Option<usize>) -> Core {
+    Core {
+        number,
+        signature,
+        is_missing,
+        place,
+    }
+}
+
+// A group as it should be: its signature, its cases, and those that are perhaps of it.
+type Wanted = (usize, &'static [u64], &'static [u64]);
+
+static GROUPS: [Wanted; 5] = [
+    (0, &[1, 2], &[3]),
+    (4, &[6, 7], &[]),
+    (5, &[8], &[]),
+    (3, &[5], &[]),
+    (2, &[4], &[]),
+];
+
+fn is_wanted(group: &Group, wanted: &Wanted) -> bool {
+    let (signature, cases, perhaps) = *wanted;
+    group.signature == signature
+        && group.cases.as_slice() == cases
+        && group.perhaps.as_slice() == perhaps
+}
+
+#[test]
+fn cores_are_grouped(rt: HostRuntime) -> Result<(), Fail> {
+    let cores = [
+        core(1, 0, false, Some(0)),
+        core(2, 0, false, Some(0)),
+        // Its one home is the group of the cores before it
+        core(3, 1, true, Some(0)),
+        core(4, 2, false, Some(1)),
+        core(5, 3, false, Some(1)),
+        // It would have two homes
+        core(6, 4, true, Some(1)),
+        core(7, 4, true, None),
+        // It has none
+        core(8, 5, true, Some(2)),
+    ];
+    let groups = grouped(rt.alloc(), &cores)?;
+    assert_eq!(rt; groups.len(), GROUPS.len());
+    for (group, wanted) in groups.as_slice().iter().zip(&GROUPS) {
+        assert!(rt; is_wanted(group, wanted));
+    }
+    Ok(())
 }
