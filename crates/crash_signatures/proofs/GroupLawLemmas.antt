@@ -1,9 +1,9 @@
 -- Why each core is in one group, that of its signature or of its one home.
-use Rattle.std.proofs.Common.{◌≡◌, ℕ, zero, suc, ◌+◌, ◌<◌, ◌≤◌, ◌==◌, Bool, true, false, not, ◌&&◌, ◌||◌, cond, List, [], ◌∷◌, ◌++◌, length, map, Option, None, Some, option_map, refl, sym, ap, subst, ◌∙◌, append_assoc, arith}
+use Rattle.std.proofs.Common.{◌≡◌, ℕ, zero, suc, ◌+◌, ◌<◌, ◌≤◌, ◌==◌, Bool, true, false, not, ◌&&◌, ◌||◌, cond, List, [], ◌∷◌, ◌++◌, get_or, length, map, Option, None, Some, option_map, refl, sym, ap, subst, ◌∙◌, append_assoc, arith}
 use Rattle.std.proofs.Math.Bool.{beq}
 use Rattle.std.proofs.lemmas.Bool.{eq-eqb, eqb-false, eqb-true, false≢true, ne_eqb}
-use Rattle.std.proofs.lemmas.List.{append-nil}
-use Rattle.std.proofs.lemmas.List.Elements.{All-cons, All-contains, All-contains_itself, All-head, All-map, All-nil, All-tail}
+use Rattle.std.proofs.lemmas.List.{length-map}
+use Rattle.std.proofs.lemmas.List.Elements.{All-cons, All-contains, All-contains_itself, All-filter, All-head, All-map, All-nil, All-tail}
 use Rattle.std.proofs.lemmas.List.Folds.{list_any-append}
 use Rattle.std.proofs.lemmas.List.Sorted.{All-permutation, sum_by-IsPermutation}
 use Rattle.std.proofs.lemmas.List.Sums.{AllPass-from_list_all, sum_by-cons}
@@ -11,7 +11,7 @@ use Rattle.std.specs.List.{All, AllByRecursion, Contains, count_by, filter, find
 use Rattle.std.specs.Prelude.{is_none}
 use Rattle.crash_signatures.specs.GroupLaws.{AreBySignature, EachCoreIsInOneGroup, HasOneHome, PerhapsHasOneHome, SameGroupIffSameSignature, is_certainly, times_in}
 use Rattle.crash_signatures.specs.Grouping.{IsGrouping, group_with, grouped_members}
-use Rattle.crash_signatures.specs.Groups.{GroupSaid, first_home, has_no_other, home_at, home_in, home_of, if_sole, is_home, is_in, member_of, members, signatures, with_home}
+use Rattle.crash_signatures.specs.Groups.{GroupSaid, first_home, has_no_other, home_at, home_in, home_of, if_sole, is_at, is_home, is_in, member_of, members, signatures, with_home}
 use Rattle.crash_signatures.specs.declared.groups.Core.{Core}
 use Rattle.crash_signatures.specs.declared.groups.Member.{Member}
 use Rattle.crash_signatures.proofs.GroupLemmas.{is_other}
@@ -213,18 +213,6 @@ at_most_one : (t : Bool) → cond t 1 0 ≤ 1
 at_most_one true = omega arith
 at_most_one false = omega arith
 
-pub by_signature : SameGroupIffSameSignature
-by_signature cores groups are = record {
-  cases = All-permutation (λ g. g.cases ≡ map (λ c. c.number) (filter (is_certainly cores g.signature) cores)) (grouped_members (members cores)) groups are.whole
-      (All-map (λ g. g.cases ≡ map (λ c. c.number) (filter (is_certainly cores g.signature) cores)) (group_with (members cores)) (signatures (members cores)) (λ k d below. cases_are cores cores _));
-  once = λ s.
-      let p = sum_by-IsPermutation (λ g. cond (s == g.signature) 1 0) (grouped_members (members cores)) groups are.whole in
-      let m = sum_by-map (group_with (members cores)) (λ g. cond (s == g.signature) 1 0) (signatures (members cores)) in
-      let c = count_signature s (members cores) in
-      let one = at_most_one (list_any (λ x. x.group == s) (members cores)) in
-      omega (arith, p, m, c, one);
-}
-
 -- what is found is among them, and passes
 contained : {X : Type 0} (P : X → Bool) (xs : List X) (x : X) → find P xs ≡ Some x → Contains xs x × (P x ≡ true)
 contained P [] x is = absurd cc
@@ -298,6 +286,65 @@ module _ (cores : List Core) where
   each_perhaps [] s among = All-nil (HasOneHome cores s)
   each_perhaps (c ∷ cs) s among =
       with_one c cs s (All-head (Contains cores) c cs among) (each_perhaps cs s (All-tail (Contains cores) c cs among)) (home_of cores c) refl
+
+-- a group has a core that is certain: its first member, or the home of that
+some_kept : {A B : Type 0} (p : B → Bool) (f : A → B) (xs : List A) (x : A) (k : ℕ) → k < length xs → get_or xs k x ≡ x → p (f x) ≡ true → 0 < length (filter p (map f xs))
+some_kept p f [] x k below is passes = absurd (omega (arith, below))
+some_kept p f (y ∷ ys) x zero below is passes =
+    subst (λ (t : Bool). 0 < length (cond t (f y ∷ filter p (map f ys)) (filter p (map f ys)))) (sym (ap (λ (z : _). p (f z)) is ∙ passes)) (omega arith)
+some_kept p f (y ∷ ys) x (suc k) below is passes = either (some_kept p f ys x k (omega (arith, below)) is passes) (p (f y))
+  where
+    either : 0 < length (filter p (map f ys)) → (t : Bool) → 0 < length (cond t (f y ∷ filter p (map f ys)) (filter p (map f ys)))
+    either some true = omega arith
+    either some false = some
+
+not_missing : (a b : Bool) → a && not b ≡ true → b ≡ false
+not_missing true true is = absurd (false≢true is)
+not_missing true false is = refl
+not_missing false b is = absurd (false≢true is)
+
+module _ (cores : List Core) where
+  cases_of : ℕ → List ℕ
+  cases_of s = (group_with (members cores) s).cases
+
+  -- of a core without a home
+  certain_some : (d : Core) → Contains cores d → home_of cores d ≡ None → 0 < length (cases_of d.signature)
+  unfolding cases_of
+  certain_some d among none =
+      let its : is_in d.signature false (member_of cores d) ≡ true =
+      ap (λ (o : Option ℕ). is_in d.signature false (with_home d o)) none ∙ ap (λ (t : Bool). t && true) (eq-eqb d.signature d.signature refl) in
+      let kept = some_kept (is_in d.signature false) (member_of cores) cores d among.0 among.1 among.2 its in
+      let l = length-map (filter (is_in d.signature false) (members cores)) (λ (m : Member). m.number) in
+      omega (arith, kept, l)
+
+  by_home : (c : Core) → Contains cores c → (o : Option ℕ) → home_of cores c ≡ o → 0 < length (cases_of (with_home c o).group)
+  by_home c among None none = certain_some c among none
+  by_home c among (Some h) is =
+      let one = home_found cores c h among is in
+      let whole : one.home.is_missing ≡ false = not_missing (is_at one.place one.home.place) one.home.is_missing one.home_is in
+      subst (λ (s : ℕ). 0 < length (cases_of s)) one.signed (certain_some one.home one.home_among (ap (λ (t : Bool). cond t (home_in cores one.home.place) None) whole))
+
+  each_some : (cs : List Core) → All (Contains cores) cs → All (λ s. 0 < length (cases_of s)) (signatures (map (member_of cores) cs))
+  each_some [] among = All-nil (λ s. 0 < length (cases_of s))
+  each_some (c ∷ cs) among =
+      All-cons (λ s. 0 < length (cases_of s)) (member_of cores c).group (filter (is_other (member_of cores c)) (signatures (map (member_of cores) cs)))
+      (by_home c (All-head (Contains cores) c cs among) (home_of cores c) refl)
+      (All-filter (is_other (member_of cores c)) (λ s. 0 < length (cases_of s)) (signatures (map (member_of cores) cs)) (each_some cs (All-tail (Contains cores) c cs among)))
+
+pub by_signature : SameGroupIffSameSignature
+unfolding cases_of
+by_signature cores groups are = record {
+  cases = All-permutation (λ g. g.cases ≡ map (λ c. c.number) (filter (is_certainly cores g.signature) cores)) (grouped_members (members cores)) groups are.whole
+      (All-map (λ g. g.cases ≡ map (λ c. c.number) (filter (is_certainly cores g.signature) cores)) (group_with (members cores)) (signatures (members cores)) (λ k d below. cases_are cores cores _));
+  once = λ s.
+      let p = sum_by-IsPermutation (λ g. cond (s == g.signature) 1 0) (grouped_members (members cores)) groups are.whole in
+      let m = sum_by-map (group_with (members cores)) (λ g. cond (s == g.signature) 1 0) (signatures (members cores)) in
+      let c = count_signature s (members cores) in
+      let one = at_most_one (list_any (λ x. x.group == s) (members cores)) in
+      omega (arith, p, m, c, one);
+  some = All-permutation (λ g. 0 < length g.cases) (grouped_members (members cores)) groups are.whole
+      (All-map (λ g. 0 < length g.cases) (group_with (members cores)) (signatures (members cores)) (each_some cores cores (All-contains_itself cores)));
+}
 
 pub one_home : PerhapsHasOneHome
 unfolding others

@@ -1,5 +1,5 @@
 -- What holds of the groups of cores.
-use Rattle.std.specs.Prelude.{◌≡◌, ℕ, ◌+◌, ◌≤◌, ◌==◌, Bool, true, ◌&&◌, List, Option, Some, All, Contains, count_by, filter, is_none, map, sum_by}
+use Rattle.std.specs.Prelude.{◌≡◌, ℕ, ◌+◌, ◌<◌, ◌≤◌, ◌==◌, Bool, true, ◌&&◌, List, Option, Some, All, Contains, count_by, filter, is_none, length, map, sum_by}
 use Rattle.crash_signatures.specs.Grouping.{IsGrouping}
 use Rattle.crash_signatures.specs.Groups.{GroupSaid, home_of, is_home}
 use Rattle.crash_signatures.specs.declared.groups.Core.{Core}
@@ -18,10 +18,11 @@ abbrev pub is_certainly : List Core → ℕ → Core → Bool
 is_certainly cores signature c = is_none (home_of cores c) && c.signature == signature
 
 -- The cases of a group are the cores without a home that have its signature, all of them, and no two groups have one signature. So
--- two of these cores are in one group if they have the same signature, and only then.
+-- two of these cores are in one group if they have the same signature, and only then. Each group has such a core.
 pub record AreBySignature (cores : List Core) (groups : List GroupSaid) : Type 0 where
   pub cases : All (λ g. g.cases ≡ map (λ c. c.number) (filter (is_certainly cores g.signature) cores)) groups
   pub once : (signature : ℕ) → count_by (λ g. signature == g.signature) groups ≤ 1
+  pub some : All (λ g. 0 < length g.cases) groups
 
 abbrev pub SameGroupIffSameSignature : Type 0
 SameGroupIffSameSignature = (cores : List Core) (groups : List GroupSaid) → IsGrouping cores groups → AreBySignature cores groups

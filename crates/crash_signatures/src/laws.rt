@@ -18,7 +18,7 @@ pub fn each_core_is_in_one_group()
     ensures { EachCoreIsInOneGroup }
 {}
 
-/// A group's cases are the cores without a home that have its signature, and no two groups have one signature.
+/// A group's cases are the cores without a home that have its signature. There is one at least, and no two groups have one signature.
 pub fn same_group_iff_same_signature()
     ensures { SameGroupIffSameSignature }
 {}
