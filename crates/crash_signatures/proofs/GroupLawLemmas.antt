@@ -9,9 +9,9 @@ use Rattle.std.proofs.lemmas.List.Sorted.{All-permutation, sum_by-IsPermutation}
 use Rattle.std.proofs.lemmas.List.Sums.{AllPass-from_list_all, sum_by-cons}
 use Rattle.std.specs.List.{All, AllByRecursion, Contains, count_by, filter, find, list_all, list_any, sum_by}
 use Rattle.std.specs.Prelude.{is_none}
-use Rattle.crash_signatures.specs.GroupLaws.{AreBySignature, EachCoreIsInOneGroup, HasOneHome, PerhapsHasOneHome, SameGroupIffSameSignature, is_certainly, times_in}
-use Rattle.crash_signatures.specs.Grouping.{IsGrouping, group_with, grouped_members}
-use Rattle.crash_signatures.specs.Groups.{GroupSaid, first_home, has_no_other, home_at, home_in, home_of, if_sole, is_at, is_home, is_in, member_of, members, signatures, with_home}
+use Rattle.crash_signatures.specs.GroupLaws.{EachCoreIsInOneGroup, HasOneHome, PerhapsHasOneHome, SameGroupIffSameSignature, is_certainly, times_in}
+use Rattle.crash_signatures.specs.Grouping.{group_with, grouped_members}
+use Rattle.crash_signatures.specs.Groups.{has_no_other, home_in, home_of, if_sole, is_at, is_home, is_in, member_of, members, signatures, with_home}
 use Rattle.crash_signatures.specs.declared.groups.Core.{Core}
 use Rattle.crash_signatures.specs.declared.groups.Member.{Member}
 use Rattle.crash_signatures.proofs.GroupLemmas.{is_other}

@@ -1,13 +1,13 @@
 -- Why signatures are short, and why it doesn't matter where files are mapped.
-use Rattle.std.proofs.Common.{◌≡◌, ℕ, ◌+◌, ◌-◌, ◌<◌, ◌≤◌, Bool, true, false, ◌&&◌, cond, List, [], ◌∷◌, ◌++◌, codes, length, take, drop, map, min, Option, None, Some, option_map, refl, sym, ap, subst, ◌∙◌, arith}
+use Rattle.std.proofs.Common.{◌≡◌, ℕ, ◌+◌, ◌-◌, ◌≤◌, Bool, true, false, ◌&&◌, cond, List, [], ◌∷◌, ◌++◌, codes, length, take, drop, map, Option, None, Some, option_map, refl, ap, ◌∙◌, arith}
 use Rattle.std.proofs.lemmas.List.{length-take}
 use Rattle.std.specs.List.{position}
 use Rattle.std.specs.Prelude.{nat_lt}
 use Rattle.script_words.specs.Printing.{hexadecimal}
-use Rattle.crash_signatures.specs.Frames.{FileSaid, FrameSaid, function_word, mark, named, place_in, place_mark, place_text, place_word, word_of}
+use Rattle.crash_signatures.specs.Frames.{FileSaid, FrameSaid, function_word, mark, named, place_mark, place_text, place_word, word_of}
 use Rattle.crash_signatures.specs.Names.{base_name}
 use Rattle.crash_signatures.specs.Recursion.{cycle_among, least_turn}
-use Rattle.crash_signatures.specs.Signature.{HandledSaid, SignatureSaid, behind, by_cycle, by_signal, handling, is_fault, is_missing, is_signal_frame, kept_words, plain, recursive, signal_mark, signature, unhandled}
+use Rattle.crash_signatures.specs.Signature.{HandledSaid, behind, by_cycle, by_signal, handling, is_fault, is_signal_frame, kept_words, signal_mark, signature, unhandled}
 use Rattle.crash_signatures.specs.SignatureLaws.{AreMoved, IsMoved, MovedAlikeIsSignedAlike, SignaturesAreShort, moved_file}
 use Rattle.crash_signatures.specs.Words.{WordSaid}
 

@@ -1,10 +1,10 @@
 -- Parts of names.
 use Rattle.std.proofs.Common.{◌≡◌, ℕ, zero, suc, ◌+◌, ◌-◌, ◌<◌, ◌≤◌, ◌==◌, slice_index, Bool, true, false, not, ◌&&◌, cond, List, [], ◌∷◌, ◌++◌, length, take, drop, get_or, Option, None, Some, refl, sym, ap, subst, ◌∙◌, arith}
-use Rattle.std.proofs.lemmas.Bool.{false≢true, ltb-true, ltb-false}
+use Rattle.std.proofs.lemmas.Bool.{ltb-true, ltb-false}
 use Rattle.std.proofs.lemmas.List.{append-nil, length-drop, take_all}
 use Rattle.std.proofs.lemmas.List.Sums.{fails_before_first, suffix_len_is}
 use Rattle.std.proofs.lemmas.List.Splits.{slice_split_first, slice_split_none}
-use Rattle.std.specs.List.{after_last, before_first, list_all, position, position_or_len, slice_split, suffix_len}
+use Rattle.std.specs.List.{before_first, list_all, position, position_or_len, slice_split, suffix_len}
 use Rattle.std.specs.Prelude.{nat_lt}
 use Rattle.memchr.specs.Find.{IsLastByte, is_byte}
 use Rattle.crash_signatures.specs.Names.{before_addition, is_added, is_addition, is_dot, last_part, without_addition}

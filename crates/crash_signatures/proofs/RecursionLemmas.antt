@@ -1,9 +1,9 @@
 -- Cycles, their periods and their turns.
-use Rattle.std.proofs.Common.{◌≡◌, ℕ, zero, suc, ◌+◌, ◌-◌, ◌<◌, ◌≤◌, Bool, true, false, cond, List, [], ◌∷◌, ◌++◌, length, take, drop, drop-cons, get_or, map, Option, None, Some, option_map, refl, sym, ap, subst, ◌∙◌, arith}
-use Rattle.std.specs.Prelude.{min, nat_le, nat_lt}
+use Rattle.std.proofs.Common.{◌≡◌, ℕ, zero, suc, ◌+◌, ◌-◌, ◌<◌, ◌≤◌, Bool, true, false, cond, List, [], ◌∷◌, length, take, drop, drop-cons, get_or, map, Option, None, Some, option_map, refl, sym, ap, ◌∙◌, arith}
+use Rattle.std.specs.Prelude.{min, nat_le}
 use Rattle.std.proofs.lemmas.Bool.{le-ltb, leb-false, leb-true}
 use Rattle.std.proofs.lemmas.List.{drop_all, length-drop, length-map}
-use Rattle.crash_signatures.specs.Recursion.{cycle_among, cycle_at, has_period, least_turn, lesser, or_else, period_from, period_at, turned}
+use Rattle.crash_signatures.specs.Recursion.{cycle_among, cycle_at, has_period, or_else, period_from, period_at}
 use Rattle.crash_signatures.specs.WordViews.{said}
 use Rattle.crash_signatures.specs.Words.{WordSaid, same_words}
 use Rattle.crash_signatures.specs.declared.words.Word.{Word}

@@ -1,11 +1,10 @@
 -- Signatures of walks.
-use Rattle.std.proofs.Common.{◌≡◌, ℕ, zero, suc, ◌+◌, ◌-◌, ◌<◌, ◌≤◌, Bool, true, false, not, ◌&&◌, ◌||◌, cond, ltb, List, [], ◌∷◌, ◌++◌, codes, length, take, drop, map, min, Option, None, Some, option_map, refl, sym, ap, subst, ◌∙◌, arith}
-use Rattle.std.proofs.lemmas.List.{length-map, take-map, map-append}
+use Rattle.std.proofs.Common.{◌≡◌, ℕ, ◌+◌, ◌-◌, Bool, true, false, not, ◌&&◌, ◌||◌, cond, ltb, List, [], ◌∷◌, ◌++◌, length, take, drop, map, min, Option, None, Some, refl, sym, ap, ◌∙◌}
+use Rattle.std.proofs.lemmas.List.{length-map, map-append}
 use Rattle.std.specs.List.{list_any, position, position_or_len, prefix_len}
-use Rattle.std.specs.Prelude.{nat_le, nat_lt}
-use Rattle.crash_signatures.specs.Frames.{mark}
-use Rattle.crash_signatures.specs.Signature.{HandledSaid, SignatureSaid, behind, handling, is_fault, is_missing, is_signal_frame, kept_words, plain, signal_mark, unhandled}
-use Rattle.crash_signatures.specs.Steps.{inner_part, is_outermost, without_death, without_repetitions}
+use Rattle.std.specs.Prelude.{nat_lt}
+use Rattle.crash_signatures.specs.Signature.{HandledSaid, SignatureSaid, behind, handling, is_fault, is_signal_frame, signal_mark, unhandled}
+use Rattle.crash_signatures.specs.Steps.{is_outermost}
 use Rattle.crash_signatures.specs.WordViews.{said}
 use Rattle.crash_signatures.specs.Words.{WordSaid}
 use Rattle.crash_signatures.specs.declared.words.Word.{Word}

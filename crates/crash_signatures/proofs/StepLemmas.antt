@@ -1,7 +1,7 @@
 -- The ways to die, the outermost part, and repetitions.
-use Rattle.std.proofs.Common.{◌≡◌, ℕ, zero, suc, ◌+◌, ◌-◌, ◌*◌, ◌<◌, ◌≤◌, ◌==◌, Bool, true, false, not, ◌&&◌, cond, List, [], ◌∷◌, ◌++◌, length, take, drop, drop-cons, get_or, map, max, min, refl, sym, ap, subst, ◌∙◌, append_assoc, arith}
-use Rattle.std.proofs.lemmas.Bool.{eqb-false, eqb-true, le-leb, leb-false, leb-true, ne_eqb}
-use Rattle.std.proofs.lemmas.List.{append-nil, drop_all, drop-map, length-map, length-take, get_or-map, map-append, take_all, take-map}
+use Rattle.std.proofs.Common.{◌≡◌, ℕ, zero, suc, ◌+◌, ◌-◌, ◌*◌, ◌<◌, ◌≤◌, ◌==◌, Bool, true, false, not, ◌&&◌, cond, List, [], ◌∷◌, ◌++◌, length, take, drop, drop-cons, get_or, map, max, min, refl, sym, ap, ◌∙◌, append_assoc, arith}
+use Rattle.std.proofs.lemmas.Bool.{eqb-false, eqb-true, le-leb, ne_eqb}
+use Rattle.std.proofs.lemmas.List.{append-nil, drop_all, drop-map, length-map, length-take, get_or-map, map-append, take_all}
 use Rattle.std.proofs.lemmas.List.Sums.{suffix_len-take_no, suffix_len-take_yes}
 use Rattle.std.specs.List.{suffix_len}
 use Rattle.std.specs.Prelude.{fold, nat_le}

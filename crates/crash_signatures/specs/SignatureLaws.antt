@@ -1,5 +1,5 @@
 -- What holds of signatures.
-use Rattle.std.specs.Prelude.{◌≡◌, ℕ, ◌+◌, ◌≤◌, Bool, nat_lt, List, [], ◌∷◌, length, map, Option, None, option_map}
+use Rattle.std.specs.Prelude.{◌≡◌, ℕ, ◌+◌, ◌≤◌, Bool, nat_lt, List, [], ◌∷◌, length, map, Option, option_map}
 use Rattle.crash_signatures.specs.Frames.{FileSaid, FrameSaid, word_of}
 use Rattle.crash_signatures.specs.Signature.{HandledSaid, signature}
 use Rattle.crash_signatures.specs.Words.{WordSaid}

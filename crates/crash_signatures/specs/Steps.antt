@@ -1,5 +1,5 @@
 -- Which words of a walk say how a process died.
-use Rattle.std.specs.Prelude.{ℕ, ◌+◌, ◌*◌, ◌-◌, ◌==◌, Bool, true, false, not, ◌&&◌, ◌||◌, nat_le, List, [], ◌∷◌, ◌++◌, length, take, drop, codes, fold, if◌then◌else◌}
+use Rattle.std.specs.Prelude.{ℕ, ◌*◌, ◌-◌, ◌==◌, Bool, false, not, ◌&&◌, ◌||◌, nat_le, List, [], ◌∷◌, ◌++◌, length, take, drop, codes, fold, if◌then◌else◌}
 use Rattle.std.specs.List.{suffix_len}
 use Rattle.std.specs.Str.{bytes_eq}
 use Rattle.crash_signatures.specs.Tables.{is_death, is_outer}

@@ -1,5 +1,5 @@
 -- Words and frames as the program has them.
-use Rattle.std.specs.Prelude.{ℕ, List, Option, option_map}
+use Rattle.std.specs.Prelude.{ℕ, List, option_map}
 use Rattle.std.specs.Borrow.{Bor}
 use Rattle.crash_signatures.specs.Frames.{FileSaid, FrameSaid}
 use Rattle.crash_signatures.specs.Words.{WordSaid}

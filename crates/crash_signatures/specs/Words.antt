@@ -1,5 +1,5 @@
 -- Words of a signature.
-use Rattle.std.specs.Prelude.{ℕ, ◌==◌, Bool, ◌&&◌, nat_eq, List}
+use Rattle.std.specs.Prelude.{ℕ, Bool, ◌&&◌, nat_eq, List}
 use Rattle.std.specs.Cmp.Lexicographic.{pointwise, slice_cmp}
 use Rattle.std.proofs.Math.Bool.{beq}
 use Rattle.std.specs.Ordering.{bool_cmp, nat_cmp, ordering_then}

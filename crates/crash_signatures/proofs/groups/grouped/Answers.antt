@@ -1,8 +1,8 @@
-use Rattle.std.proofs.Common.{List, map, ap, subst, sym, ◌∙◌, rules}
+use Rattle.std.proofs.Common.{List, map, ap, subst, ◌∙◌, rules}
 use Rattle.std.specs.List.Sorted.{IsPermutation}
 use Rattle.std.proofs.lemmas.List.Sorted.{IsNonDecreasingBy-from_sort_by_key, IsPermutation-map}
 use Rattle.crash_signatures.specs.Grouping.{group_said, grouped_members}
-use Rattle.crash_signatures.specs.Groups.{GroupSaid, members, rank}
+use Rattle.crash_signatures.specs.Groups.{GroupSaid, rank}
 use Rattle.crash_signatures.proofs.GroupLemmas.{ranks}
 use Rattle.crash_signatures.proofs.groups.grouped.Goals as goal
 

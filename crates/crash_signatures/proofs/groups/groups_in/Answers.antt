@@ -1,4 +1,4 @@
-use Rattle.std.proofs.Common.{map, ap, ◌∙◌}
+use Rattle.std.proofs.Common.{map}
 use Rattle.crash_signatures.specs.Grouping.{group_said}
 use Rattle.crash_signatures.proofs.GroupLemmas.{known_group, new_group}
 use Rattle.crash_signatures.proofs.groups.groups_in.Goals as goal

@@ -1,4 +1,4 @@
-use Rattle.std.proofs.Common.{◌≡◌, ◌-◌, ◌≤◌, ◌<◌, length, map}
+use Rattle.std.proofs.Common.{◌≡◌, ◌-◌, map}
 use Rattle.crash_signatures.specs.Recursion.{least_turn}
 use Rattle.crash_signatures.specs.WordViews.{said}
 use Rattle.crash_signatures.proofs.recursion.least_turn.Given as goal

@@ -1,9 +1,8 @@
-use Rattle.std.proofs.Common.{true, List, [], ◌∷◌, ◌++◌, length, map, take, drop, ap, sym, ◌∙◌}
+use Rattle.std.proofs.Common.{true, List, [], ◌∷◌, ◌++◌, map, take, ap, ◌∙◌}
 use Rattle.std.specs.Option.{option_map}
 use Rattle.crash_signatures.specs.SignatureViews.{handled_said, signature_said}
 use Rattle.crash_signatures.specs.WordViews.{said}
 use Rattle.crash_signatures.specs.declared.words.Word.{Word}
-use Rattle.crash_signatures.specs.Words.{WordSaid}
 use Rattle.crash_signatures.specs.Signature.{behind, unhandled}
 use Rattle.crash_signatures.proofs.SignatureLemmas.{had_failed, handler_failed}
 use Rattle.crash_signatures.proofs.signature.handling.Goals as goal
