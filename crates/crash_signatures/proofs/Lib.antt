@@ -7,3 +7,4 @@ pub mod SignatureLemmas
 pub mod LawLemmas
 pub mod GroupLemmas
 pub mod GroupLawLemmas
+pub mod TurnLemmas

@@ -1,8 +1,11 @@
 -- What holds of signatures.
-use Rattle.std.specs.Prelude.{◌≡◌, ℕ, ◌+◌, ◌≤◌, Bool, nat_lt, List, [], ◌∷◌, length, map, Option, option_map}
+use Rattle.std.specs.Prelude.{◌≡◌, ℕ, ◌+◌, ◌-◌, ◌≤◌, Bool, false, nat_lt, List, [], ◌∷◌, length, map, Option, option_map}
+use Rattle.std.specs.Cmp.Lexicographic.{slice_cmp}
+use Rattle.std.specs.Ordering.{is_lt}
 use Rattle.crash_signatures.specs.Frames.{FileSaid, FrameSaid, word_of}
+use Rattle.crash_signatures.specs.Recursion.{least_turn, turned}
 use Rattle.crash_signatures.specs.Signature.{HandledSaid, signature}
-use Rattle.crash_signatures.specs.Words.{WordSaid}
+use Rattle.crash_signatures.specs.Words.{WordSaid, word_cmp}
 
 -- at most seven words
 abbrev pub SignaturesAreShort : Type 0
@@ -34,3 +37,14 @@ AreMoved (f ∷ fs) (g ∷ gs) = ((distance : ℕ) × IsMoved distance f g) × A
 abbrev pub MovedAlikeIsSignedAlike : Type 0
 MovedAlikeIsSignedAlike = (fs gs : List FrameSaid) (handled : Option HandledSaid) (is_whole : Bool) → AreMoved fs gs
     → signature (map word_of gs) handled is_whole ≡ signature (map word_of fs) handled is_whole
+
+-- one of the turns of a cycle, and no turn of it is less
+pub record IsLeastTurn (cycle least : List WordSaid) : Type 0 where
+  pub places : ℕ
+  pub within : places ≤ length cycle - 1
+  pub turn : least ≡ turned places cycle
+  pub none_less : (k : ℕ) → k ≤ length cycle - 1 → is_lt (slice_cmp word_cmp (turned k cycle) least) ≡ false
+
+-- the words of a deep recursion are those of the least turn of its cycle
+abbrev pub RecursionsAreTurned : Type 0
+RecursionsAreTurned = (cycle : List WordSaid) → IsLeastTurn cycle (least_turn (length cycle - 1) cycle)

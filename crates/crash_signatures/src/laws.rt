@@ -1,6 +1,6 @@
 //! What holds of signatures and groups. These functions do nothing.
 ghost use Rattle.crash_signatures.specs.GroupLaws.{EachCoreIsInOneGroup, PerhapsHasOneHome, SameGroupIffSameSignature};
-ghost use Rattle.crash_signatures.specs.SignatureLaws.{SignaturesAreShort, MovedAlikeIsSignedAlike};
+ghost use Rattle.crash_signatures.specs.SignatureLaws.{MovedAlikeIsSignedAlike, RecursionsAreTurned, SignaturesAreShort};
 
 /// A signature has at most seven words: two marks, and five others.
 pub fn a_signature_is_short()
@@ -11,6 +11,11 @@ pub fn a_signature_is_short()
 /// mapped, the signature is the same.
 pub fn moved_alike_is_signed_alike()
     ensures { MovedAlikeIsSignedAlike }
+{}
+
+/// The words of a deep recursion are one of the turns of its cycle, and none of the turns is less.
+pub fn a_recursion_is_turned()
+    ensures { RecursionsAreTurned }
 {}
 
 /// The groups of cores have each core once, among their cases or among those that are perhaps of them.
