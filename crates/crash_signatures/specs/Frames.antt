@@ -10,7 +10,7 @@ pub record FileSaid : Type 0 where
   pub start : ℕ
   pub offset : ℕ
 
--- what is known of a frame
+-- the facts of a frame
 pub record FrameSaid : Type 0 where
   pub pc : ℕ
   pub is_signal : Bool

@@ -16,7 +16,7 @@ is_home place c = is_at place c.place && not c.is_missing
 abbrev pub first_home : List Core → ℕ → Option ℕ
 first_home cores place = option_map (λ c. c.signature) (find (is_home place) cores)
 
--- a core is none of those of the place whose frames are all there, or has this signature
+-- a core has this signature, unless it is of another place or frames are missing
 abbrev pub has_no_other : ℕ → ℕ → Core → Bool
 has_no_other place signature c = not (is_home place c) || c.signature == signature
 

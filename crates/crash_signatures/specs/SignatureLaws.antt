@@ -16,7 +16,7 @@ abbrev pub moved_file : ℕ → FileSaid → FileSaid
 moved_file distance file = record { path = file.path; start = file.start + distance; offset = file.offset }
 
 -- A frame, and the same frame where the file at its address is mapped so many bytes higher. If no file is mapped there, the pc may
--- be another, but not one below 4096 in place of one that is not, or the other way round.
+-- be another, but both are below 4096, or neither is.
 pub record IsMoved (distance : ℕ) (f g : FrameSaid) : Type 0 where
   pub signal : g.is_signal ≡ f.is_signal
   pub function : g.function ≡ f.function

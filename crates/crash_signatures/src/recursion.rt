@@ -76,7 +76,7 @@ pub(crate) fn least_turn(cycle: &[Word]) -> Words
     best
 }
 
-// The cycle from this place on, and then what is before it.
+// The cycle from this place on, and then its words before that place.
 fn turned(cycle: &[Word], places: usize) -> Words
     requires cycle { length cycle.now ≤ 8 }
     requires places { places ≤ length cycle.now }

@@ -14,7 +14,7 @@ use crate::steps::{inner_part, is_outermost, without_death, without_repetitions}
 use crate::words::{Word, Words, add, add_words, joined};
 use arrayvec::ArrayVec;
 
-// How many words tell a crash, besides marks.
+// How many words a signature has, besides marks.
 const MOST: usize = 5;
 
 // Among how many words the frame of a signal is looked for.
