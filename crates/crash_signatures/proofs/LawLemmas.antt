@@ -42,19 +42,19 @@ same_place d pc file =
     ap (λ (n : ℕ). base_name file.path ++ codes "+" ++ hexadecimal n) e
 
 module _ (d : ℕ) (f g : FrameSaid) (moved : IsMoved d f g) where
-  same_mark : place_mark g ≡ place_mark f
-  same_mark =
+  same_mark : f.file ≡ None → place_mark g ≡ place_mark f
+  same_mark none =
       ap (λ (t : Bool). cond t (codes "<vdso>") (cond (nat_lt g.pc 4096) (codes "<null>") (cond g.has_files (codes "<wild>") (codes "?")))) moved.vdso
-      ∙ ap (λ (t : Bool). cond f.is_vdso (codes "<vdso>") (cond t (codes "<null>") (cond g.has_files (codes "<wild>") (codes "?")))) moved.null
+      ∙ ap (λ (t : Bool). cond f.is_vdso (codes "<vdso>") (cond t (codes "<null>") (cond g.has_files (codes "<wild>") (codes "?")))) (moved.null none)
       ∙ ap (λ (t : Bool). cond f.is_vdso (codes "<vdso>") (cond (nat_lt f.pc 4096) (codes "<null>") (cond t (codes "<wild>") (codes "?")))) moved.files
 
-  same_place_word : (o : Option FileSaid) → place_word g (option_map (moved_file d) o) ≡ place_word f o
-  same_place_word None = ap mark same_mark
-  same_place_word (Some file) =
-      ap (λ (n : ℕ). named (take 256 (place_text (moved_file d file) n))) moved.pc ∙ ap (λ (t : List ℕ). named (take 256 t)) (same_place d f.pc file)
+  same_place_word : (o : Option FileSaid) → f.file ≡ o → place_word g (option_map (moved_file d) o) ≡ place_word f o
+  same_place_word None none = ap mark (same_mark none)
+  same_place_word (Some file) its =
+      ap (λ (n : ℕ). named (take 256 (place_text (moved_file d file) n))) (moved.pc file its) ∙ ap (λ (t : List ℕ). named (take 256 t)) (same_place d f.pc file)
 
   same_function_word : (o : Option (List ℕ)) → function_word g o ≡ function_word f o
-  same_function_word None = ap (place_word g) moved.file ∙ same_place_word f.file
+  same_function_word None = ap (place_word g) moved.file ∙ same_place_word f.file refl
   same_function_word (Some name) = refl
 
   same_word_of : word_of g ≡ word_of f

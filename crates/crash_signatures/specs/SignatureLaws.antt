@@ -1,5 +1,5 @@
 -- What holds of signatures.
-use Rattle.std.specs.Prelude.{◌≡◌, ℕ, ◌+◌, ◌-◌, ◌≤◌, Bool, false, nat_lt, List, [], ◌∷◌, length, map, Option, option_map}
+use Rattle.std.specs.Prelude.{◌≡◌, ℕ, ◌+◌, ◌-◌, ◌≤◌, Bool, false, nat_lt, List, [], ◌∷◌, length, map, Option, None, Some, option_map}
 use Rattle.std.specs.Cmp.Lexicographic.{slice_cmp}
 use Rattle.std.specs.Ordering.{is_lt}
 use Rattle.crash_signatures.specs.Frames.{FileSaid, FrameSaid, word_of}
@@ -15,14 +15,14 @@ SignaturesAreShort = (ws : List WordSaid) (handled : Option HandledSaid) (is_who
 abbrev pub moved_file : ℕ → FileSaid → FileSaid
 moved_file distance file = record { path = file.path; start = file.start + distance; offset = file.offset }
 
--- A frame, and the same frame where the file at its address is mapped so many bytes higher. If no file is mapped there, the pc may
--- be another, but both are below 4096, or neither is.
+-- A frame, and the same frame if the file at its address is mapped so many bytes higher. If no file is mapped there, the pc may be
+-- any other, but both are below 4096, or neither is.
 pub record IsMoved (distance : ℕ) (f g : FrameSaid) : Type 0 where
   pub signal : g.is_signal ≡ f.is_signal
   pub function : g.function ≡ f.function
   pub file : g.file ≡ option_map (moved_file distance) f.file
-  pub pc : g.pc ≡ f.pc + distance
-  pub null : nat_lt g.pc 4096 ≡ nat_lt f.pc 4096
+  pub pc : (file : FileSaid) → f.file ≡ Some file → g.pc ≡ f.pc + distance
+  pub null : f.file ≡ None → nat_lt g.pc 4096 ≡ nat_lt f.pc 4096
   pub vdso : g.is_vdso ≡ f.is_vdso
   pub files : g.has_files ≡ f.has_files
 
