@@ -11,7 +11,7 @@ _corekeep() {
         return
     fi
     case $before in
-    --half | --data | --template | --limit | --length | --stall | --keep | --bytes | --before | --exec | --label | --text | --name | --pid | --since | --until | --last) return ;;
+    --half | --data | --template | --limit | --length | --stall | --id | --keep | --bytes | --before | --exec | --label | --text | --name | --pid | --since | --until | --last) return ;;
     --kind)
         COMPREPLY=($(compgen -W "core exec" -- "$word"))
         return
@@ -33,7 +33,7 @@ _corekeep() {
     case ${COMP_WORDS[1]} in
     format) options="--half --data --sparse --layout --quiet --help" ;;
     run) options="--no-wait $session --help" ;;
-    store) options="--exec --pin --label --escape --keep --bytes --before --fit --fair --cut --length --stall --spool --log --no-wait --quiet $session --help" ;;
+    store) options="--exec --pin --label --escape --keep --bytes --before --fit --fair --cut --length --stall --spool --build --id --debug --log --no-wait --quiet $session --help" ;;
     handle) options="--check --flush --archive --length --stall --help" ;;
     list) options="--json --kind --name --pid --signal --since --until --label --pinned --last --no-wait --help" ;;
     info) options="--threads --json --no-wait --help" ;;

@@ -1,3 +1,4 @@
+pub mod Builds
 pub mod Asking
 pub mod Checks
 pub mod Copying

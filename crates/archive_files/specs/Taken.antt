@@ -2,12 +2,9 @@
 use Rattle.std.specs.Prelude.{◌≡◌, ℕ, List, Option, Some, None, Result, Ok, Err}
 use Rattle.case_journal.specs.Viewing.{OnlyReads}
 use Rattle.disk_model.specs.declared.disk.Disk as disk
-use Rattle.disk_model.specs.declared.file_fault.FileFault.{FileFault}
 use Rattle.archive_files.specs.declared.failures.Failure.{Failure}
 use Rattle.archive_files.specs.declared.failures.Failure.TheVariants.{Refused}
-use Rattle.archive_files.specs.declared.failures.FileWord.TheVariants as word
 use Rattle.archive_files.specs.declared.failures.Refusal.{Refusal}
-use Rattle.archive_files.specs.declared.failures.Refusal.TheVariants.{File}
 use Rattle.archive_files.specs.declared.storing.StoreRequest.{StoreRequest}
 use Rattle.archive_files.specs.OverDisks.{LooksOnDisk, StoresFile}
 
@@ -17,16 +14,16 @@ abbrev pub StoresTaken : {D : Type 0} → disk.Ghosts D → StoreRequest → Opt
 StoresTaken {D} g request file taken taken' lost lost' (Ok before) r left = (after : D) × (left ≡ Some after) × StoresFile g request file taken taken' lost lost' before r after
 StoresTaken g request file taken taken' lost lost' (Err refusal) r left = (r ≡ Err (Refused refusal)) × (left ≡ None) × (taken' ≡ taken) × (lost' ≡ lost)
 
--- what is told where a file is at fault, and this was found of its archive: what is wrong with the archive comes first
-abbrev pub refused_after : Result (Unit {0}) Refusal → FileFault → Result (Unit {0}) Failure
-refused_after (Ok u) fault = Err (Refused (File word.File fault))
-refused_after (Err refusal) fault = Err (Refused refusal)
+-- why a file is refused, if this was found of its archive: a fault of the archive comes first
+abbrev pub refused_after : Result (Unit {0}) Refusal → Refusal → Result (Unit {0}) Failure
+refused_after (Ok u) refusal = Err (Refused refusal)
+refused_after (Err damage) refusal = Err (Refused damage)
 
--- A file at fault is refused: the archive on the disk that was taken is opened, and no more.
-abbrev pub RefusesTaken : {D : Type 0} → disk.Ghosts D → ℕ → FileFault → Result D Refusal → Result (Unit {0}) Failure → Option D → Type 0
-RefusesTaken {D} g limit fault (Ok before) r left =
-    (after : D) × (looked : Result (Unit {0}) Refusal) × (left ≡ Some after) × LooksOnDisk g limit before looked after × (r ≡ refused_after looked fault)
-RefusesTaken g limit fault (Err refusal) r left = (r ≡ Err (Refused refusal)) × (left ≡ None)
+-- A file is refused: the archive on the disk that was taken is opened, and no more.
+abbrev pub RefusesTaken : {D : Type 0} → disk.Ghosts D → ℕ → Refusal → Result D Refusal → Result (Unit {0}) Failure → Option D → Type 0
+RefusesTaken {D} g limit refusal (Ok before) r left =
+    (after : D) × (looked : Result (Unit {0}) Refusal) × (left ≡ Some after) × LooksOnDisk g limit before looked after × (r ≡ refused_after looked refusal)
+RefusesTaken g limit refusal (Err untaken) r left = (r ≡ Err (Refused untaken)) × (left ≡ None)
 
 -- The disk that was taken, if one was, is only read; and what was told instead stays.
 abbrev pub OnlyReadsTaken : {D : Type 0} → disk.Ghosts D → Result D Refusal → Result D Refusal → Type 0

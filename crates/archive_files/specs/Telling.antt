@@ -10,10 +10,13 @@ use Rattle.journal_layout.specs.declared.faults.OpenFault.{OpenFault}
 use Rattle.journal_layout.specs.declared.faults.OpenFault.TheVariants as opening
 use Rattle.script_streams.specs.Telling.{IsDelivered}
 use Rattle.script_streams.specs.declared.streams.StreamFault.{StreamFault}
+use Rattle.image_replies.specs.Reasons.{elf_reason}
+use Rattle.archive_files.specs.declared.build_store.BuildFault.{BuildFault}
+use Rattle.archive_files.specs.declared.build_store.BuildFault.TheVariants as build
 use Rattle.archive_files.specs.declared.failures.Failure.{Failure}
 use Rattle.archive_files.specs.declared.failures.Failure.TheVariants.{Refused, Aside, Faulted, Unwritten, Told, Stalled}
 use Rattle.archive_files.specs.declared.failures.Refusal.{Refusal}
-use Rattle.archive_files.specs.declared.failures.Refusal.TheVariants.{BadLine, NoLine, Pipe, TemplateTooLong, BadShape, File, Unsafe, Output, LineTooLong, NotUtf8, OutOfMemory, Disk, Open, Call}
+use Rattle.archive_files.specs.declared.failures.Refusal.TheVariants.{BadLine, NoLine, Pipe, TemplateTooLong, BadShape, File, Unsafe, Output, LineTooLong, NotUtf8, OutOfMemory, Disk, Open, Call, Build}
 
 -- A text goes to an output that had taken `before`: it takes all of it, or a front of it until a write fails.
 abbrev pub IsToldAs : Option (List ℕ) → Option (List ℕ) → ℕ → ℕ → List ℕ → Type 0
@@ -38,6 +41,14 @@ file_words file.OutOfMemory = codes "OutOfMemory"
 file_words file.Settle = codes "Disk"
 file_words _ = codes "File"
 
+-- why a file can't be stored under the name of its build
+abbrev pub build_words : BuildFault → List ℕ
+build_words build.Short = codes "Short"
+build_words build.TooLong = codes "TooLong"
+build_words (build.Headers fault) = elf_reason fault
+build_words build.NoBuildId = codes "NoBuildId"
+build_words build.OtherBuild = codes "OtherBuild"
+
 -- what is refused
 abbrev pub refusal_words : Refusal → List ℕ
 refusal_words BadLine = codes "BadLine"
@@ -54,6 +65,7 @@ refusal_words OutOfMemory = codes "OutOfMemory"
 refusal_words Disk = codes "Disk"
 refusal_words (Open fault) = open_words fault
 refusal_words (Call fault) = reason_of fault
+refusal_words (Build fault) = build_words fault
 
 abbrev pub fault_words : SessionFault → List ℕ
 fault_words ReadFailed = codes "ReadFailed"

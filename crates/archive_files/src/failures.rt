@@ -1,15 +1,18 @@
 // Why the program ends with a status other than 0, and how it says so.
 ghost use Rattle.std.specs.Prelude.{◌≡◌, ◌≢◌, ◌≤◌, true};
+ghost use Rattle.image_replies.specs.Reasons.{elf_reason};
 ghost use Rattle.script_streams.specs.Replies.{TellsText, telling, no_reply};
 ghost use Rattle.script_streams.specs.Telling.{IsDelivered};
-ghost use Rattle.archive_files.specs.Telling.{IfFaulted, IfRefused, IsKeptAs, IsToldAs, fault_line, fault_words, file_words, is_aside, open_words, refusal_words, stall_words, stalled_line};
+ghost use Rattle.archive_files.specs.Telling.{IfFaulted, IfRefused, IsKeptAs, IsToldAs, build_words, fault_line, fault_words, file_words, is_aside, open_words, refusal_words, stall_words, stalled_line};
 ghost use Rattle.archive_files.specs.declared.failures.Failure.TheVariants.{Faulted, Refused};
 ghost use Rattle.archive_files.specs.declared.failures.Refusal.{Refusal};
 ghost use Rattle.inspector_cli.specs.declared.session.SessionFault.{SessionFault};
 
+use crate::build_store::BuildFault;
 use crate::collected::Collected;
 use case_journal::FormatFault;
 use disk_model::FileFault;
+use elf_view::ElfFault;
 use inspector_cli::{MemoryFault, SessionFault, reason};
 use intake::ArchiveFault;
 use journal_layout::{BadShape, OpenFault};
@@ -124,6 +127,8 @@ pub enum Refusal {
     Open(OpenFault),
     /// The archive refused a call.
     Call(ArchiveFault),
+    /// FILE can't be stored under the name of its build.
+    Build(BuildFault),
 }
 
 impl From<Refusal> for Failure {
@@ -372,6 +377,31 @@ fn tell_reason<O: Output>(reply: &mut Reply<'_, O>, refusal: Refusal)
         Refusal::Disk => reply.tell(b"Disk"),
         Refusal::Open(fault) => tell_open_fault(reply, fault),
         Refusal::Call(fault) => reply.tell(reason(fault)),
+        Refusal::Build(fault) => tell_build_fault(reply, fault),
+    }
+}
+
+// Tells why a file can't be stored under the name of its build.
+fn tell_build_fault<O: Output>(reply: &mut Reply<'_, O>, fault: BuildFault)
+    ensures { TellsText (telling O.Output reply.old reply.new) (build_words fault) }
+{
+    match fault {
+        BuildFault::Short => reply.tell(b"Short"),
+        BuildFault::TooLong => reply.tell(b"TooLong"),
+        BuildFault::Headers(fault) => tell_header_fault(reply, fault),
+        BuildFault::NoBuildId => reply.tell(b"NoBuildId"),
+        BuildFault::OtherBuild => reply.tell(b"OtherBuild"),
+    }
+}
+
+// Tells which field of the headers is at fault.
+fn tell_header_fault<O: Output>(reply: &mut Reply<'_, O>, fault: ElfFault)
+    ensures { TellsText (telling O.Output reply.old reply.new) (elf_reason fault) }
+{
+    reply.tell(fault.field.name().as_bytes());
+    if fault.field.has_index() {
+        reply.tell(b" ");
+        reply.tell_decimal(u128::from(fault.index));
     }
 }
 

@@ -54,7 +54,10 @@ pub fn store_file<R: AllocGlobal + Files<File = File> + Clock, I: Read, O: Outpu
                 onlooker,
             )
         }
-        Err(error) => refuse_taken(rt.alloc(), taken, request.limit(), FileFault::from(error)),
+        Err(error) => {
+            let fault = Refusal::File(FileWord::File, FileFault::from(error));
+            refuse_taken(rt.alloc(), taken, request.limit(), fault)
+        }
     }
 }
 
@@ -99,31 +102,31 @@ pub fn store_taken<D: Disk, I: Read, O: Output>(
     }
 }
 
-/// Tells what is wrong with the archive on a disk that was taken, or why it was not; or else what is wrong with the file.
+/// Tells what is wrong with the archive on a disk that was taken, or why it was not; or else why the file is refused.
 pub fn refuse_taken<D: Disk>(
     alloc: Global,
     taken: Result<D, Refusal>,
     limit: u64,
-    fault: FileFault,
+    refusal: Refusal,
 ) -> (Result<(), Failure>, Option<D>)
-    ensures { RefusesTaken D.Disk limit fault taken result.0 result.1 }
+    ensures { RefusesTaken D.Disk limit refusal taken result.0 result.1 }
 {
     match taken {
         Ok(disk) => {
             let (looked, disk) = look_over(alloc, disk, limit);
-            (refused_after(looked, fault), Some(disk))
+            (refused_after(looked, refusal), Some(disk))
         }
-        Err(refusal) => (Err(Failure::Refused(refusal)), None),
+        Err(untaken) => (Err(Failure::Refused(untaken)), None),
     }
 }
 
-// What is told where a file is at fault, and this was found of its archive.
-fn refused_after(looked: Result<(), Refusal>, fault: FileFault) -> Result<(), Failure>
-    ensures { result ≡ refused_after looked fault }
+// Why a file is refused, if this was found of its archive.
+fn refused_after(looked: Result<(), Refusal>, refusal: Refusal) -> Result<(), Failure>
+    ensures { result ≡ refused_after looked refusal }
 {
     match looked {
-        Ok(()) => Err(Failure::Refused(Refusal::File(FileWord::File, fault))),
-        Err(refusal) => Err(Failure::Refused(refusal)),
+        Ok(()) => Err(Failure::Refused(refusal)),
+        Err(damage) => Err(Failure::Refused(damage)),
     }
 }
 

@@ -4,6 +4,7 @@
 mod archive_path;
 mod archives;
 mod asking;
+mod build_store;
 mod checks;
 mod collected;
 mod copies;
@@ -30,6 +31,7 @@ pub use archives::{
     Access, NewArchive, WAITING, make_archive, names_output, take_disk, tell_trouble,
 };
 pub use asking::{ask_looked, unasked};
+pub use build_store::{BuildFault, BuildRequest, read_whole, refuse_file};
 pub use checks::check;
 pub use collected::Collected;
 pub use copies::{CopyWords, copy_archive_file, resize_archive_file};

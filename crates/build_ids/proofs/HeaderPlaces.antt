@@ -32,7 +32,7 @@ either_desc None b = refl
 either_desc (Some n) b = refl
 
 -- the build ID of notes is that of the first of them, or else that of the others
-id_append : (ms ns : List NoteView) → id_among (ms ++ ns) ≡ option_or (id_among ms) (id_among ns)
+pub id_append : (ms ns : List NoteView) → id_among (ms ++ ns) ≡ option_or (id_among ms) (id_among ns)
 id_append ms ns = ap (option_map (λ (n : NoteView). n.desc)) (find-append is_build_id ms ns) ∙ either_desc (find is_build_id ms) (find is_build_id ns)
 
 -- that of headers from number i on is that of header i, or else that of the next ones

@@ -15,7 +15,7 @@ use elf_view::{Elf, Segment, Want, u64_at};
 pub(crate) const PT_NOTE: u32 = 4;
 
 /// The build ID among the notes in a segment's bytes.
-fn id_in(bytes: &[u8], padding: Padding) -> Option<&[u8]>
+pub(crate) fn id_in(bytes: &[u8], padding: Padding) -> Option<&[u8]>
     ensures { option_map (λ id. id.now) result ≡ spec.id_among (notes_in padding bytes.now) }
 {
     let mut rest = bytes;

@@ -2,6 +2,8 @@
 use Rattle.std.proofs.Common.{◌≡◌, inl, inr, ℕ, Bool, true, false, not, cond, filter, find, map, List, [], ◌∷◌, ◌++◌, Option, None, Some, refl, sym, append_assoc, ap, subst, ◌∙◌}
 use Rattle.std.specs.Option.{is_none, option_or}
 use Rattle.std.specs.Str.{bytes_eq}
+use Rattle.build_replies.specs.NameWords.{is_one_of}
+use Rattle.std.specs.Prelude.{◌||◌}
 use Rattle.std.proofs.lemmas.Bool.{cases_Bool}
 use Rattle.std.proofs.lemmas.List.{append-nil, map-append}
 use Rattle.std.proofs.lemmas.List.Folds.{find-append}
@@ -103,3 +105,12 @@ pub names_end : (all left : List FileView) (rows : List ExecutableView) → AreS
 unfolding once
 names_end all left rows before none =
     sym (before ∙ ap (λ (fs : List FileView). map path_of rows ++ filter (is_new rows) (once (map name_of fs))) none ∙ append-nil (map path_of rows))
+
+one_more : (t : Bool) (x : ExecutableView) (o : Option ExecutableView) (more : Bool) → not (is_none o) ≡ more → not (is_none (cond t (Some x) o)) ≡ (t || more)
+one_more true x o more is = refl
+one_more false x o more is = is
+
+-- a name that is not new is one of them
+pub one_of : (rows : List ExecutableView) (name : List ℕ) → not (is_new rows name) ≡ is_one_of (map path_of rows) name
+one_of [] name = refl
+one_of (x ∷ xs) name = one_more (bytes_eq x.path name) x (find (is_named name) xs) (is_one_of (map path_of xs) name) (one_of xs name)

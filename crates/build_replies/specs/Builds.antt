@@ -1,4 +1,4 @@
--- The build IDs of a core's mapped files (core(5), NT_FILE), next to those of the executables that are stored under their names.
+-- The build IDs of a core's mapped files (core(5), NT_FILE), next to those of the executables that are stored for them.
 use Rattle.std.specs.Prelude.{ℕ, ◌-◌, ◌==◌, not, if◌then◌else◌, Bool, List, [], ◌∷◌, ◌++◌, filter, find, map, Option, None, Some, Result, Ok, Err, codes}
 use Rattle.std.specs.List.{flat_map}
 use Rattle.std.specs.Option.{option_and_then, option_map}
@@ -12,8 +12,8 @@ use Rattle.core_notes.specs.Typed.{first_desc}
 use Rattle.address_space.specs.Source.{Space, ExecutableView, Content, held, is_named}
 use Rattle.address_space.specs.Pieces.{PieceView, pieces_of}
 use Rattle.build_ids.specs.BuildId.{build_id_of}
-use Rattle.image_replies.specs.Lines.{if_there}
 use Rattle.memory_replies.specs.Memory.{memory_of}
+use Rattle.build_replies.specs.ByBuild.{chosen, chosen_id}
 
 -- each of the names once, at its first place
 unfoldable pub once : List (List ℕ) → List (List ℕ)
@@ -63,38 +63,53 @@ verdict None stored = codes "unknown"
 abbrev pub ids_words : Option (List ℕ) → Option (List ℕ) → List ℕ
 ids_words core stored = id_word core ++ (32 ∷ [] ++ (id_word stored ++ (32 ∷ [] ++ verdict core stored)))
 
--- a mapped file, by its name, with the build ID of its front and that of what is stored under the name
+-- a mapped file, by its name, with the build ID that the core tells for it: that of its front
+abbrev pub NamedId : Type 0
+NamedId = List ℕ × Option (List ℕ)
+
+abbrev pub told_as : List ExecutableView → List ℕ → NamedId
+told_as fronts name = (name, id_named fronts name)
+
+-- one for each name
+abbrev pub told_in : Space → List FileView → List NamedId
+told_in space files = map (told_as (fronts_of space files)) (once (map name_of files))
+
+-- those of a core, by the first NT_FILE (0x46494c45); none, if it has no such note. No executable is attached to the memory in which the
+-- fronts are.
+unfoldable pub told_of : List ℕ → Option (List NamedId)
+told_of b = option_map (λ desc. told_in (memory_of b []) (files_of desc)) (first_desc 0x46494c45 (notes_of Core b))
+
+-- none, if it has no such note
+abbrev pub told_or_none : Option (List NamedId) → List NamedId
+told_or_none None = []
+told_or_none (Some told) = told
+
+-- a mapped file, by its name, with the build ID of its front and that of what is chosen for it of what is stored
 pub record BuildValue : Type 0 where
   pub name : List ℕ
   pub core : Option (List ℕ)
   pub stored : Option (List ℕ)
 
--- by the fronts and what is stored
-abbrev pub build_value : List ExecutableView → List ExecutableView → List ℕ → BuildValue
-build_value fronts stored name = record { name = name; core = id_named fronts name; stored = id_named stored name }
+abbrev pub build_value : List ExecutableView → NamedId → BuildValue
+build_value stored t = record { name = t.0; core = t.1; stored = chosen_id (chosen stored t.1 t.0) }
 
--- one for each name
-abbrev pub values_of : Space → List ExecutableView → List FileView → List BuildValue
-values_of space stored files = map (build_value (fronts_of space files) stored) (once (map name_of files))
+-- one for each
+abbrev pub values_of : List ExecutableView → List NamedId → List BuildValue
+values_of stored told = map (build_value stored) told
 
--- those of a core, by the first NT_FILE (0x46494c45); none, if it has no such note. No executable is attached to the memory in which the
--- fronts are.
-unfoldable pub builds_of : List ℕ → List ExecutableView → Option (List BuildValue)
-builds_of b executables = option_map (λ desc. values_of (memory_of b []) executables (files_of desc)) (first_desc 0x46494c45 (notes_of Core b))
+-- those of a core
+abbrev pub builds_of : List ℕ → List ExecutableView → Option (List BuildValue)
+builds_of b stored = option_map (values_of stored) (told_of b)
 
 -- `NAME CORE STORED VERDICT`
 unfoldable pub build_line : BuildValue → List ℕ
 build_line v = shown v.name ++ (32 ∷ [] ++ (ids_words v.core v.stored ++ 10 ∷ []))
 
--- a line for each
-abbrev pub lines_of : Space → List ExecutableView → List FileView → List ℕ
-lines_of space stored files = flat_map build_line (values_of space stored files)
-
--- `builds`
-unfoldable pub builds_answer : List ℕ → List ExecutableView → Result (List ℕ) (List ℕ)
-builds_answer b executables = if_there (first_desc 0x46494c45 (notes_of Core b)) (λ desc. lines_of (memory_of b []) executables (files_of desc))
-
--- the same from the values
+-- a line for each, if the core has an NT_FILE
 abbrev pub printed : Option (List BuildValue) → Result (List ℕ) (List ℕ)
 printed None = Err (codes "Missing")
 printed (Some values) = Ok (flat_map build_line values)
+
+-- `builds`
+unfoldable pub builds_answer : List ℕ → List ExecutableView → Result (List ℕ) (List ℕ)
+builds_answer b stored = printed (builds_of b stored)

@@ -1,26 +1,21 @@
--- The executables that are used, one by one; and of a core of which not all bytes are at hand.
-use Rattle.std.proofs.Common.{◌≡◌, ◌<◌, inl, inr, ℕ, ◌+◌, Bool, true, false, cond, List, [], ◌∷◌, ◌++◌, take, map, length, get_or, filter, Option, None, Some, refl, sym, append_assoc, ap, subst, ◌∙◌}
+-- The executables that are used, file by file: each is of the build that was mapped, and no debug file.
+use Rattle.std.proofs.Common.{◌≡◌, ◌<◌, inl, inr, ℕ, ◌+◌, Bool, true, false, not, cond, List, [], ◌∷◌, ◌++◌, take, map, length, get_or, filter, find, Option, None, Some, refl, sym, append_assoc, ap, subst, ◌∙◌}
 use Rattle.std.specs.Prelude.{◌&&◌}
 use Rattle.std.specs.List.{AllByRecursion, flat_map}
-use Rattle.std.proofs.lemmas.Bool.{cases_Bool, false≢true}
+use Rattle.std.proofs.lemmas.Bool.{cases_Bool, false≢true, and_parts}
 use Rattle.std.proofs.lemmas.List.{append-nil, map-append, take_more}
 use Rattle.std.proofs.lemmas.Slice.Eq.{bytes_eq-Decides}
-use Rattle.elf_view.specs.NoteList.{NoteView}
-use Rattle.elf_view.specs.ViewWords.{notes_of}
-use Rattle.elf_view.specs.declared.faults.Want.TheVariants.{Core}
-use Rattle.core_notes.specs.Typed.{first_desc}
-use Rattle.address_space.specs.Source.{ExecutableView, Space}
-use Rattle.address_space.specs.SpaceWords.{attached_view}
-use Rattle.address_space.specs.Whole.{IsFrontOf}
-use Rattle.address_space.specs.declared.attached.Attached.{Attached}
+use Rattle.address_space.specs.Source.{ExecutableView, is_named}
 use Rattle.build_ids.specs.BuildId.{build_id_of}
-use Rattle.memory_replies.specs.Memory.{files_by, is_attached, mapped_files, memory_of}
-use Rattle.build_replies.specs.Builds.{fronts_of, id_named}
-use Rattle.build_replies.specs.Choosing.{Choice, Chosen, agrees, by_path, choice_for, choice_of, chosen, core_fronts, is_id, none, other, others_by, others_of, used_by, used_of}
-use Rattle.build_replies.specs.ChoosingWords.{ArePlacesOf, with_chosen}
-use Rattle.build_replies.specs.ComparedLaws.{memory_same}
-use Rattle.build_replies.specs.PlacesWords.{fronts_in}
-use Rattle.build_replies.specs.declared.places.FrontPlaces.{FrontPlaces}
+use Rattle.build_ids.specs.BuildName.{build_name, has_name}
+use Rattle.build_ids.specs.DebugFile.{is_debug}
+use Rattle.memory_replies.specs.Memory.{is_attached}
+use Rattle.build_replies.specs.Builds.{NamedId, id_named, told_as}
+use Rattle.build_replies.specs.ByBuild.{Chosen, agrees, as_file, build_first, build_stored, by_its_path, by_path, chosen, has_told_id, if_agrees, is_executable, is_id, none, other, others_by, stored_as, used_by}
+use Rattle.build_replies.specs.Choosing.{Choice, choice_of, if_stored, others_of, under_names, used_of}
+use Rattle.build_replies.specs.ChoosingWords.{with_chosen}
+use Rattle.build_replies.specs.Mapped.{id_view}
+use Rattle.build_replies.specs.declared.ids.FrontId.{FrontId}
 
 abbrev both : List ExecutableView → List ExecutableView → Choice
 both used others = record { used = used; others = others }
@@ -29,42 +24,25 @@ flat_more : {A B : Type 0} (f : A → List B) (xs : List A) (x : A) → flat_map
 flat_more f [] x = append-nil (f x)
 flat_more f (y ∷ ys) x = ap (λ zs. f y ++ zs) (flat_more f ys x) ∙ sym (append_assoc (f y) (flat_map f ys) (f x))
 
-more_by : (k : Chosen) (used others : List ExecutableView) → both (used ++ used_by k) (others ++ others_by k) ≡ with_chosen k (both used others)
-more_by (by_path x) used others = ap (both (used ++ x ∷ [])) (append-nil others)
-more_by (other x) used others = ap (λ us. both us (others ++ x ∷ [])) (append-nil used)
-more_by none used others = ap (λ us. both us (others ++ [])) (append-nil used) ∙ ap (both used) (append-nil others)
-
--- one executable more
-choice_more : (fronts xs : List ExecutableView) (x : ExecutableView) → choice_of fronts (xs ++ x ∷ []) ≡ with_chosen (chosen (id_named fronts x.path) x) (choice_of fronts xs)
-choice_more fronts xs x =
-    ap (λ us. both us (others_of fronts (xs ++ x ∷ []))) (flat_more (λ (y : ExecutableView). used_by (chosen (id_named fronts y.path) y)) xs x)
-    ∙ ap (both (used_of fronts xs ++ used_by (chosen (id_named fronts x.path) x))) (flat_more (λ (y : ExecutableView). others_by (chosen (id_named fronts y.path) y)) xs x)
-    ∙ more_by (chosen (id_named fronts x.path) x) (used_of fronts xs) (others_of fronts xs)
+-- one file more
+choice_more : (stored : List ExecutableView) (told : List NamedId) (t : NamedId) → choice_of (told ++ t ∷ []) stored ≡ with_chosen t.0 (chosen stored t.1 t.0) (choice_of told stored)
+choice_more stored told t =
+    ap (λ us. both us (others_of stored (told ++ t ∷ []))) (flat_more (λ (u : NamedId). used_by u.0 (chosen stored u.1 u.0)) told t)
+    ∙ ap (both (used_of stored told ++ used_by t.0 (chosen stored t.1 t.0))) (flat_more (λ (u : NamedId). others_by u.0 (chosen stored u.1 u.0)) told t)
 
 -- those that went by, and the next
-pub next_chosen : (fronts : List ExecutableView) (xs : List Attached) (i : ℕ) (d x : Attached) (id : Option (List ℕ)) (old new : Choice) → i < length xs → x ≡ get_or xs i d
-    → old ≡ choice_of fronts (map attached_view (take i xs)) → id ≡ id_named fronts x.path.now → new ≡ with_chosen (chosen id (attached_view x)) old
-    → new ≡ choice_of fronts (map attached_view (take (i + 1) xs))
-next_chosen fronts xs i d x id old new within is before told after =
-    let next : map attached_view (take (i + 1) xs) ≡ map attached_view (take i xs) ++ attached_view x ∷ [] =
-    ap (map attached_view) (take_more xs i d within)
-    ∙ map-append attached_view (take i xs) (get_or xs i d ∷ [])
-    ∙ ap (λ (y : Attached). map attached_view (take i xs) ++ attached_view y ∷ []) (sym is) in
-    after ∙ ap (with_chosen (chosen id (attached_view x))) before
-    ∙ ap (λ o. with_chosen (chosen o (attached_view x)) (choice_of fronts (map attached_view (take i xs)))) told
-    ∙ sym (choice_more fronts (map attached_view (take i xs)) (attached_view x))
-    ∙ ap (choice_of fronts) (sym next)
-
--- the fronts of a core, of which the first bytes have the places
-pub places_same : (front image : List ℕ) (size : ℕ) (places : FrontPlaces) → IsFrontOf front size image → notes_of Core front ≡ notes_of Core image → ArePlacesOf front size places → fronts_in image places ≡ core_fronts image
-places_same front image size places begins notes are =
-    are.fronts image begins
-    ∙ ap (λ (space : Space). fronts_of space (mapped_files front)) (memory_same front image notes)
-    ∙ ap (λ (ns : List NoteView). fronts_of (memory_of image []) (files_by (first_desc 0x46494c45 ns))) notes
-
-pub chosen_same : (image : List ℕ) (stored xs : List ExecutableView) → xs ≡ core_fronts image → choice_of xs stored ≡ choice_for image stored
-unfolding choice_for
-chosen_same image stored xs is = ap (λ fs. choice_of fs stored) is
+pub next_chosen : (stored : List ExecutableView) (files : List FrontId) (i : ℕ) (f : FrontId) (k : Chosen) (old new : Choice) → i < length files → f ≡ get_or files i f
+    → old ≡ choice_of (map id_view (take i files)) stored → k ≡ chosen stored (id_view f).1 (id_view f).0 → new ≡ with_chosen (id_view f).0 k old
+    → new ≡ choice_of (map id_view (take (i + 1) files)) stored
+next_chosen stored files i f k old new within is before picked after =
+    let next : map id_view (take (i + 1) files) ≡ map id_view (take i files) ++ id_view f ∷ [] =
+    ap (map id_view) (take_more files i f within)
+    ∙ map-append id_view (take i files) (get_or files i f ∷ [])
+    ∙ ap (λ (y : FrontId). map id_view (take i files) ++ id_view y ∷ []) (sym is) in
+    after ∙ ap (λ (c : Choice). with_chosen (id_view f).0 k c) before
+    ∙ ap (λ (j : Chosen). with_chosen (id_view f).0 j (choice_of (map id_view (take i files)) stored)) picked
+    ∙ sym (choice_more stored (map id_view (take i files)) (id_view f))
+    ∙ ap (λ (ts : List NamedId). choice_of ts stored) (sym next)
 
 -- The ID that is told for the file of its name is its own.
 abbrev pub IsOwn : List ExecutableView → ExecutableView → Type 0
@@ -74,56 +52,144 @@ own_by : (id : List ℕ) (o : Option (List ℕ)) → is_id id o ≡ true → o �
 own_by id None h = absurd (false≢true h)
 own_by id (Some own) h = ap Some (sym ((bytes_eq-Decides id own).0 h))
 
-and_right : (s t : Bool) → (s && t) ≡ true → t ≡ true
-and_right true t h = h
-and_right false t h = absurd (false≢true h)
+-- what an image that agrees is
+pub agreed_id : (id image : List ℕ) → agrees (Some id) image ≡ true → build_id_of image ≡ Some id
+unfolding agrees
+agreed_id id image h = own_by id (build_id_of image) (and_parts (not (is_debug image)) (is_id id (build_id_of image)) (and_parts (is_executable image) (not (is_debug image) && is_id id (build_id_of image)) h).1).1
 
-own_of : (fronts : List ExecutableView) (x : ExecutableView) → agrees (id_named fronts x.path) x ≡ true → IsOwn fronts x
-own_of fronts x h id told =
-    own_by id (build_id_of x.image) (and_right (is_attached x) (is_id id (build_id_of x.image)) (subst (λ o. agrees o x ≡ true) told h))
+not_true : (t : Bool) → not t ≡ true → t ≡ false
+not_true false h = refl
+not_true true h = absurd (false≢true h)
 
-used_none : (t : Bool) (x : ExecutableView) → used_by (cond t (other x) none) ≡ []
-used_none true x = refl
-used_none false x = refl
+pub agreed_code : (id : Option (List ℕ)) (image : List ℕ) → agrees id image ≡ true → is_debug image ≡ false
+unfolding agrees
+agreed_code id image h = not_true (is_debug image) (and_parts (not (is_debug image)) (has_told_id id image) (and_parts (is_executable image) (not (is_debug image) && has_told_id id image) h).1).0
 
-all_append : (P : ExecutableView → Type 0) (xs ys : List ExecutableView) → AllByRecursion P xs → AllByRecursion P ys → AllByRecursion P (xs ++ ys)
-all_append P [] ys all more = more
-all_append P (x ∷ xs) ys all more = (all.0, all_append P xs ys all.1 more)
+-- Whatever holds of each image that agrees holds of what is used for a file.
+module _ (P : ExecutableView → Type 0) (id : Option (List ℕ)) (path : List ℕ) (of_agreed : (x : ExecutableView) → agrees id x.image ≡ true → P (as_file path x)) where
+  of_path : (o : Option ExecutableView) → AllByRecursion P (used_by path (by_its_path id o))
+  of_path None = tt
+  of_path (Some x) =
+      elim (cases_Bool (agrees id x.image)) [
+        | inl passes ↦ subst (λ t. AllByRecursion P (used_by path (cond t (by_path x) (cond (is_executable x.image) (other x) none)))) (sym passes) (of_agreed x passes, tt)
+        | inr fails ↦
+            subst (λ t. AllByRecursion P (used_by path (cond t (by_path x) (cond (is_executable x.image) (other x) none)))) (sym fails) (of_other (is_executable x.image) x)
+      ]
+    where
+      of_other : (t : Bool) (y : ExecutableView) → AllByRecursion P (used_by path (cond t (other y) none))
+      of_other true y = tt
+      of_other false y = tt
 
-pub each_own : (fronts stored : List ExecutableView) → AllByRecursion (IsOwn fronts) (used_of fronts stored)
-each_own fronts [] = tt
-each_own fronts (x ∷ xs) =
-    let id = id_named fronts x.path in
-    let rest = each_own fronts xs in
-    all_append (IsOwn fronts) (used_by (chosen id x)) (used_of fronts xs)
-    (elim (cases_Bool (agrees id x)) [
-      | inl passes ↦ subst (λ t. AllByRecursion (IsOwn fronts) (used_by (cond t (by_path x) (cond (is_attached x) (other x) none)))) (sym passes) (own_of fronts x passes, tt)
-      | inr fails ↦
-          subst (λ t. AllByRecursion (IsOwn fronts) (used_by (cond t (by_path x) (cond (is_attached x) (other x) none)))) (sym fails)
-          (subst (AllByRecursion (IsOwn fronts)) (sym (used_none (is_attached x) x)) tt)
-    ])
-    rest
+  of_first : (o : Option ExecutableView) (k : Chosen) → ((x : ExecutableView) → o ≡ Some x → agrees id x.image ≡ true) → AllByRecursion P (used_by path k) → AllByRecursion P (used_by path (build_first o k))
+  of_first None k found rest = rest
+  of_first (Some x) k found rest = (of_agreed x (found x refl), tt)
 
--- Where no ID is told the path decides.
-one_plain : (t : Bool) (x : ExecutableView) (us : List ExecutableView) → used_by (cond (t && true) (by_path x) (cond t (other x) none)) ++ us ≡ cond t (x ∷ us) us
-one_plain true x us = refl
-one_plain false x us = refl
+found_agrees : (id : Option (List ℕ)) (o : Option ExecutableView) (x : ExecutableView) → if_agrees id o ≡ Some x → agrees id x.image ≡ true
+found_agrees id None x is = cc
+found_agrees id (Some y) x is =
+    elim (cases_Bool (agrees id y.image)) [
+      | inl passes ↦ (let found : Some y ≡ Some x = sym (ap (λ t. cond t (Some y) None) passes) ∙ is in let same : y ≡ x = cc in subst (λ (z : ExecutableView). agrees id z.image ≡ true) same passes)
+      | inr fails ↦ (let missing : None ≡ Some x = sym (ap (λ t. cond t (Some y) None) fails) ∙ is in cc)
+    ]
 
-none_other : (t : Bool) (x : ExecutableView) → others_by (cond (t && true) (by_path x) (cond t (other x) none)) ≡ []
-none_other true x = refl
-none_other false x = refl
+stored_agrees : (stored : List ExecutableView) (id : Option (List ℕ)) (x : ExecutableView) → build_stored stored id ≡ Some x → agrees id x.image ≡ true
+stored_agrees stored None x is = cc
+stored_agrees stored (Some id) x is =
+    elim (cases_Bool (has_name id)) [
+      | inl named ↦ found_agrees (Some id) (stored_as stored (build_name id)) x (sym (ap (λ t. cond t (if_agrees (Some id) (stored_as stored (build_name id))) None) named) ∙ is)
+      | inr unnamed ↦ (let missing : None ≡ Some x = sym (ap (λ t. cond t (if_agrees (Some id) (stored_as stored (build_name id))) None) unnamed) ∙ is in cc)
+    ]
 
-module _ (fronts : List ExecutableView) (unknown : (path : List ℕ) → id_named fronts path ≡ None) where
-  used_plain : (stored : List ExecutableView) → used_of fronts stored ≡ filter is_attached stored
+pub each_used : (P : ExecutableView → Type 0) (stored : List ExecutableView) (told : List NamedId) → AllByRecursion (λ (t : NamedId). (x : ExecutableView) → agrees t.1 x.image ≡ true → P (as_file t.0 x)) told → AllByRecursion P (used_of stored told)
+unfolding chosen
+each_used P stored [] all = tt
+each_used P stored (t ∷ ts) all =
+    all_append (used_by t.0 (chosen stored t.1 t.0)) (used_of stored ts)
+    (of_first P t.1 t.0 all.0 (build_stored stored t.1) (by_its_path t.1 (stored_as stored t.0)) (stored_agrees stored t.1) (of_path P t.1 t.0 all.0 (stored_as stored t.0)))
+    (each_used P stored ts all.1)
+  where
+    all_append : (xs ys : List ExecutableView) → AllByRecursion P xs → AllByRecursion P ys → AllByRecursion P (xs ++ ys)
+    all_append [] ys first more = more
+    all_append (x ∷ xs) ys first more = (first.0, all_append xs ys first.1 more)
+
+-- no file of another build is used
+pub each_own : (fronts stored : List ExecutableView) (names : List (List ℕ)) → AllByRecursion (IsOwn fronts) (used_of stored (map (told_as fronts) names))
+each_own fronts stored names = each_used (IsOwn fronts) stored (map (told_as fronts) names) (all names)
+  where
+    all : (ns : List (List ℕ)) → AllByRecursion (λ (t : NamedId). (x : ExecutableView) → agrees t.1 x.image ≡ true → IsOwn fronts (as_file t.0 x)) (map (told_as fronts) ns)
+    all [] = tt
+    all (n ∷ ns) = ((λ x passes id told. agreed_id id x.image (subst (λ o. agrees o x.image ≡ true) told passes)), all ns)
+
+-- no debug file is used
+abbrev pub HasCode : ExecutableView → Type 0
+HasCode x = is_debug x.image ≡ false
+
+pub each_with_code : (stored : List ExecutableView) (told : List NamedId) → AllByRecursion HasCode (used_of stored told)
+each_with_code stored told = each_used HasCode stored told (all told)
+  where
+    all : (ts : List NamedId) → AllByRecursion (λ (t : NamedId). (x : ExecutableView) → agrees t.1 x.image ≡ true → HasCode (as_file t.0 x)) ts
+    all [] = tt
+    all (t ∷ ts) = ((λ x passes. agreed_code t.1 x.image passes), all ts)
+
+-- Where no ID is told, and no debug file is stored, the path decides.
+code_found : (p : ExecutableView → Bool) (xs : List ExecutableView) (x : ExecutableView) → AllByRecursion HasCode xs → find p xs ≡ Some x → HasCode x
+code_found p [] x all is = cc
+code_found p (y ∷ ys) x all is =
+    elim (cases_Bool (p y)) [
+      | inl passed ↦ (let found : Some y ≡ Some x = sym (ap (λ t. cond t (Some y) (find p ys)) passed) ∙ is in let same : y ≡ x = cc in subst HasCode same all.0)
+      | inr failed ↦ code_found p ys x all.1 (sym (ap (λ t. cond t (Some y) (find p ys)) failed) ∙ is)
+    ]
+
+-- of one that is not used, as it is stored under the path, there is no other
+by_test : Bool → Bool → ExecutableView → Chosen
+by_test t debug x = cond (t && (not debug && true)) (by_path x) (cond t (other x) none)
+
+test_used : (t : Bool) (name : List ℕ) (x : ExecutableView) (us : List ExecutableView) → used_by name (by_test t false x) ++ us ≡ cond t (as_file name x ∷ us) us
+unfolding by_test
+test_used true name x us = refl
+test_used false name x us = refl
+
+test_others : (t : Bool) (name : List ℕ) (x : ExecutableView) → others_by name (by_test t false x) ≡ []
+unfolding by_test
+test_others true name x = refl
+test_others false name x = refl
+
+unknown_is : (x : ExecutableView) → by_its_path None (Some x) ≡ by_test (is_executable x.image) (is_debug x.image) x
+unfolding agrees by_test
+unknown_is x = refl
+
+module _ (fronts stored : List ExecutableView) (unknown : (path : List ℕ) → id_named fronts path ≡ None) (codes : AllByRecursion HasCode stored) where
+  name_unknown : (n : List ℕ) → chosen stored (id_named fronts n) n ≡ by_its_path None (stored_as stored n)
+  unfolding chosen
+  name_unknown n = ap (λ o. build_first (build_stored stored o) (by_its_path o (stored_as stored n))) (unknown n)
+
+  one_used : (n : List ℕ) (o : Option ExecutableView) (us : List ExecutableView) → stored_as stored n ≡ o → used_by n (by_its_path None o) ++ filter is_attached us ≡ filter is_attached (if_stored n o ++ us)
+  one_used n None us is = refl
+  one_used n (Some x) us is =
+      ap (λ k. used_by n k ++ filter is_attached us) (unknown_is x ∙ ap (λ d. by_test (is_executable x.image) d x) (code_found (is_named n) stored x codes is))
+      ∙ test_used (is_executable x.image) n x (filter is_attached us)
+
+  no_other : (n : List ℕ) (o : Option ExecutableView) → stored_as stored n ≡ o → others_by n (by_its_path None o) ≡ []
+  no_other n None is = refl
+  no_other n (Some x) is =
+      ap (others_by n) (unknown_is x ∙ ap (λ d. by_test (is_executable x.image) d x) (code_found (is_named n) stored x codes is))
+      ∙ test_others (is_executable x.image) n x
+
+  used_plain : (names : List (List ℕ)) → used_of stored (map (told_as fronts) names) ≡ filter is_attached (under_names stored names)
   used_plain [] = refl
-  used_plain (x ∷ xs) =
-      ap (λ o. used_by (chosen o x) ++ used_of fronts xs) (unknown x.path) ∙ one_plain (is_attached x) x (used_of fronts xs)
-      ∙ ap (λ us. cond (is_attached x) (x ∷ us) us) (used_plain xs)
+  used_plain (n ∷ ns) =
+      ap (λ k. used_by n k ++ used_of stored (map (told_as fronts) ns)) (name_unknown n)
+      ∙ ap (λ us. used_by n (by_its_path None (stored_as stored n)) ++ us) (used_plain ns)
+      ∙ one_used n (stored_as stored n) (under_names stored ns) refl
 
-  others_plain : (stored : List ExecutableView) → others_of fronts stored ≡ []
+  others_plain : (names : List (List ℕ)) → others_of stored (map (told_as fronts) names) ≡ []
   others_plain [] = refl
-  others_plain (x ∷ xs) =
-      ap (λ o. others_by (chosen o x) ++ others_of fronts xs) (unknown x.path) ∙ ap (λ us. us ++ others_of fronts xs) (none_other (is_attached x) x) ∙ others_plain xs
+  others_plain (n ∷ ns) =
+      ap (λ k. others_by n k ++ others_of stored (map (told_as fronts) ns)) (name_unknown n)
+      ∙ ap (λ os. os ++ others_of stored (map (told_as fronts) ns)) (no_other n (stored_as stored n) refl)
+      ∙ others_plain ns
 
-  pub choice_plain : (stored : List ExecutableView) → choice_of fronts stored ≡ record { used = filter is_attached stored; others = [] }
-  choice_plain stored = ap (λ us. both us (others_of fronts stored)) (used_plain stored) ∙ ap (both (filter is_attached stored)) (others_plain stored)
+  pub choice_plain : (names : List (List ℕ)) → choice_of (map (told_as fronts) names) stored ≡ record { used = filter is_attached (under_names stored names); others = [] }
+  choice_plain names =
+      ap (λ us. both us (others_of stored (map (told_as fronts) names))) (used_plain names)
+      ∙ ap (both (filter is_attached (under_names stored names))) (others_plain names)

@@ -1,13 +1,17 @@
 -- What the code's choice of executables means.
-use Rattle.std.specs.Prelude.{◌≡◌, ℕ, List, [], ◌∷◌, ◌++◌, map}
+use Rattle.std.specs.Prelude.{ℕ, List, [], ◌++◌, map}
 use Rattle.address_space.specs.SpaceWords.{attached_view}
-use Rattle.address_space.specs.Whole.{IsFrontOf, space_in}
-use Rattle.memory_replies.specs.Memory.{mapped_files, memory_of}
-use Rattle.build_replies.specs.Builds.{fronts_of}
-use Rattle.build_replies.specs.Choosing.{Choice, Chosen, by_path, other, none}
-use Rattle.build_replies.specs.PlacesWords.{fronts_in}
+use Rattle.build_replies.specs.Choosing.{Choice}
+use Rattle.build_replies.specs.ByBuild.{Chosen, by_build, by_path, none, other, others_by, used_by}
+use Rattle.build_replies.specs.declared.choosing.ChosenFile.{ChosenFile}
+use Rattle.build_replies.specs.declared.choosing.ChosenFile.TheVariants as code
 use Rattle.build_replies.specs.declared.choosing.ChosenExecutables.{ChosenExecutables}
-use Rattle.build_replies.specs.declared.places.FrontPlaces.{FrontPlaces}
+
+abbrev pub chosen_view : ChosenFile → Chosen
+chosen_view (code.ByBuild x) = by_build (attached_view x)
+chosen_view (code.ByPath x) = by_path (attached_view x)
+chosen_view (code.Other x) = other (attached_view x)
+chosen_view code.Nothing = none
 
 abbrev pub choice_view : ChosenExecutables → Choice
 choice_view c = record { used = map attached_view c.used.items; others = map attached_view c.others.items }
@@ -16,12 +20,5 @@ choice_view c = record { used = map attached_view c.used.items; others = map att
 abbrev pub no_choice : Choice
 no_choice = record { used = []; others = [] }
 
-abbrev pub with_chosen : Chosen → Choice → Choice
-with_chosen (by_path x) c = record { used = c.used ++ x ∷ []; others = c.others }
-with_chosen (other x) c = record { used = c.used; others = c.others ++ x ∷ [] }
-with_chosen none c = c
-
--- They are the places of the fronts of a core's mapped files, of which these are the first bytes of an image of that size.
-pub record ArePlacesOf (front : List ℕ) (count : ℕ) (places : FrontPlaces) : Type 0 where
-  pub fronts : (image : List ℕ) → IsFrontOf front count image → fronts_in image places ≡ fronts_of (space_in image (memory_of front [])) (mapped_files front)
-  pub size : places.size ≡ count
+abbrev pub with_chosen : List ℕ → Chosen → Choice → Choice
+with_chosen path k c = record { used = c.used ++ used_by path k; others = c.others ++ others_by path k }

@@ -1,9 +1,11 @@
+pub mod ByBuild
 pub mod Builds
 pub mod TableWords
+pub mod NameWords
 pub mod PlaceWords
 pub mod PlacesWords
-pub mod Compared
-pub mod ComparedLaws
+pub mod Mapped
+pub mod ToldLaws
 pub mod Choosing
 pub mod ChoosingWords
 pub mod ChoosingLaws

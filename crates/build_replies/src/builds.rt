@@ -1,5 +1,5 @@
 // The reply to `builds`.
-ghost use Rattle.std.specs.Prelude.{◌≡◌, ℕ, List, Some, length, map};
+ghost use Rattle.std.specs.Prelude.{◌≡◌, ℕ, List, Some, map};
 ghost use Rattle.std.specs.List.{flat_map};
 ghost use Rattle.std.specs.Option.{option_map};
 ghost use Rattle.script_streams.specs.Replies.{TellsReply, TellsText, telling};
@@ -8,10 +8,11 @@ ghost use Rattle.address_space.specs.Source.{ExecutableView};
 ghost use Rattle.image_replies.specs.CoreWords.{core_bytes};
 ghost use Rattle.memory_replies.specs.Answers.{AnswersWith};
 ghost use Rattle.build_replies.specs.Builds as spec;
-ghost use Rattle.build_replies.specs.Compared.{IsFoundOf, build_view};
+ghost use Rattle.build_replies.specs.Builds.{told_of};
+ghost use Rattle.build_replies.specs.Mapped.{build_view, id_view, told_view};
 
-use crate::compared::ComparedFiles;
-use crate::ids::{BuildAnswer, all_rows};
+use crate::answers::{BuildAnswer, build_answers};
+use crate::ids::{FrontId, told_ids};
 use address_space::Attached;
 use image_replies::CoreImage;
 use memory_replies::Outcome;
@@ -72,7 +73,7 @@ fn tell_lines<O: Output>(reply: &mut Reply<'_, O>, rows: &[BuildAnswer<'_>])
 }
 
 /// Tells the reply to `builds` of a core, by what is told of its mapped files. Says what became of it.
-pub fn tell_compared<O: Output>(reply: &mut Reply<'_, O>, rows: &[BuildAnswer<'_>]) -> Outcome
+fn tell_compared<O: Output>(reply: &mut Reply<'_, O>, rows: &[BuildAnswer<'_>]) -> Outcome
     ensures { (image : List ℕ) (xs : List ExecutableView) → spec.builds_of image xs ≡ Some (map build_view rows.now)
         → TellsReply (telling O.Output reply.old reply.new) (AnswersWith result (spec.builds_answer image xs)) }
 {
@@ -81,17 +82,17 @@ pub fn tell_compared<O: Output>(reply: &mut Reply<'_, O>, rows: &[BuildAnswer<'_
     Outcome::Done
 }
 
-/// Tells the reply of a core of which all bytes are at hand.
-fn tell_whole<O: Output>(
+/// Tells the reply for these mapped files, which a core has, with the executables that are stored.
+fn tell_files<O: Output>(
     alloc: Global,
     reply: &mut Reply<'_, O>,
-    core: &CoreImage<'_>,
-    compared: &ComparedFiles<'_>,
+    files: &[FrontId<'_>],
+    stored: &[Attached<'_>],
 ) -> Outcome
-    ensures { (xs : List ExecutableView) → IsFoundOf (core_bytes core.now) (length (core_bytes core.now)) xs (Some compared.now)
-        → TellsReply (telling O.Output reply.old reply.new) (AnswersWith result (spec.builds_answer (core_bytes core.now) xs)) }
+    ensures { (image : List ℕ) → told_of image ≡ Some (map id_view files.now)
+        → TellsReply (telling O.Output reply.old reply.new) (AnswersWith result (spec.builds_answer image (map attached_view stored.now))) }
 {
-    match all_rows(alloc, core.elf().image(), compared) {
+    match build_answers(alloc, files, stored) {
         Ok(rows) => tell_compared(reply, &rows),
         Err(_) => {
             tell_no(reply, b"OutOfMemory");
@@ -100,26 +101,40 @@ fn tell_whole<O: Output>(
     }
 }
 
-/// Tells the build IDs of a core's mapped files: `NAME CORE STORED VERDICT` for each name of NT_FILE, at its first place. CORE is
-/// that of the front of the file, as far as the core has it; STORED that of the first executable that was handed over under the
-/// name; each `-` where there is none. VERDICT is `unknown` where one is missing, else `same` or `differs`. A core without
-/// NT_FILE is answered by `no Missing`. Says what became of it.
+/// Tells the reply of a core that tells these mapped files, with the executables that are stored: `NAME CORE STORED VERDICT` for each name
+/// of NT_FILE, at its first place. CORE is the build ID of the front of the file, as far as the core has it. STORED is that of the
+/// executable that is stored for the file, whether it is used or not. Each is `-` if there is none. VERDICT is `unknown` if one is missing,
+/// else `same` or `differs`. A core without NT_FILE is answered by `no Missing`. Says what became of it.
+pub fn tell_told<O: Output>(
+    alloc: Global,
+    reply: &mut Reply<'_, O>,
+    told: &Option<Vec<FrontId<'_>>>,
+    stored: &[Attached<'_>],
+) -> Outcome
+    ensures { (image : List ℕ) → told_of image ≡ told_view told.now
+        → TellsReply (telling O.Output reply.old reply.new) (AnswersWith result (spec.builds_answer image (map attached_view stored.now))) }
+{
+    match told {
+        Some(files) => tell_files(alloc, reply, files, stored),
+        None => {
+            tell_no(reply, b"Missing");
+            Outcome::Refused
+        }
+    }
+}
+
+/// The same of a core of which all bytes are at hand.
 pub fn tell_builds<O: Output>(
     alloc: Global,
     reply: &mut Reply<'_, O>,
     core: &CoreImage<'_>,
-    attached: &[Attached<'_>],
+    stored: &[Attached<'_>],
 ) -> Outcome
     ensures { TellsReply (telling O.Output reply.old reply.new)
-        (AnswersWith result (spec.builds_answer (core_bytes core.now) (map attached_view attached.now))) }
+        (AnswersWith result (spec.builds_answer (core_bytes core.now) (map attached_view stored.now))) }
 {
-    let size = core.elf().image().len() as u64;
-    match ComparedFiles::of(alloc, core, size, attached) {
-        Ok(Some(compared)) => tell_whole(alloc, reply, core, &compared),
-        Ok(None) => {
-            tell_no(reply, b"Missing");
-            Outcome::Refused
-        }
+    match told_ids(alloc, core) {
+        Ok(told) => tell_told(alloc, reply, &told, stored),
         Err(_) => {
             tell_no(reply, b"OutOfMemory");
             Outcome::OutOfMemory

@@ -1,25 +1,31 @@
-// Which of the executables that are stored under the names of a core's mapped files are used.
+// Which of the executables that are stored are used for a core's mapped files.
 ghost use Rattle.std.specs.Prelude.{◌≡◌, IfOk, OnOk, map};
 ghost use Rattle.std.specs.Option.{option_map};
 ghost use Rattle.address_space.specs.SpaceWords.{attached_view};
-ghost use Rattle.image_replies.specs.CoreWords.{core_bytes};
-ghost use Rattle.build_replies.specs.Choosing as spec;
+ghost use Rattle.build_replies.specs.ByBuild as spec;
+ghost use Rattle.build_replies.specs.Choosing.{choice_of};
+ghost use Rattle.build_replies.specs.ChoosingWords.{chosen_view};
+ghost use Rattle.build_replies.specs.Mapped.{id_view};
+ghost use Rattle.build_replies.specs.TableWords.{table_rows};
 
-use crate::places::FrontPlaces;
+use crate::ids::FrontId;
+use crate::table::Table;
 use address_space::Attached;
-use build_ids::build_id;
-use elf_view::{Elf, Want, part};
-use image_replies::CoreImage;
+use build_ids::{build_id, build_name, has_name, is_debug};
+use elf_view::{Elf, Want};
 use std::alloc::{AllocError, Global};
 
-/// The executables that are stored under the names of a core's mapped files: those that are used for them, and those that are not,
-/// since they are of another build.
-#[derive(Drop)]
-pub struct ChosenExecutables<'a> {
-    /// Those that are used.
-    pub used: Vec<Attached<'a>>,
-    /// Those that are not: the core tells a build ID for the file, and they have another, or none.
-    pub others: Vec<Attached<'a>>,
+/// What a mapped file has of the executables that are stored.
+#[derive(Clone, Copy, Debug)]
+pub(crate) enum ChosenFile<'a> {
+    /// The one that is stored under the name of its build.
+    ByBuild(Attached<'a>),
+    /// The one under its path, which is of its build, or may be.
+    ByPath(Attached<'a>),
+    /// The one under its path, which is not used: it is of another build, has no build ID though the core tells one, or is a debug file.
+    Other(Attached<'a>),
+    /// None.
+    Nothing,
 }
 
 /// Whether an image has the build ID that a core tells for a file, if it tells one.
@@ -35,11 +41,89 @@ fn has_told_id(id: Option<&[u8]>, image: &[u8]) -> bool
     }
 }
 
+/// Whether the headers of an executable have no fault.
+fn is_executable(image: &[u8]) -> bool
+    ensures { result ≡ spec.is_executable image.now }
+{
+    Elf::read(image, Want::Exec).is_ok()
+}
+
+/// Whether an image may be the file that was mapped, for which a core tells that build ID, or none.
+#[tactic(auto, unfolding(crate::specs::ByBuild::agrees))]
+fn agrees(id: Option<&[u8]>, image: &[u8]) -> bool
+    ensures { result ≡ spec.agrees (option_map (λ id. id.now) id.entry) image.now }
+{
+    is_executable(image) && !is_debug(image) && has_told_id(id, image)
+}
+
+/// The executable that is stored under the name of a build, if it is that build.
+fn build_stored<'a>(stored: &Table<'a>, id: Option<&[u8]>) -> Option<Attached<'a>>
+    ensures { option_map attached_view result ≡ spec.build_stored (table_rows stored.now) (option_map (λ id. id.now) id.entry) }
+{
+    let Some(named) = id else {
+        return None;
+    };
+    if !has_name(named) {
+        return None;
+    }
+    match stored.named(&build_name(named)) {
+        Some(executable) if agrees(id, executable.image) => Some(executable),
+        _ => None,
+    }
+}
+
+/// Where one belongs that is stored under the path of the file.
+fn by_its_path<'a>(id: Option<&[u8]>, executable: Option<Attached<'a>>) -> ChosenFile<'a>
+    ensures { chosen_view result ≡ spec.by_its_path (option_map (λ id. id.now) id.entry) (option_map attached_view executable.entry) }
+{
+    match executable {
+        Some(executable) if agrees(id, executable.image) => ChosenFile::ByPath(executable),
+        Some(executable) if is_executable(executable.image) => ChosenFile::Other(executable),
+        _ => ChosenFile::Nothing,
+    }
+}
+
+impl<'a> ChosenFile<'a> {
+    /// What a mapped file has of these.
+    #[tactic(auto, unfolding(crate::specs::ByBuild::chosen))]
+    pub(crate) fn for_file(stored: &Table<'a>, file: &FrontId<'_>) -> ChosenFile<'a>
+        ensures { chosen_view result ≡ spec.chosen (table_rows stored.now) (id_view file.now).1 (id_view file.now).0 }
+    {
+        match build_stored(stored, file.id()) {
+            Some(executable) => ChosenFile::ByBuild(executable),
+            None => by_its_path(file.id(), stored.named(file.name)),
+        }
+    }
+
+    /// Its build ID.
+    pub(crate) fn id(self) -> Option<&'a [u8]>
+        ensures { option_map (λ id. id.now) result ≡ spec.chosen_id (chosen_view self.entry) }
+    {
+        match self {
+            ChosenFile::ByBuild(executable) => build_id(executable.image),
+            ChosenFile::ByPath(executable) => build_id(executable.image),
+            ChosenFile::Other(executable) => build_id(executable.image),
+            ChosenFile::Nothing => None,
+        }
+    }
+}
+
+/// The executables that are stored for a core's mapped files, each under the name of its file: those that are used, and those that are
+/// not.
+#[derive(Drop)]
+pub struct ChosenExecutables<'a> {
+    /// Those that are used.
+    pub used: Vec<Attached<'a>>,
+    /// Those that are stored under the path and not used: the core tells a build ID for the file, and they have another, or none; or they
+    /// are debug files.
+    pub others: Vec<Attached<'a>>,
+}
+
 impl<'a> ChosenExecutables<'a> {
     ghost use Rattle.build_replies.specs.ChoosingWords.{choice_view, no_choice, with_chosen};
 
     /// None yet.
-    pub fn new(alloc: Global) -> ChosenExecutables<'a>
+    fn new(alloc: Global) -> ChosenExecutables<'a>
         ensures { choice_view result ≡ no_choice }
     {
         ChosenExecutables {
@@ -48,37 +132,35 @@ impl<'a> ChosenExecutables<'a> {
         }
     }
 
-    /// Puts the executable that is stored under the name of a mapped file where it belongs, by the build ID that the core tells for
-    /// the file. One whose headers have a fault belongs nowhere. The error is that there is no memory.
-    pub fn add(&mut self, executable: Attached<'a>, id: Option<&[u8]>) -> Result<(), AllocError>
-        ensures { OnOk result (choice_view self.new ≡ with_chosen (spec.chosen (option_map (λ id. id.now) id.entry) (attached_view executable.entry)) (choice_view self.old)) }
+    /// Puts what a mapped file has where it belongs, under the file's name. The error is that there is no memory.
+    fn add(&mut self, path: &'a [u8], chosen: ChosenFile<'a>) -> Result<(), AllocError>
+        ensures { OnOk result (choice_view self.new ≡ with_chosen path.entry.now (chosen_view chosen.entry) (choice_view self.old)) }
     {
-        let Ok(_) = Elf::read(executable.image, Want::Exec) else {
-            return Ok(());
-        };
-        if has_told_id(id, executable.image) {
-            self.used.push(executable)?;
-            return Ok(());
+        match chosen {
+            ChosenFile::ByBuild(Attached { image, .. }) => self
+                .used
+                .push(Attached { path, image })?,
+            ChosenFile::ByPath(Attached { image, .. }) => self.used.push(Attached { path, image })?,
+            ChosenFile::Other(Attached { image, .. }) => self
+                .others
+                .push(Attached { path, image })?,
+            ChosenFile::Nothing => {}
         }
-        self.others.push(executable)?;
         Ok(())
     }
 
-    /// What is chosen of the executables that are stored under the names of a core's mapped files, by all of its image. The error is that
-    /// there is no memory.
+    /// What is chosen for these mapped files of the executables that are stored. The error is that there is no memory.
     pub fn of(
         alloc: Global,
-        core: &CoreImage<'a>,
+        files: &[FrontId<'a>],
         stored: &[Attached<'a>],
     ) -> Result<ChosenExecutables<'a>, AllocError>
-        ensures { IfOk result (λ chosen. choice_view chosen ≡ spec.choice_for (core_bytes core.now) (map attached_view stored.now)) }
+        ensures { IfOk result (λ chosen. choice_view chosen ≡ choice_of (map id_view files.now) (map attached_view stored.now)) }
     {
-        let image = core.elf().image();
-        let fronts = FrontPlaces::of_core(alloc, core, image.len() as u64)?;
+        let table = Table::of(alloc, stored)?;
         let mut chosen = ChosenExecutables::new(alloc);
-        for executable in stored {
-            let front = fronts.front(executable.path);
-            chosen.add(*executable, build_id(part(image, front.start, front.count)))?;
+        for file in files {
+            chosen.add(file.name, ChosenFile::for_file(&table, file))?;
         }
         Ok(chosen)
     }

@@ -1,11 +1,14 @@
 // The build IDs of the fronts of a core's mapped files.
-ghost use Rattle.std.specs.Prelude.{◌≡◌, IfOk};
+ghost use Rattle.std.specs.Prelude.{◌≡◌, IfOk, map};
 ghost use Rattle.std.specs.Option.{option_map};
-ghost use Rattle.build_replies.specs.Compared.{AreRowsOf, id_view};
+ghost use Rattle.image_replies.specs.CoreWords.{core_bytes};
+ghost use Rattle.build_replies.specs.Builds.{told_of, told_or_none};
+ghost use Rattle.build_replies.specs.Mapped.{AreIdsOf, id_view, told_view};
 
-use crate::compared::ComparedFiles;
+use crate::mapped::MappedFiles;
 use build_ids::build_id;
 use elf_view::part;
+use image_replies::CoreImage;
 use std::alloc::{AllocError, Global};
 
 /// The build ID of the front of a mapped file.
@@ -14,15 +17,6 @@ pub struct FrontId<'a> {
     /// The file's name.
     pub name: &'a [u8],
     pub(crate) id: Option<Vec<u8>>,
-}
-
-/// A mapped file, with the build ID of its front, and that of the executable that is stored under its name.
-#[derive(Drop)]
-pub struct BuildAnswer<'a> {
-    /// Its name, and the build ID of its front, as far as the core has it.
-    pub front: FrontId<'a>,
-    /// That of the first executable that is stored under the name. `None` where there is none, or it has no build ID.
-    pub stored: Option<&'a [u8]>,
 }
 
 /// The same bytes. The error is that there is no memory.
@@ -57,19 +51,44 @@ impl<'a> FrontId<'a> {
     }
 }
 
-/// What is told of a core's mapped files, by all of its image. The error is that there is no memory.
-pub(crate) fn all_rows<'a>(
+/// Those of a core's mapped files, by all of its image.
+fn all_ids<'a>(
     alloc: Global,
     image: &[u8],
-    compared: &ComparedFiles<'a>,
-) -> Result<Vec<BuildAnswer<'a>>, AllocError>
-    ensures { IfOk result (λ rows. AreRowsOf image.now compared.now rows.items) }
+    mapped: &MappedFiles<'a>,
+) -> Result<Vec<FrontId<'a>>, AllocError>
+    ensures { IfOk result (λ ids. AreIdsOf image.now mapped.now ids.items) }
 {
-    let mut rows = Vec::new(alloc);
-    for i in 0..compared.count() {
-        let front = compared.front(i);
+    let mut ids = Vec::new(alloc);
+    for i in 0..mapped.count() {
+        let front = mapped.front(i);
         let id = build_id(part(image, front.start, front.count));
-        rows.push(compared.row(FrontId::new(alloc, front.path, id)?))?;
+        ids.push(FrontId::new(alloc, front.path, id)?)?;
     }
-    Ok(rows)
+    Ok(ids)
+}
+
+/// The mapped files of a core of which all bytes are at hand, each with the build ID of its front. `None` is a core without NT_FILE. The
+/// error is that there is no memory.
+pub fn told_ids<'a>(
+    alloc: Global,
+    core: &CoreImage<'a>,
+) -> Result<Option<Vec<FrontId<'a>>>, AllocError>
+    ensures { IfOk result (λ ids. told_view ids ≡ told_of (core_bytes core.now)) }
+{
+    let image = core.elf().image();
+    match MappedFiles::of(alloc, core, image.len() as u64)? {
+        Some(mapped) => Ok(Some(all_ids(alloc, image, &mapped)?)),
+        None => Ok(None),
+    }
+}
+
+/// The mapped files of a core; none, if it has no NT_FILE.
+pub fn listed<'t, 'a>(told: &'t Option<Vec<FrontId<'a>>>) -> &'t [FrontId<'a>]
+    ensures { map id_view result.now ≡ told_or_none (told_view told.now) }
+{
+    match told {
+        Some(files) => files,
+        None => &[],
+    }
 }

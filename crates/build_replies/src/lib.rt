@@ -1,19 +1,23 @@
 //! The answer to the line of a script that asks for the build IDs of a core's mapped files: slices in, text out.
 //!
-//! A core is a [`image_replies::CoreImage`]. The executables that are stored under the names of its mapped files are handed over
+//! A core is a [`image_replies::CoreImage`]. The executables that are stored, under the names of its mapped files or of their builds, are handed over
 //! as [`address_space::Attached`] images.
 #![tactic(auto)]
 
+mod answers;
 mod builds;
 mod choosing;
-mod compared;
 mod ids;
+mod mapped;
 mod names;
 mod places;
+mod stored_names;
 mod table;
 
-pub use builds::{tell_builds, tell_compared, verdict};
+pub use answers::{BuildAnswer, build_answers};
+pub use builds::{tell_builds, tell_told, verdict};
 pub use choosing::ChosenExecutables;
-pub use compared::ComparedFiles;
-pub use ids::{BuildAnswer, FrontId};
+pub use ids::{FrontId, listed, told_ids};
+pub use mapped::MappedFiles;
 pub use places::{FrontPlace, FrontPlaces};
+pub use stored_names::{StoredNames, build_names};

@@ -8,7 +8,6 @@ ghost use Rattle.address_space.specs.SpaceWords.{core_of, space_of};
 ghost use Rattle.address_space.specs.StretchWords.{IsWithin, shown_in};
 ghost use Rattle.address_space.specs.Whole.{IsFrontOf, space_in};
 ghost use Rattle.build_ids.specs.BuildId.{build_id_of};
-ghost use Rattle.image_replies.specs.CoreWords.{core_bytes};
 ghost use Rattle.core_notes.specs.FileList.{files_of};
 ghost use Rattle.core_notes.specs.FileWords.{file_view, files_bytes};
 ghost use Rattle.build_replies.specs.Builds as spec;
@@ -17,8 +16,6 @@ ghost use Rattle.build_replies.specs.PlaceWords.{EndsWithin, front_by, front_in}
 
 use address_space::{AddressSpace, ByPath, Stretch, StretchKind};
 use core_notes::{FileMap, Files};
-use image_replies::CoreImage;
-use memory_replies::space_with;
 use std::alloc::{AllocError, Global};
 
 /// The place of what a core has of the front of a mapped file.
@@ -90,7 +87,6 @@ fn front_of<'a>(space: &AddressSpace<'a>, size: u64, map: FileMap<'a>) -> FrontP
 }
 
 impl<'a> FrontPlaces<'a> {
-    ghost use Rattle.build_replies.specs.ChoosingWords.{ArePlacesOf};
     ghost use Rattle.build_replies.specs.PlacesWords.{fronts_in};
 
     /// None yet, of an image of `size` bytes.
@@ -135,23 +131,6 @@ impl<'a> FrontPlaces<'a> {
             }
         }
         Ok(places)
-    }
-
-    /// Those of a core's mapped files. A core without NT_FILE has none. The core may be the first bytes alone of an image of `size` bytes.
-    /// The error is that there is no memory.
-    pub fn of_core(
-        alloc: Global,
-        core: &CoreImage<'a>,
-        size: u64,
-    ) -> Result<FrontPlaces<'a>, AllocError>
-        ensures { IfOk result (ArePlacesOf (core_bytes core.now) size) }
-    {
-        let Some(files) = core.notes().files() else {
-            return Ok(FrontPlaces::new(alloc, size));
-        };
-        // No executable is attached: the core is asked what it has.
-        let space = space_with(alloc, core, &[])?;
-        FrontPlaces::of(alloc, &space, size, &files)
     }
 
     /// The one of that number.

@@ -1,13 +1,11 @@
 // Executables, or fronts of them, by their names.
 ghost use Rattle.std.specs.Prelude.{◌≡◌, ◌++◌, ◌∷◌, [], IfOk, OnOk, find, map, slice_get};
-ghost use Rattle.std.specs.Option.{option_and_then, option_map};
+ghost use Rattle.std.specs.Option.{option_map};
 ghost use Rattle.address_space.specs.PathWords.{AreNumbered};
 ghost use Rattle.address_space.specs.Source.{is_named};
 ghost use Rattle.address_space.specs.SpaceWords.{attached_view};
-ghost use Rattle.build_replies.specs.Builds as spec;
 
 use address_space::{Attached, ByPath};
-use build_ids::build_id;
 use std::alloc::{AllocError, Global};
 
 /// Executables in their order, or the bytes of their fronts, and a table of their names.
@@ -75,13 +73,5 @@ impl<'a> Table<'a> {
         ensures { result ≡ is_new (table_rows self.now) name.now }
     {
         self.named(name).is_none()
-    }
-
-    /// The build ID of the first of that name.
-    pub(crate) fn id_named(&self, name: &[u8]) -> Option<&'a [u8]>
-        ensures { option_map (λ id. id.now) result ≡ spec.id_named (table_rows self.now) name.now }
-    {
-        let executable = self.named(name)?;
-        build_id(executable.image)
     }
 }

@@ -2,7 +2,7 @@
 use Rattle.std.proofs.Common.{◌≡◌, ◌≤◌, ⊎_elim, inl, inr, ℕ, List, length, min, take, None, Result, Ok, Err, IfOk, Vec, Global, ap, sym, subst, ◌∙◌, arith}
 use Rattle.std.specs.Result.{result_err}
 use Rattle.std.proofs.lemmas.List.{take-take, take_all, take_min}
-use Rattle.case_queries.specs.Fronts.{IsEnough, ReadsEnough}
+use Rattle.case_queries.specs.Fronts.{ReadsEnough}
 use Rattle.disk_model.specs.declared.disk.Disk as disk
 use Rattle.elf_view.specs.Sound.{IsHeaderWhole, IsSound, first_fault}
 use Rattle.elf_view.specs.ViewWords.{header_of, notes_of}
@@ -19,10 +19,6 @@ use Rattle.case_info.specs.Fronts.{IsFront, SeesFront, first_bytes}
 -- a front that is all of an image is the image
 all_of : (front image : List ℕ) → front ≡ take (length front) image → length front ≡ length image → front ≡ image
 all_of front image begins all = begins ∙ ap (λ n. take n image) all ∙ take_all (length image) image (omega arith)
-
--- first bytes are enough for the lines over headers and notes
-pub enough_of : (want : Want) (front image : List ℕ) → IsFront want front image → IsEnough want front image
-enough_of want front image is = ⊎_elim (λ all. inl (all_of front image is.begins all)) (λ sound. inr (is.begins, sound)) is.enough
 
 -- What a front says that is all of the image, or sound, the image says too.
 pub says_same : {A : Type 0} (says : List ℕ → A) (want : Want) (front image : List ℕ) → ((b : List ℕ) (n : ℕ) → IsHeaderWhole (take n b) → IsSound want (take n b) → says (take n b) ≡ says b)

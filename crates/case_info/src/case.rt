@@ -10,11 +10,12 @@ ghost use Rattle.case_info.specs.Fronts.{SaysCore};
 ghost use Rattle.case_info.specs.Screens.{IsScreenBy, ShowsCase, ShowsCore, ShowsExec, ShowsOn, held};
 
 use crate::front::{CoreFront, core_in, front_of, header_in, size_of};
-use crate::gathered::{builds_in, executables_of, facts_of};
+use crate::gathered::{builds_in, executables_of, facts_of, told_of};
 use crate::telling::{shown, write_text};
 use archive_files::{ArchivePath, Collected, Failure, Refusal, take_look, unasked};
 use build_replies::BuildAnswer;
 use case_listing::find_case;
+use case_queries::CaseImage;
 use case_screens::{CaseAnswers, CoreAnswers, case_json, tell_case_screen};
 use disk_model::Disk;
 use elf_view::Want;
@@ -145,8 +146,15 @@ fn core_screen<D: Disk>(
     let Ok(core) = said.core else {
         return Ok(put_core(alloc, archive, seq, said, no_frames(), None, words.is_json)?);
     };
-    let executables = executables_of(alloc, &core, archive)?;
-    let facts = facts_of(alloc, seq, size, &core, &executables, words, archive)?;
+    let elf = core.elf();
+    let image = CaseImage {
+        seq,
+        size,
+        front: elf.image(),
+    };
+    let told = told_of(alloc, image, &core, archive)?;
+    let executables = executables_of(alloc, &told, archive)?;
+    let facts = facts_of(alloc, image, &core, told, &executables, words, archive)?;
     Ok(put_core(
         alloc,
         archive,

@@ -1,39 +1,64 @@
 // What is found in the memory of a core, over one archive that is open.
-ghost use Rattle.std.specs.Prelude.{◌≡◌, ◌≤◌, ℕ, false, IfOk, List, Ok, length, map, option_map};
-ghost use Rattle.case_queries.specs.Collecting.{CollectsAll, wanted_of};
+ghost use Rattle.std.specs.Prelude.{◌≡◌, ◌≤◌, false, IfOk, Ok, length, map, option_map};
+ghost use Rattle.build_replies.specs.Builds.{told_or_none};
+ghost use Rattle.build_replies.specs.Mapped.{told_view};
+ghost use Rattle.case_queries.specs.Collecting.{CollectsAll, wanted_by};
 ghost use Rattle.case_queries.specs.CollectingWords.{executable_view};
 ghost use Rattle.case_queries.specs.Facts.{SaysFacts};
-ghost use Rattle.case_queries.specs.Fronts.{HasSize, ReadsFront};
+ghost use Rattle.case_queries.specs.Fronts.{HasSize, IsSoundFront, ReadsFront};
+ghost use Rattle.case_queries.specs.Pieces.{SeesPieces};
+ghost use Rattle.case_queries.specs.ToldWords.{IsToldBy};
 ghost use Rattle.case_screens.specs.Core.{notes_read};
 ghost use Rattle.elf_view.specs.declared.faults.Want.TheVariants as want;
 ghost use Rattle.image_replies.specs.CoreWords.{core_bytes};
 ghost use Rattle.intake.specs.Parts.{Parts, state_of};
-ghost use Rattle.case_info.specs.Fronts.{IsFront};
 ghost use Rattle.case_info.specs.Screens.{most_threads, shown_count};
 
 use crate::case::InfoWords;
 use archive_files::Refusal;
 use build_replies::BuildAnswer;
-use case_queries::{CoreFacts, StoredExecutable, WalkFault, core_facts, stored_executables};
+use case_queries::{
+    CaseImage, CoreFacts, StoredExecutable, ToldFiles, WalkFault, core_facts, stored_executables,
+    told_files,
+};
 use case_screens::{MOST_THREADS, thread_count};
 use disk_model::Disk;
 use image_replies::CoreImage;
 use intake::Archive;
-use memory_replies::a_sound_front_names_the_files;
 use std::alloc::Global;
 
-// The executables that are stored for the mapped files of a core, which may be the first bytes alone of an image.
+// The mapped files of a core, each with the build ID that it tells. The core may be the first bytes alone of an image.
+pub(crate) fn told_of<'a, D: Disk>(
+    alloc: Global,
+    image: CaseImage<'_>,
+    core: &CoreImage<'a>,
+    archive: &mut Archive<D>,
+) -> Result<ToldFiles<'a>, Refusal>
+    requires has { HasSize (state_of archive.old) image.seq image.size }
+    requires short { length image.front.now ≤ image.size }
+    requires front { core_bytes core.now ≡ image.front.now }
+    requires sound { IsSoundFront want.Core image.front.now }
+    ensures sees { IfOk result (λ told. (before : Parts D) → ReadsFront D.Disk before image.entry.seq image.entry.front.now archive.old
+        → SeesPieces D.Disk before image.entry told.pieces.items archive.new) }
+    ensures told { IfOk result (IsToldBy image.entry) }
+    ensures has { IfOk result (λ told. HasSize (state_of archive.new) image.entry.seq image.entry.size) }
+{
+    match told_files(alloc, image, core, archive) {
+        Ok(told) => Ok(told),
+        Err(fault) => Err(refusal_of(fault)),
+    }
+}
+
+// The executables that are stored for the mapped files of a core.
 pub(crate) fn executables_of<D: Disk>(
     alloc: Global,
-    core: &CoreImage<'_>,
+    told: &ToldFiles<'_>,
     archive: &mut Archive<D>,
 ) -> Result<Vec<StoredExecutable>, Refusal>
     requires { archive.old.stopped ≡ false }
-    ensures { IfOk result (λ v. (image : List ℕ) → IsFront want.Core (core_bytes core.now) image
-        → CollectsAll D.Disk archive.old (wanted_of image (state_of archive.old).cases) (Ok (map executable_view v.items)) archive.new) }
+    ensures { IfOk result (λ v. CollectsAll D.Disk archive.old (wanted_by (told_or_none (told_view told.now.files)) (state_of archive.old).cases) (Ok (map executable_view v.items)) archive.new) }
 {
-    a_sound_front_names_the_files();
-    match stored_executables(alloc, core, archive) {
+    match stored_executables(alloc, told, archive) {
         Ok(executables) => Ok(executables),
         Err(fault) => Err(Refusal::Call(fault)),
     }
@@ -42,24 +67,33 @@ pub(crate) fn executables_of<D: Disk>(
 // Finds the frames of the threads of a core that are shown, and the build IDs of its mapped files, with these executables.
 pub(crate) fn facts_of<'a, D: Disk>(
     alloc: Global,
-    seq: u32,
-    size: usize,
+    image: CaseImage<'_>,
     core: &CoreImage<'a>,
+    told: ToldFiles<'a>,
     executables: &'a [StoredExecutable],
     words: InfoWords,
     archive: &mut Archive<D>,
 ) -> Result<CoreFacts<'a>, Refusal>
-    requires has { HasSize (state_of archive.old) seq size }
-    requires short { length (core_bytes core.now) ≤ size }
-    requires read { (before : Parts D) × ReadsFront D.Disk before seq (core_bytes core.now) archive.old }
-    ensures { IfOk result (λ facts. (before : Parts D) → ReadsFront D.Disk before seq (core_bytes core.now) archive.old
-        → SaysFacts D.Disk before seq (core_bytes core.now) size (map executable_view executables.now) (shown_count words (notes_read (Ok core.now))) facts archive.new) }
+    requires has { HasSize (state_of archive.old) image.seq image.size }
+    requires short { length image.front.now ≤ image.size }
+    requires front { core_bytes core.now ≡ image.front.now }
+    requires sound { IsSoundFront want.Core image.front.now }
+    requires told { IsToldBy image told }
+    ensures { IfOk result (λ facts. (before : Parts D) → SeesPieces D.Disk before image.entry told.entry.pieces.items archive.old
+        → SaysFacts D.Disk before image.entry.seq image.entry.front.now image.entry.size (told_view told.entry.files) (map executable_view executables.now) (shown_count words (notes_read (Ok core.now))) facts archive.new) }
 {
     let count = shown_count(core, words);
-    match core_facts(alloc, seq, size, core, executables, count, archive) {
+    match core_facts(alloc, image, core, told, executables, count, archive) {
         Ok(facts) => Ok(facts),
-        Err(WalkFault::Unread(fault)) => Err(Refusal::Call(fault)),
-        Err(WalkFault::OutOfMemory) => Err(Refusal::OutOfMemory),
+        Err(fault) => Err(refusal_of(fault)),
+    }
+}
+
+// Why what is found in a core's memory is not.
+fn refusal_of(fault: WalkFault) -> Refusal {
+    match fault {
+        WalkFault::Unread(fault) => Refusal::Call(fault),
+        WalkFault::OutOfMemory => Refusal::OutOfMemory,
     }
 }
 

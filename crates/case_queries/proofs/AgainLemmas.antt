@@ -5,16 +5,15 @@ use Rattle.address_space.specs.Source.{ExecutableView}
 use Rattle.case_journal.specs.Viewing.{OnlyReads}
 use Rattle.disk_model.specs.MomentLaws.{started}
 use Rattle.disk_model.specs.declared.disk.Disk as disk
-use Rattle.intake.specs.Parts.{Parts, state_of}
+use Rattle.intake.specs.Parts.{Parts}
 use Rattle.intake.specs.StayLaws.{stays_none}
 use Rattle.intake.specs.declared.faults.ArchiveFault.{ArchiveFault}
-use Rattle.case_queries.specs.Collecting.{Collects, CollectsAll, Wanted, wanted_of, with_executable}
-use Rattle.case_queries.specs.CollectingWords.{executable_view, collected_view}
+use Rattle.case_queries.specs.Collecting.{Collects, Wanted, with_executable}
+use Rattle.case_queries.specs.CollectingWords.{collected_view, executable_view, read_as}
 use Rattle.case_queries.specs.Keeping.{StayCollected}
 use Rattle.case_queries.specs.Seeing.{AreOfCase, SeesImage}
 use Rattle.case_queries.specs.declared.collect_executables.StoredExecutable.{StoredExecutable}
-use Rattle.case_queries.specs.LeaveLaws.{Leaves, leaves_as, leaves_then, looks_leaves, collects_leaves, all_leaves, own_still}
-use Rattle.journal_layout.specs.Case.{Case}
+use Rattle.case_queries.specs.LeaveLaws.{Leaves, leaves_as, leaves_then, looks_leaves, collects_leaves, own_still}
 
 abbrev is_given : {A B : Type 0} → Result A B → Bool
 is_given (Ok x) = true
@@ -55,21 +54,17 @@ module _ {D : Type 0} (g : disk.Ghosts D) (now : Parts D) (only : (c : List ℕ)
       more
   again old new (x ∷ xs) views leaves (Err f, mid, looks, more) = absurd (given_not views f more.0)
 
-  all_again : (old : Parts D) (b : List ℕ) (views : List ExecutableView) → CollectsAll g old (wanted_of b (state_of old).cases) (Ok views) now → Collects g now (wanted_of b (state_of now).cases) (Ok views) now
-  all_again old b views all =
-      let leaves = all_leaves g old now (wanted_of b (state_of old).cases) (Ok views) all in
-      subst (λ (cases : List Case). Collects g now (wanted_of b cases) (Ok views) now) (sym leaves.cases)
-      (⊎_elim (λ short. absurd (given_not views _ short.0)) (λ collects. again old now (wanted_of b (state_of old).cases) views (leaves_as g now now refl) collects) all)
-
   -- what was gathered just now may be kept
-  pub stay_collected : (old : Parts D) (b : List ℕ) (r : Result (Vec StoredExecutable Global) ArchiveFault) → CollectsAll g old (wanted_of b (state_of old).cases) (collected_view r) now
-      → IfOk r (λ v. StayCollected g now b (Some v))
-  stay_collected old b (Ok v) all = all_again old b (map executable_view v.items) all
-  stay_collected old b (Err f) all = tt
+  pub stay_collected : (old : Parts D) (ws : List Wanted) (v : Vec StoredExecutable Global) → map read_as v.items ≡ ws → Collects g old ws (Ok (map executable_view v.items)) now → StayCollected g now (Some v)
+  stay_collected old ws v are collects =
+      again old now (map read_as v.items) (map executable_view v.items) (leaves_as g now now refl)
+      (subst (λ (xs : List Wanted). Collects g old xs (Ok (map executable_view v.items)) now) (sym are) collects)
 
   -- and what was gathered before may still be kept
-  pub stay_after : (old : Parts D) (b : List ℕ) (kept : Option (Vec StoredExecutable Global)) → Leaves g old now → StayCollected g old b kept → StayCollected g now b kept
-  stay_after old b None leaves stay = tt
-  stay_after old b (Some v) leaves stay =
-      subst (λ (cases : List Case). Collects g now (wanted_of b cases) (Ok (map executable_view v.items)) now) (sym leaves.cases)
-      (again old old (wanted_of b (state_of old).cases) (map executable_view v.items) leaves stay)
+  pub stay_after : (old : Parts D) (kept : Option (Vec StoredExecutable Global)) → Leaves g old now → StayCollected g old kept → StayCollected g now kept
+  stay_after old None leaves stay = tt
+  stay_after old (Some v) leaves stay = again old old (map read_as v.items) (map executable_view v.items) leaves stay
+
+  pub stay_if : (old : Parts D) (ws : List Wanted) (r : Result (Vec StoredExecutable Global) ArchiveFault) → IfOk r (λ v. map read_as v.items ≡ ws) → Collects g old ws (collected_view r) now → IfOk r (λ v. StayCollected g now (Some v))
+  stay_if old ws (Ok v) are collects = stay_collected old ws v are collects
+  stay_if old ws (Err f) are collects = tt

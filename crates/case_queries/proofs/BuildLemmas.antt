@@ -1,6 +1,6 @@
 -- What is shown of the build IDs of a core that is read piece by piece.
-use Rattle.std.proofs.Common.{◌≡◌, ◌≤◌, inl, inr, ℕ, ◌+◌, List, map, drop, length, Option, None, Some, Result, Ok, Err, Vec, Global, refl, ap, sym, ◌∙◌, subst, arith}
-use Rattle.std.specs.Prelude.{MatchResult, codes}
+use Rattle.std.proofs.Common.{◌≡◌, ◌≤◌, inr, ℕ, ◌+◌, List, map, drop, length, Option, None, Some, Result, Ok, Err, ap, sym, ◌∙◌, subst, arith}
+use Rattle.std.specs.Prelude.{MatchResult}
 use Rattle.std.specs.Borrow.{Bor}
 use Rattle.std.specs.Option.{option_map}
 use Rattle.std.proofs.lemmas.List.{length-drop, length-take, take-take}
@@ -8,40 +8,32 @@ use Rattle.disk_model.specs.declared.disk.Disk as disk
 use Rattle.elf_view.specs.Field.{part}
 use Rattle.elf_view.specs.ViewWords.{notes_of}
 use Rattle.elf_view.specs.declared.faults.Want.TheVariants.{Core}
-use Rattle.address_space.specs.Source.{ExecutableView}
 use Rattle.address_space.specs.Whole.{IsFrontOf}
 use Rattle.build_ids.specs.Fronts as ids
-use Rattle.build_replies.specs.Builds.{builds_answer, printed}
-use Rattle.build_replies.specs.Compared.{IsFoundOf, id_view}
-use Rattle.build_replies.specs.ComparedLaws.{builds_printed, found_rows, missing_rows}
-use Rattle.build_replies.specs.declared.compared.ComparedFiles.{ComparedFiles}
-use Rattle.build_replies.specs.declared.ids.BuildAnswer.{BuildAnswer}
+use Rattle.build_replies.specs.Builds.{told_of}
+use Rattle.build_replies.specs.Mapped.{IsFoundOf, id_view}
+use Rattle.build_replies.specs.ToldLaws.{found_ids, missing_ids}
+use Rattle.build_replies.specs.declared.mapped.MappedFiles.{MappedFiles}
 use Rattle.build_replies.specs.declared.ids.FrontId.{FrontId}
 use Rattle.build_replies.specs.declared.places.FrontPlace.{FrontPlace}
-use Rattle.intake.specs.Parts.{Parts, state_of}
-use Rattle.memory_replies.specs.Answers.{AnswersWith, is_done}
-use Rattle.memory_replies.specs.declared.outcome.Outcome.{Outcome}
-use Rattle.script_streams.specs.Replies.{Telling, TellsOutcome, TellsReply, no_reply}
-use Rattle.script_streams.specs.Replies.{reply_of}
+use Rattle.intake.specs.Parts.{Parts}
 use Rattle.seen_bytes.specs.Gathering.{GathersBytes}
 use Rattle.seen_bytes.specs.declared.gathered.GatherFault.{GatherFault}
 use Rattle.seen_bytes.specs.declared.gathered.GatherFault.TheVariants as gather_fault
 use Rattle.seen_memory.specs.Parts.{IsPartOf}
 use Rattle.seen_memory.specs.declared.part.Part as seen
-use Rattle.case_queries.specs.Asking.{for_builds}
-use Rattle.case_queries.specs.Finding.{ShowsFound, found_reply}
-use Rattle.case_queries.specs.FrontIds.{FindsBuilds, FindsRows, GathersOn, ReadsId}
-use Rattle.case_queries.specs.Fronts.{HasSize, IsSoundFront, ReadsFront}
+use Rattle.case_queries.specs.FrontIds.{AreIdsAt, GathersOn, ReadsId}
+use Rattle.case_queries.specs.ToldWords.{SeesTold}
+use Rattle.case_queries.specs.Fronts.{IsSoundFront}
 use Rattle.case_queries.specs.PieceWords.{lent_view}
 use Rattle.case_queries.specs.Pieces.{BeginsWith, HasMore, SeesMore, SeesPieces, piece_view}
 use Rattle.case_queries.specs.declared.walk.CaseImage.{CaseImage}
 use Rattle.case_queries.specs.declared.walk.WalkFault.{WalkFault}
 use Rattle.case_queries.specs.declared.walk.WalkFault.TheVariants.{OutOfMemory, Unread}
 use Rattle.case_queries.specs.declared.window.Part.{Part}
-use Rattle.case_queries.proofs.FindLemmas.{at_start, some_seen}
 use Rattle.case_queries.proofs.FramesLemmas.{NotesLaw}
 use Rattle.case_queries.proofs.MoreLemmas.{beside_by, image_by}
-use Rattle.case_queries.proofs.ShowLemmas.{answered, enough_shows, outcome_with}
+use Rattle.case_queries.proofs.ShowLemmas.{enough_shows}
 
 -- bytes are gathered from lent pieces
 pub gathers_on : (o : CaseImage) (ps : List seen.Part) (qs : List Part) (start count : ℕ) (old new : List ℕ) (r : Result (Unit {0}) GatherFault) → map lent_view ps ≡ map piece_view qs → GathersBytes o.front.now ps start count old r new → GathersOn o qs start count old r new
@@ -82,42 +74,20 @@ id_found o ps qs p bytes id (Ok f) earlier gathered few within tells told =
     (earlier, λ image begins. told ∙ ap (λ (x : Option (List ℕ)). (p.path.now, x)) (tells (part image p.start p.count) (front_begins image bytes o.size p.start p.count begins.0.0 within few (gathered image begins))))
 id_found o ps qs p bytes id (Err f) earlier gathered few within tells told = tt
 
-module _ {D : Type 0} (g : disk.Ghosts D) (before now : Parts D) (o : CaseImage) where
-  -- a fault on the way
-  pub rows_stop : (ps : List Part) (c : ComparedFiles) (f : WalkFault) → SeesMore {A = FrontId} g before o ps (Err f) now → FindsRows g before o c (Err f) now
-  rows_stop ps c (Unread f) sees = sees
-  rows_stop ps c OutOfMemory sees = sees
+-- a fault on the way
+pub told_stop : {D : Type 0} (A : Type 0) (g : disk.Ghosts D) (before now : Parts D) (o : CaseImage) (ps : List Part) (f : WalkFault) → SeesMore {A = A} g before o ps (Err f) now → SeesTold g before o (Err f) now
+told_stop A g before now o ps (Unread f) sees = sees
+told_stop A g before now o ps OutOfMemory sees = sees
 
-  module _ (xs : List ExecutableView) where
-    pub builds_stop : (c : ComparedFiles) (f : WalkFault) → FindsRows g before o c (Err f) now → FindsBuilds g before o xs (Err f) now
-    builds_stop c (Unread f) finds = finds
-    builds_stop c OutOfMemory finds = finds
+module _ (notes : NotesLaw) (o : CaseImage) (sound : IsSoundFront Core o.front.now) where
+  -- the first bytes have the notes
+  notes_same : (image : List ℕ) → IsFrontOf o.front.now o.size image → notes_of Core o.front.now ≡ notes_of Core image
+  notes_same image front = enough_shows (notes_of Core) (λ b n whole fine. notes Core b n whole fine) o.front.now image (inr (front.1, sound))
 
-    module _ (notes : NotesLaw) (sound : IsSoundFront Core o.front.now) where
-      -- the first bytes have the notes
-      notes_same : (image : List ℕ) → IsFrontOf o.front.now o.size image → notes_of Core o.front.now ≡ notes_of Core image
-      notes_same image front = enough_shows (notes_of Core) (λ b n whole fine. notes Core b n whole fine) o.front.now image (inr (front.1, sound))
+  -- a core without NT_FILE
+  pub missing_told : (ps : List Part) → IsFoundOf o.front.now o.size None → (image : List ℕ) → BeginsWith o ps image → told_of image ≡ None
+  missing_told ps none image begins = sym (missing_ids o.front.now image o.size (notes_same image begins.0) none)
 
-      -- a core without NT_FILE
-      pub missing_found : HasSize (state_of now) o.seq o.size → length o.front.now ≤ o.size → ReadsFront g before o.seq o.front.now now → IsFoundOf o.front.now o.size xs None → FindsBuilds g before o xs (Ok None) now
-      missing_found sized short reads none =
-          let x = some_seen g before o now now o.front.now 0 o.front.now sized reads (at_start g before o now reads short) in
-          (x.0, x.1, x.2, missing_rows o.front.now x.0 o.size xs (notes_same x.0 x.2) none)
-
-      -- what was found
-      pub rows_found : (c : ComparedFiles) (v : Vec BuildAnswer Global) → IsFoundOf o.front.now o.size xs (Some c) → FindsRows g before o c (Ok v) now → FindsBuilds g before o xs (Ok (Some v)) now
-      rows_found c v found finds = (finds.0, finds.1, finds.2, found_rows o.front.now finds.0 o.size xs c v.items finds.2 (notes_same finds.0 finds.2) found finds.3)
-
-    -- it is told
-    pub rows_shown : (v : Vec BuildAnswer Global) (outcome : Outcome) (tell : Telling) → (finds : FindsBuilds g before o xs (Ok (Some v)) now) → TellsReply tell (AnswersWith outcome (builds_answer finds.0 xs)) → TellsOutcome tell (λ text. ShowsFound g before o xs for_builds text now) (is_done outcome)
-    rows_shown v outcome tell finds told =
-        let answer = builds_answer finds.0 xs in
-        (told.0, (Ok finds.0, finds.1, (finds.2, answered outcome answer told.0 told.1)), outcome_with outcome answer told.0 told.1, told.2)
-
-    pub missing_shown : FindsBuilds g before o xs (Ok None) now → ShowsFound g before o xs for_builds (no_reply (codes "Missing")) now
-    missing_shown finds = (Ok finds.0, finds.1, (finds.2, inl (ap reply_of (sym (builds_printed finds.0 xs ∙ ap printed finds.3)))))
-
-    -- a fault
-    pub builds_unread : (f : WalkFault) → FindsBuilds g before o xs (Err f) now → ShowsFound g before o xs for_builds (found_reply (Err f)) now
-    builds_unread (Unread f) finds = (Err f, finds, refl)
-    builds_unread OutOfMemory finds = (Ok finds.0, finds.1, (finds.2, inr refl))
+  -- what was found
+  pub found_told : (ps : List Part) (m : MappedFiles) (ids : List FrontId) → IsFoundOf o.front.now o.size (Some m) → AreIdsAt o ps m ids → (image : List ℕ) → BeginsWith o ps image → told_of image ≡ Some (map id_view ids)
+  found_told ps m ids found are image begins = sym (found_ids o.front.now image o.size m ids begins.0 (notes_same image begins.0) found (are image begins))

@@ -1,7 +1,7 @@
 -- Executables that are gathered one after the other.
-use Rattle.std.proofs.Common.{◌≡◌, inl, inr, ℕ, zero, suc, ◌+◌, ◌<◌, ◌≤◌, List, [], ◌∷◌, ◌++◌, length, map, drop, take, get_or, Result, Ok, Err, refl, sym, ap, subst, ◌∙◌, arith, append_assoc}
+use Rattle.std.proofs.Common.{◌≡◌, inl, inr, ℕ, zero, suc, Bool, ◌+◌, ◌<◌, ◌≤◌, List, [], ◌∷◌, ◌++◌, length, map, drop, take, get_or, Result, Ok, Err, refl, sym, ap, subst, ◌∙◌, arith, append_assoc}
 use Rattle.std.proofs.Math.Seq.{drop-cons}
-use Rattle.std.proofs.lemmas.List.{append-nil, map-append, take_more}
+use Rattle.std.proofs.lemmas.List.{append-nil, map-append, take_all, take_more}
 use Rattle.std.proofs.lemmas.List.Elements.{filter-append}
 use Rattle.std.specs.List.{filter}
 use Rattle.address_space.specs.Source.{ExecutableView}
@@ -11,8 +11,9 @@ use Rattle.intake.specs.declared.faults.ArchiveFault.{ArchiveFault}
 use Rattle.intake.specs.declared.faults.ArchiveFault.TheVariants.{OutOfMemory}
 use Rattle.journal_layout.specs.Case.{case_of, Case}
 use Rattle.journal_layout.specs.declared.entry.Entry.{Entry}
-use Rattle.case_queries.specs.Collecting.{Collects, Wanted, is_wanted, wanted_case, wanted_of, with_executable}
-use Rattle.case_queries.specs.CollectingWords.{joined, wanted_view}
+use Rattle.case_queries.specs.Collecting.{Collects, Wanted, wanted_case, with_executable}
+use Rattle.case_queries.specs.CollectingWords.{joined, read_as, wanted_view}
+use Rattle.case_queries.specs.declared.collect_executables.StoredExecutable.{StoredExecutable}
 use Rattle.case_queries.specs.declared.collect_executables.WantedCase.{WantedCase}
 use Rattle.case_queries.specs.Seeing.{LooksAt}
 
@@ -67,18 +68,33 @@ left_none [] i past = ap (map wanted_view) (drop_nil i)
 left_none (w ∷ ws) zero past = absurd (omega (arith, past))
 left_none (w ∷ ws) (suc i) past = left_none ws i (omega (arith, past))
 
-wanted_both : (b : List ℕ) (xs ys : List Case) → wanted_of b (xs ++ ys) ≡ wanted_of b xs ++ wanted_of b ys
-wanted_both b xs ys = ap (map wanted_case) (filter-append (is_wanted b) xs ys) ∙ map-append wanted_case (filter (is_wanted b) xs) (filter (is_wanted b) ys)
+-- the cases that pass a test
+abbrev picked : (Case → Bool) → List Case → List Wanted
+picked p cases = map wanted_case (filter p cases)
 
--- those that are wanted of the cases that went by, and of the next
-pub wanted_more : (b : List ℕ) (es : List Entry) (i : ℕ) (e : Entry) (old new : List Wanted) → i < length es → e ≡ get_or es i e
-    → old ≡ wanted_of b (map case_of (take i es)) → new ≡ old ++ wanted_of b (case_of e ∷ [])
-    → new ≡ wanted_of b (map case_of (take (i + 1) es))
-wanted_more b es i e old new within is before after =
+picked_both : (p : Case → Bool) (xs ys : List Case) → picked p (xs ++ ys) ≡ picked p xs ++ picked p ys
+picked_both p xs ys = ap (map wanted_case) (filter-append p xs ys) ∙ map-append wanted_case (filter p xs) (filter p ys)
+
+-- those of the cases that went by, and of the next
+pub picked_more : (p : Case → Bool) (es : List Entry) (i : ℕ) (e : Entry) (old new : List Wanted) → i < length es → e ≡ get_or es i e
+    → old ≡ map wanted_case (filter p (map case_of (take i es))) → new ≡ old ++ map wanted_case (filter p (case_of e ∷ []))
+    → new ≡ map wanted_case (filter p (map case_of (take (i + 1) es)))
+picked_more p es i e old new within is before after =
     let next : map case_of (take (i + 1) es) ≡ map case_of (take i es) ++ case_of e ∷ [] =
     ap (map case_of) (take_more es i e within)
     ∙ map-append case_of (take i es) (get_or es i e ∷ [])
     ∙ ap (λ (x : Entry). map case_of (take i es) ++ case_of x ∷ []) (sym is) in
-    after ∙ ap (λ (xs : List Wanted). xs ++ wanted_of b (case_of e ∷ [])) before
-    ∙ sym (wanted_both b (map case_of (take i es)) (case_of e ∷ []))
-    ∙ ap (wanted_of b) (sym next)
+    after ∙ ap (λ (xs : List Wanted). xs ++ picked p (case_of e ∷ [])) before
+    ∙ sym (picked_both p (map case_of (take i es)) (case_of e ∷ []))
+    ∙ ap (picked p) (sym next)
+
+-- a case that is read more
+pub read_more : (found more : List StoredExecutable) (ws : List WantedCase) (i : ℕ) (w : WantedCase) → i < length ws → w ≡ get_or ws i w
+    → map read_as found ≡ map wanted_view (take i ws) → map read_as more ≡ map read_as found ++ wanted_view w ∷ [] → map read_as more ≡ map wanted_view (take (i + 1) ws)
+read_more found more ws i w within is are after =
+    after ∙ ap (λ (xs : List Wanted). xs ++ wanted_view w ∷ []) are
+    ∙ ap (λ (x : WantedCase). map wanted_view (take i ws) ++ wanted_view x ∷ []) is
+    ∙ sym (ap (map wanted_view) (take_more ws i w within) ∙ map-append wanted_view (take i ws) (get_or ws i w ∷ []))
+
+pub all_read : (found : List StoredExecutable) (ws : List WantedCase) (i : ℕ) → map read_as found ≡ map wanted_view (take i ws) → length ws ≤ i → map read_as found ≡ map wanted_view ws
+all_read found ws i are past = are ∙ ap (map wanted_view) (take_all i ws past)

@@ -2,6 +2,7 @@
 use Rattle.std.proofs.Common.{◌≡◌, ℕ, suc, ◌+◌, List, [], ◌∷◌, ◌++◌, length, Option, None, ap, subst, arith}
 use Rattle.std.specs.Option.{option_map}
 use Rattle.address_space.specs.Source.{ExecutableView}
+use Rattle.build_replies.specs.Builds.{NamedId}
 use Rattle.build_replies.specs.Choosing.{choice_for}
 use Rattle.disk_model.specs.declared.disk.Disk as disk
 use Rattle.frame_replies.specs.FrameValues.{frames_of, thread_frames}
@@ -12,12 +13,12 @@ use Rattle.memory_replies.specs.Places.{known_among}
 use Rattle.case_queries.specs.Facts.{AreFramesOf, AreOfThread}
 
 -- one thread more
-pub frames_more : {D : Type 0} (g : disk.Ghosts D) (a : Parts D) (seq : ℕ) (front : List ℕ) (size : ℕ) (xs : List ExecutableView) (t n : ℕ) (us : List (Option FramesAnswer)) (u : Option FramesAnswer)
-    → AreFramesOf g a seq front size xs t us → n ≡ t + length us → AreOfThread g a seq front size xs n u → AreFramesOf g a seq front size xs t (us ++ u ∷ [])
-frames_more g a seq front size xs t n [] u all is one =
+pub frames_more : {D : Type 0} (g : disk.Ghosts D) (a : Parts D) (seq : ℕ) (front : List ℕ) (size : ℕ) (told : Option (List NamedId)) (xs : List ExecutableView) (t n : ℕ) (us : List (Option FramesAnswer)) (u : Option FramesAnswer)
+    → AreFramesOf g a seq front size told xs t us → n ≡ t + length us → AreOfThread g a seq front size told xs n u → AreFramesOf g a seq front size told xs t (us ++ u ∷ [])
+frames_more g a seq front size told xs t n [] u all is one =
     let here : n ≡ t = omega (arith, is) in
-    (subst (λ k. AreOfThread g a seq front size xs k u) here one, tt)
-frames_more g a seq front size xs t n (v ∷ vs) u all is one = (all.0, frames_more g a seq front size xs (suc t) n vs u all.1 (omega (arith, is)) one)
+    (subst (λ k. AreOfThread g a seq front size told xs k u) here one, tt)
+frames_more g a seq front size told xs t n (v ∷ vs) u all is one = (all.0, frames_more g a seq front size told xs (suc t) n vs u all.1 (omega (arith, is)) one)
 
 -- a thread that is not there
 pub frames_missing : (image : List ℕ) (xs : List ExecutableView) (t : ℕ) → state_of image t ≡ None → frames_of image xs t ≡ None

@@ -13,7 +13,7 @@ use Rattle.image_replies.specs.Reasons.{core_reason}
 use Rattle.image_replies.specs.declared.core_image.CoreFault.{CoreFault}
 use Rattle.journal_layout.specs.declared.entry.Kind.{Kind}
 use Rattle.memory_replies.specs.Window.{past_of}
-use Rattle.windowed_search.specs.ScanWords.{for_bytes, for_texts}
+use Rattle.windowed_search.specs.ScanWords.{Aim, for_bytes, for_texts}
 use Rattle.script_lines.specs.declared.query.MemoryQuery.{MemoryQuery}
 use Rattle.script_lines.specs.declared.query.MemoryQuery.TheVariants.{Dump, Find, Strings, Backtrace, Unwind, Frame, Builds}
 use Rattle.memory_replies.specs.Answers.{Answers}
@@ -24,12 +24,11 @@ use Rattle.intake.specs.declared.faults.ArchiveFault.{ArchiveFault}
 use Rattle.journal_layout.specs.Case.{Case}
 use Rattle.memory_replies.specs.Memory.{mapped_files}
 use Rattle.script_streams.specs.Replies.{no_reply}
-use Rattle.case_queries.specs.Collecting.{Collects, CollectsAll, Wanted, wanted_of}
+use Rattle.case_queries.specs.Collecting.{Collects, CollectsAll, Wanted, wanted_for, wanted_of}
 use Rattle.case_queries.specs.CollectingWords.{executable_view}
 use Rattle.case_queries.specs.Asking.{Asking, asking_answer, asking_query, for_aim, for_builds, for_frames}
 use Rattle.case_queries.specs.Finding.{AsksFront, IsFrontOfCase, ShowsFound}
 use Rattle.case_queries.specs.Fronts.{HasSize, IsEnough, IsSoundFront, ReadsFront}
-use Rattle.case_queries.specs.Keeping.{StayCollected}
 use Rattle.case_queries.specs.LeaveLaws.{Leaves, looks_leaves, own_still}
 use Rattle.case_queries.specs.Windows.{IsSeenBy}
 use Rattle.case_queries.specs.declared.collect_executables.StoredExecutable.{StoredExecutable}
@@ -46,8 +45,13 @@ FilesLaw = (b : List ℕ) (n : ℕ) → IsHeaderWhole (take n b) → IsSound Cor
 pub wanted_front : FilesLaw → (o : CaseImage) (image : List ℕ) → IsSoundFront Core o.front.now → IsFrontOf o.front.now o.size image → (cases : List Case) → wanted_of o.front.now cases ≡ wanted_of image cases
 wanted_front law o image sound front cases = wanted_enough law o.front.now image (inr (front.1, sound)) cases
 
--- what is answered to the line that seeks it
-answer_is : (kind : Kind) (asking : Asking) (image : List ℕ) (xs : List ExecutableView) → asking_answer asking image xs ≡ answer_of kind (asking_query asking) image xs
+-- and so does the line that seeks it
+aim_wanted : (aim : Aim) (b : List ℕ) (cases : List Case) → wanted_of b cases ≡ wanted_for (asking_query (for_aim aim)) b cases
+aim_wanted (for_bytes needle) b cases = refl
+aim_wanted (for_texts least) b cases = refl
+
+-- what is answered to the line that asks it
+pub answer_is : (kind : Kind) (asking : Asking) (image : List ℕ) (xs : List ExecutableView) → asking_answer asking image xs ≡ answer_of kind (asking_query asking) image xs
 answer_is kind (for_aim (for_bytes needle)) image xs = refl
 answer_is kind (for_aim (for_texts least)) image xs = refl
 answer_is kind (for_frames thread None) image xs = refl
@@ -73,9 +77,9 @@ module _ {D : Type 0} (g : disk.Ghosts D) where
   pub found_leaves : (old new : Parts D) (o : CaseImage) (xs : List ExecutableView) (asking : Asking) (text : List ℕ) → ShowsFound g old o xs asking text new → Leaves g old new
   found_leaves old new o xs asking text shows = looks_leaves g old new o.seq shows.0 shows.1
 
-  module _ (law : FilesLaw) (o : CaseImage) (sound : IsSoundFront Core o.front.now) (asking : Asking) where
+  module _ (law : FilesLaw) (o : CaseImage) (sound : IsSoundFront Core o.front.now) (aim : Aim) where
     -- the answer is told
-    pub found_asked : (before new : Parts D) (xs : Vec StoredExecutable Global) (text : List ℕ) → StayCollected g new o.front.now (Some xs) → ShowsFound g before o (map executable_view xs.items) asking text new → AsksFront g before o asking text new
+    pub found_asked : (before new : Parts D) (xs : Vec StoredExecutable Global) (text : List ℕ) → Collects g new (wanted_of o.front.now (state_of new).cases) (Ok (map executable_view xs.items)) new → ShowsFound g before o (map executable_view xs.items) (for_aim aim) text new → AsksFront g before o (for_aim aim) text new
     found_asked before new xs text stay (Ok image, looks, told) = (
       Ok image,
       new,
@@ -84,8 +88,8 @@ module _ {D : Type 0} (g : disk.Ghosts D) where
         told.0,
         λ kind. (
           Ok (map executable_view xs.items),
-          inr (subst (λ (ws : List Wanted). Collects g new ws (Ok (map executable_view xs.items)) new) (wanted_front law o image sound told.0 (state_of new).cases) stay),
-          subst (λ a. Answers a text) (answer_is kind asking image (map executable_view xs.items)) told.1,
+          inr (subst (λ (ws : List Wanted). Collects g new ws (Ok (map executable_view xs.items)) new) (wanted_front law o image sound told.0 (state_of new).cases ∙ aim_wanted aim image (state_of new).cases) stay),
+          subst (λ a. Answers a text) (answer_is kind (for_aim aim) image (map executable_view xs.items)) told.1,
         ),
       ),
     )
@@ -93,7 +97,7 @@ module _ {D : Type 0} (g : disk.Ghosts D) where
 
     -- an executable can't be read
     pub unread_asked : (before mid new : Parts D) (f : ArchiveFault) → HasSize (state_of mid) o.seq o.size → length o.front.now ≤ o.size → ReadsFront g before o.seq o.front.now mid → CollectsAll g mid (wanted_of o.front.now (state_of mid).cases) (Err f) new
-        → AsksFront g before o asking (no_reply (reason_of f)) new
+        → AsksFront g before o (for_aim aim) (no_reply (reason_of f)) new
     unread_asked before mid new f sized short reads collects =
         let x = some_seen g before o mid mid o.front.now 0 o.front.now sized reads (at_start g before o mid reads short) in (
           Ok x.0,
@@ -103,7 +107,7 @@ module _ {D : Type 0} (g : disk.Ghosts D) where
             x.2,
             λ kind. (
               Err f,
-              subst (λ (ws : List Wanted). CollectsAll g mid ws (Err f) new) (wanted_front law o x.0 sound x.2 (state_of mid).cases) collects,
+              subst (λ (ws : List Wanted). CollectsAll g mid ws (Err f) new) (wanted_front law o x.0 sound x.2 (state_of mid).cases ∙ aim_wanted aim x.0 (state_of mid).cases) collects,
               refl,
             ),
           ),

@@ -35,7 +35,9 @@ use Rattle.case_queries.specs.Finding.{Finds, IsAllFound, ShowsFound, found_line
 use Rattle.case_queries.specs.Fronts.{HasSize, IsSoundFront, ReadsFront, ReadsUpTo}
 use Rattle.case_queries.specs.Seeing.{SeesImage}
 use Rattle.case_queries.specs.Walking.{BeginsSo, IsAt, IsReadTo, Walks, address_after}
+use Rattle.case_queries.specs.Pieces.{SeesPieces}
 use Rattle.case_queries.specs.declared.walk.CaseImage.{CaseImage}
+use Rattle.case_queries.specs.declared.window.Part.{Part}
 use Rattle.case_queries.specs.declared.walk.Walk.{Walk}
 use Rattle.case_queries.specs.declared.walk.WalkFault.{WalkFault}
 use Rattle.case_queries.specs.declared.walk.WalkFault.TheVariants.{Unread, OutOfMemory}
@@ -263,6 +265,20 @@ module _ {D : Type 0} (g : disk.Ghosts D) (only : (d : D) (c : List ℕ) → g.l
         quiet = quiet_then g before.disk mid.disk new.disk reads.quiet left.quiet;
         stays = stays_then g before mid new reads.stays left.stays;
       }
+
+  pub still_pieces : (before mid new : Parts D) (o : CaseImage) (ps : List Part) (xs : List Wanted) (views : List ExecutableView) → SeesPieces g before o ps mid → CollectsAll g mid xs (Ok views) new → SeesPieces g before o ps new
+  still_pieces before mid new o ps xs views (image, sees, begins) all =
+      let left = gathered_all mid new xs views all in (
+        image,
+        record {
+          own = sees.own;
+          state = left.state ∙ sees.state;
+          contents = λ honest. left.contents (sees.stays.honesty ∙ honest) ∙ sees.contents honest;
+          quiet = quiet_then g before.disk mid.disk new.disk sees.quiet left.quiet;
+          stays = stays_then g before mid new sees.stays left.stays;
+        },
+        begins,
+      )
 
   pub still_sized : (old new : Parts D) (seq size : ℕ) (xs : List Wanted) (views : List ExecutableView) → HasSize (state_of old) seq size → CollectsAll g old xs (Ok views) new → HasSize (state_of new) seq size
   still_sized old new seq size xs views has all = subst (λ (s : ArchiveState). HasSize s seq size) (sym (gathered_all old new xs views all).state) has

@@ -1,5 +1,5 @@
 -- What is shown of the frames of a thread of a core that is read piece by piece.
-use Rattle.std.proofs.Common.{◌≡◌, ◌≤◌, inl, inr, ℕ, ◌-◌, List, [], ◌++◌, take, length, replicate, Option, None, Some, Ok, Err, refl, ap, sym, subst, ◌∙◌, arith}
+use Rattle.std.proofs.Common.{◌≡◌, ◌≤◌, inl, inr, ℕ, ◌-◌, List, [], ◌++◌, take, length, map, replicate, Option, None, Some, Ok, Err, refl, ap, sym, subst, ◌∙◌, arith}
 use Rattle.std.specs.Prelude.{codes, slice_get}
 use Rattle.std.proofs.lemmas.List.{length-append, length-replicate}
 use Rattle.std.proofs.Math.Seq.{take-append_seam}
@@ -13,12 +13,13 @@ use Rattle.core_notes.specs.Typed.{all_descs, first_desc}
 use Rattle.address_space.specs.Source.{ExecutableView}
 use Rattle.address_space.specs.SpaceWords.{core_of}
 use Rattle.address_space.specs.Whole.{IsFrontOf}
-use Rattle.build_replies.specs.Choosing.{choice_for}
-use Rattle.build_replies.specs.ChoosingLaws.{chosen_same, places_same}
-use Rattle.build_replies.specs.ChoosingWords.{ArePlacesOf, choice_view}
-use Rattle.build_replies.specs.PlacesWords.{fronts_in}
+use Rattle.build_replies.specs.Builds.{NamedId, told_of, told_or_none}
+use Rattle.build_replies.specs.Choosing.{choice_for, choice_of}
+use Rattle.build_replies.specs.ChoosingWords.{choice_view}
+use Rattle.build_replies.specs.Mapped.{id_view, told_view}
+use Rattle.build_replies.specs.ToldLaws.{told_all}
 use Rattle.build_replies.specs.declared.choosing.ChosenExecutables.{ChosenExecutables}
-use Rattle.build_replies.specs.declared.places.FrontPlaces.{FrontPlaces}
+use Rattle.build_replies.specs.declared.ids.FrontId.{FrontId}
 use Rattle.frame_replies.specs.Processes.{start_by, start_of, state_of as thread_state}
 use Rattle.frame_replies.specs.Walking.{BeginsAt, IsProcessOf, IsWalkOf}
 use Rattle.frame_replies.specs.WalkLaws.{frame_missing, unwind_missing, walk_begins}
@@ -29,11 +30,12 @@ use Rattle.memory_replies.specs.Answers.{AnswersWith, is_done}
 use Rattle.memory_replies.specs.declared.outcome.Outcome.{Outcome}
 use Rattle.script_streams.specs.Replies.{Telling, TellsOutcome, TellsReply, no_reply, reply_of}
 use Rattle.case_queries.specs.Asking.{for_frames, frames_answer}
-use Rattle.case_queries.specs.Finding.{ShowsFound, found_reply}
-use Rattle.case_queries.specs.FrontIds.{IsChoiceAt}
+use Rattle.case_queries.specs.Finding.{found_reply}
+use Rattle.case_queries.specs.ToldWords.{IsToldBy, ShowsTold}
+use Rattle.case_queries.specs.declared.told.ToldFiles.{ToldFiles}
 use Rattle.case_queries.specs.Fronts.{HasSize, IsSoundFront, ReadsFront}
-use Rattle.case_queries.specs.Pieces.{BeginsWith, FindsFrames, SeesMore, SeesPieces}
-use Rattle.case_queries.specs.Unwound.{BeginsWalks, FindsThread, MissesThread, SeesCore}
+use Rattle.case_queries.specs.Pieces.{BeginsWith, FindsFrames, SeesPieces}
+use Rattle.case_queries.specs.Unwound.{BeginsWalks, FindsThread}
 use Rattle.case_queries.specs.declared.frames.UnwoundCore.{UnwoundCore}
 use Rattle.case_queries.specs.declared.frames.UnwoundThread.{UnwoundThread}
 use Rattle.case_queries.specs.declared.walk.CaseImage.{CaseImage}
@@ -59,6 +61,13 @@ no_thread : (t : ℕ) (image : List ℕ) (xs : List ExecutableView) (frame : Opt
 no_thread t image xs None none = ap reply_of (unwind_missing image xs t none)
 no_thread t image xs (Some i) none = ap reply_of (frame_missing image xs t none i)
 
+-- what is chosen for the files that an image tells is what is chosen for the core
+chosen_for : (xs : List ExecutableView) (image : List ℕ) (told : ToldFiles) (files : List FrontId) (c : ChosenExecutables) → map id_view files ≡ told_or_none (told_view told.files) → choice_view c ≡ choice_of (map id_view files) xs → told_of image ≡ told_view told.files
+    → choice_view c ≡ choice_for image xs
+unfolding choice_for
+chosen_for xs image told files c listed chosen is =
+    chosen ∙ ap (λ (ts : List NamedId). choice_of ts xs) (listed ∙ sym (told_all image ∙ ap told_or_none is))
+
 module _ (notes : NotesLaw) (o : CaseImage) (sound : IsSoundFront Core o.front.now) (t : ℕ) where
   -- the first bytes have the threads
   state_same : (image : List ℕ) → IsFrontOf o.front.now o.size image → thread_state o.front.now t ≡ thread_state image t
@@ -70,45 +79,34 @@ module _ (notes : NotesLaw) (o : CaseImage) (sound : IsSoundFront Core o.front.n
   start_same image front =
       enough_shows start_of (λ b n whole fine. ap (λ (ns : List NoteView). start_by (first_desc 6 ns)) (notes Core b n whole fine)) o.front.now image (inr (front.1, sound))
 
-  -- what is chosen by the places of the fronts is what is chosen for the core
-  choice_same : (xs : List ExecutableView) (ps : List Part) (places : FrontPlaces) (c : ChosenExecutables) → ArePlacesOf o.front.now o.size places → IsChoiceAt o ps places xs c → (image : List ℕ) → BeginsWith o ps image → choice_view c ≡ choice_for image xs
-  choice_same xs ps places c are is image begins =
-      let same = enough_shows (notes_of Core) (λ b n whole fine. notes Core b n whole fine) o.front.now image (inr (begins.0.1, sound)) in
-      is image begins ∙ chosen_same image xs (fronts_in image places) (places_same o.front.now image o.size places begins.0 same are)
-
   -- a walk that begins
-  pub begins_of : FilesLaw → (xs : List ExecutableView) (ps : List Part) (places : FrontPlaces) (c : ChosenExecutables) (w : frames.Walk) → ArePlacesOf o.front.now o.size places → IsChoiceAt o ps places xs c → BeginsAt (thread_state o.front.now t) w
-      → (image : List ℕ) (p : UnwoundProcess) → BeginsWith o ps image → IsProcessOf o.front.now (choice_view c) p → IsWalkOf image xs t p w
-  begins_of law xs ps places c w are is begins image p has own =
+  pub begins_of : FilesLaw → (xs : List ExecutableView) (told : ToldFiles) (files : List FrontId) (c : ChosenExecutables) (w : frames.Walk) → IsToldBy o told → map id_view files ≡ told_or_none (told_view told.files) → choice_view c ≡ choice_of (map id_view files) xs
+      → BeginsAt (thread_state o.front.now t) w → (image : List ℕ) (p : UnwoundProcess) → BeginsWith o told.pieces.items image → IsProcessOf o.front.now (choice_view c) p → IsWalkOf image xs t p w
+  begins_of law xs told files c w by listed chosen begins image p has own =
       let front = has.0 in
-      walk_begins o.front.now image xs (choice_view c) t p w own (choice_same xs ps places c are is image has) (enough_shows _ law o.front.now image (inr (front.1, sound))) (start_same image front) (state_same image front) begins
+      walk_begins o.front.now image xs (choice_view c) t p w own (chosen_for xs image told files c listed chosen (by.told image has)) (enough_shows _ law o.front.now image (inr (front.1, sound))) (start_same image front) (state_same image front) begins
 
   -- a thread that is not there
   pub missing_in : (image : List ℕ) → IsFrontOf o.front.now o.size image → thread_state o.front.now t ≡ None → thread_state image t ≡ None
   missing_in image front none = sym (state_same image front) ∙ none
 
-  pub missing_found : {D : Type 0} (g : disk.Ghosts D) (before now : Parts D) → HasSize (state_of now) o.seq o.size → length o.front.now ≤ o.size → ReadsFront g before o.seq o.front.now now → thread_state o.front.now t ≡ None → MissesThread g before o t now
-  missing_found g before now sized short reads none =
-      let x = some_seen g before o now now o.front.now 0 o.front.now sized reads (at_start g before o now reads short) in
-      (x.0, x.1, x.2, missing_in x.0 x.2 none)
-
-module _ {D : Type 0} (g : disk.Ghosts D) (before new : Parts D) (o : CaseImage) (xs : List ExecutableView) (t : ℕ) where
+module _ {D : Type 0} (g : disk.Ghosts D) (before new : Parts D) (o : CaseImage) (ps : List Part) (xs : List ExecutableView) (t : ℕ) where
   -- a walk that stopped
-  pub stop_found : (p : UnwoundProcess) (w : frames.Walk) (f : WalkFault) → FindsFrames g before o xs t p (Err f) w new → FindsThread g before o xs t p (Err f) new
+  pub stop_found : (p : UnwoundProcess) (w : frames.Walk) (f : WalkFault) → FindsFrames g before o ps xs t p (Err f) w new → FindsThread g before o ps xs t p (Err f) new
   stop_found p w (Unread f) finds = finds
   stop_found p w OutOfMemory finds = finds
 
   module _ (frame : Option ℕ) where
     -- the frames that were found are told
-    pub frames_shown : (p : UnwoundProcess) (u : UnwoundThread) (outcome : Outcome) (tell : Telling) → (finds : FindsThread g before o xs t p (Ok u) new) → TellsReply tell (AnswersWith outcome (frames_answer finds.0 xs t frame)) → TellsOutcome tell (λ text. ShowsFound g before o xs (for_frames t frame) text new) (is_done outcome)
+    pub frames_shown : (p : UnwoundProcess) (u : UnwoundThread) (outcome : Outcome) (tell : Telling) → (finds : FindsThread g before o ps xs t p (Ok u) new) → TellsReply tell (AnswersWith outcome (frames_answer finds.0 xs t frame)) → TellsOutcome tell (λ text. ShowsTold g before o ps xs (for_frames t frame) text new) (is_done outcome)
     frames_shown p u outcome tell finds told =
         let answer = frames_answer finds.0 xs t frame in
-        (told.0, (Ok finds.0, finds.1, (finds.2, answered outcome answer told.0 told.1)), outcome_with outcome answer told.0 told.1, told.2)
+        (told.0, (Ok finds.0, finds.1, (finds.2.0, inl (finds.2.1, answered outcome answer told.0 told.1))), outcome_with outcome answer told.0 told.1, told.2)
 
-    pub missing_shown : MissesThread g before o t new → ShowsFound g before o xs (for_frames t frame) (no_reply (codes "NoThread")) new
-    missing_shown finds = (Ok finds.0, finds.1, (finds.2, inl (no_thread t finds.0 xs frame finds.3)))
+    pub missing_shown : (sees : SeesPieces g before o ps new) → thread_state sees.0 t ≡ None → ShowsTold g before o ps xs (for_frames t frame) (no_reply (codes "NoThread")) new
+    missing_shown sees none = (Ok sees.0, sees.1, (sees.2.0, inl (sees.2.1, inl (no_thread t sees.0 xs frame none))))
 
-    pub stop_shown : (p : UnwoundProcess) (f : WalkFault) → FindsThread g before o xs t p (Err f) new → ShowsFound g before o xs (for_frames t frame) (found_reply (Err f)) new
+    pub stop_shown : (p : UnwoundProcess) (f : WalkFault) → FindsThread g before o ps xs t p (Err f) new → ShowsTold g before o ps xs (for_frames t frame) (found_reply (Err f)) new
     stop_shown p (Unread f) finds = (Err f, finds, refl)
     stop_shown p OutOfMemory finds = (Ok finds.0, finds.1, (finds.2, inr refl))
 
@@ -117,16 +115,6 @@ pub no_pieces : {D : Type 0} (g : disk.Ghosts D) (before now : Parts D) (o : Cas
 no_pieces g before now o sized short reads =
     let x = some_seen g before o now now o.front.now 0 o.front.now sized reads (at_start g before o now reads short) in
     (x.0, x.1, (x.2, tt))
-
--- a piece that can't be read
-pub fault_found : {D : Type 0} (g : disk.Ghosts D) (before new : Parts D) (o : CaseImage) (A : Type 0) (ps : List Part) (f : WalkFault) → SeesMore {A = A} g before o ps (Err f) new → SeesCore g before o (Err f) new
-fault_found g before new o A ps (Unread f) sees = sees
-fault_found g before new o A ps OutOfMemory sees = sees
-
--- what was not found of a core is shown
-pub core_shown : {D : Type 0} (g : disk.Ghosts D) (before new : Parts D) (o : CaseImage) (xs : List ExecutableView) (t : ℕ) (frame : Option ℕ) (f : WalkFault) → SeesCore g before o (Err f) new → ShowsFound g before o xs (for_frames t frame) (found_reply (Err f)) new
-core_shown g before new o xs t frame (Unread f) sees = (Err f, sees, refl)
-core_shown g before new o xs t frame OutOfMemory sees = (Ok sees.0, sees.1, (sees.2, inr refl))
 
 -- what the walks begin with, if it stays
 pub walks_same : (o : CaseImage) (xs : List ExecutableView) (u v : UnwoundCore) → v.process ≡ u.process → v.pieces.items ≡ u.pieces.items → BeginsWalks o xs u → BeginsWalks o xs v

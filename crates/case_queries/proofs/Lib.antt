@@ -14,3 +14,4 @@ pub mod FramesLemmas
 pub mod BuildLemmas
 pub mod StoredLemmas
 pub mod FactLemmas
+pub mod ToldLemmas

@@ -91,6 +91,6 @@ module _ {D : Type 0} (g : disk.Ghosts D) (before mid new : Parts D) (o : CaseIm
   piece_refused OutOfMemory others read sees = subst (λ (x : Parts D). SeesMore {A = Unit {0}} g before o others (Err OutOfMemory) x) (sym read) (sees.0, sees.1, sees.2.0)
 
 -- the walk stops with it
-pub stops_so : {D : Type 0} (g : disk.Ghosts D) (before now : Parts D) (o : CaseImage) (ps : List Part) (xs : List ExecutableView) (t : ℕ) (p : UnwoundProcess) (w : frames.Walk) (f : WalkFault) → SeesMore {A = Unit {0}} g before o ps (Err f) now → FindsFrames g before o xs t p (Err f) w now
-stops_so g before now o ps xs t p w (Unread f) sees = sees
-stops_so g before now o ps xs t p w OutOfMemory sees = sees
+pub stops_so : {D : Type 0} (g : disk.Ghosts D) (before now : Parts D) (o : CaseImage) (ps qs : List Part) (xs : List ExecutableView) (t : ℕ) (p : UnwoundProcess) (w : frames.Walk) (f : WalkFault) → SeesMore {A = Unit {0}} g before o ps (Err f) now → FindsFrames g before o qs xs t p (Err f) w now
+stops_so g before now o ps qs xs t p w (Unread f) sees = sees
+stops_so g before now o ps qs xs t p w OutOfMemory sees = sees

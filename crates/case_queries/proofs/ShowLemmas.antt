@@ -8,7 +8,7 @@ use Rattle.elf_view.specs.Sound.{IsHeaderWhole, IsSound}
 use Rattle.elf_view.specs.declared.faults.Want.TheVariants.{Core}
 use Rattle.memory_replies.specs.Memory.{has_name, mapped_files}
 use Rattle.case_queries.specs.Fronts.{IsEnough}
-use Rattle.case_queries.specs.Collecting.{is_exec, wanted_case, wanted_of}
+use Rattle.case_queries.specs.Collecting.{is_exec, wanted_case, wanted_for, wanted_of}
 use Rattle.case_queries.specs.Windows.{IsSeenBy}
 use Rattle.disk_model.specs.declared.disk.Disk as disk
 use Rattle.image_replies.specs.Core.{core_fault_of}
@@ -112,6 +112,13 @@ pub wanted_enough : ((b : List ℕ) (n : ℕ) → IsHeaderWhole (take n b) → I
 wanted_enough law front image enough cases =
     ap (λ files. map wanted_case (filter (λ (c : Case). is_exec c.origin.kind && list_any (has_name c.origin.name) files) cases)) (enough_shows mapped_files law front image enough)
 
+-- a line sees enough of the image to know which executables it reads
 pub wanted_same : ((b : List ℕ) (n : ℕ) → IsHeaderWhole (take n b) → IsSound Core (take n b) → mapped_files (take n b) ≡ mapped_files b) → (q : MemoryQuery) (front : List ℕ) (size at : ℕ) (bytes image : List ℕ) → IsSeenBy q front size at bytes image
-    → (cases : List Case) → wanted_of front cases ≡ wanted_of image cases
-wanted_same law q front size at bytes image by cases = wanted_enough law front image (seen_enough q front size at bytes image by) cases
+    → (cases : List Case) → wanted_for (memory_query q) front cases ≡ wanted_for (memory_query q) image cases
+wanted_same law (Dump first n) front size at bytes image by cases = wanted_enough law front image by.0 cases
+wanted_same law (Find needle) front size at bytes image by cases = wanted_enough law front image (inl by) cases
+wanted_same law (Strings least) front size at bytes image by cases = wanted_enough law front image (inl by) cases
+wanted_same law (Backtrace thread) front size at bytes image by cases = wanted_enough law front image by.0 cases
+wanted_same law (Unwind thread) front size at bytes image by cases = ap (λ b. wanted_for (memory_query (Unwind thread)) b cases) by
+wanted_same law (Frame thread frame) front size at bytes image by cases = ap (λ b. wanted_for (memory_query (Frame thread frame)) b cases) by
+wanted_same law Builds front size at bytes image by cases = ap (λ b. wanted_for (memory_query Builds) b cases) by

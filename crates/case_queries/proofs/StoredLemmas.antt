@@ -23,7 +23,9 @@ use Rattle.journal_layout.specs.declared.entry.Kind.{Kind}
 use Rattle.script_lines.specs.Queries.{QuerySaid, ask_symbol}
 use Rattle.script_streams.specs.Replies.{no_reply, reply_of}
 use Rattle.memory_replies.specs.Answers.{memory_reply}
-use Rattle.case_queries.specs.Collecting.{Collects, Wanted, is_wanted, wanted_case, wanted_of}
+use Rattle.case_queries.specs.Collecting.{Collects, Wanted, is_for, is_wanted, wanted_case, wanted_for}
+use Rattle.build_replies.specs.Choosing.{told_files}
+use Rattle.script_lines.specs.Queries.{ask_header, ask_notes, ask_threads, ask_registers, ask_process, ask_signal, ask_auxiliary_vector, ask_files, ask_maps, ask_dump, ask_find, ask_strings, ask_backtrace, ask_unwind, ask_frame, ask_builds, ask_symbol}
 use Rattle.case_queries.specs.InspectLaws.{asked_kind, steps_of}
 use Rattle.case_queries.specs.Inspecting.{MayAsk, Told, answer_of, reads_executables}
 use Rattle.case_queries.specs.Seeing.{LooksAt, SeesImage}
@@ -56,14 +58,33 @@ one_more c cs w there =
 itself : (c : Case) (cs : List Case) → IsThere (c ∷ cs) (wanted_case c)
 itself c cs none = let h : Some c ≡ None = subst (λ (t : Bool). cond t (Some c) (case_numbered c.seq cs) ≡ None) (eq-eqb c.seq c.seq refl) none in cc
 
-wanted_there : (b : List ℕ) (cases : List Case) → All (IsThere cases) (wanted_of b cases)
-wanted_there b [] = All-nil (IsThere [])
-wanted_there b (c ∷ cs) =
-    let rest = All-weaker (IsThere cs) (IsThere (c ∷ cs)) (one_more c cs) (wanted_of b cs) (wanted_there b cs) in
-    elim (is_wanted b c) as (λ t. All (IsThere (c ∷ cs)) (map wanted_case (cond t (c ∷ filter (is_wanted b) cs) (filter (is_wanted b) cs)))) [
-      | true ↦ All-cons (IsThere (c ∷ cs)) (wanted_case c) (wanted_of b cs) (itself c cs) rest
+picked_there : (p : Case → Bool) (cases : List Case) → All (IsThere cases) (map wanted_case (filter p cases))
+picked_there p [] = All-nil (IsThere [])
+picked_there p (c ∷ cs) =
+    let rest = All-weaker (IsThere cs) (IsThere (c ∷ cs)) (one_more c cs) (map wanted_case (filter p cs)) (picked_there p cs) in
+    elim (p c) as (λ t. All (IsThere (c ∷ cs)) (map wanted_case (cond t (c ∷ filter p cs) (filter p cs)))) [
+      | true ↦ All-cons (IsThere (c ∷ cs)) (wanted_case c) (map wanted_case (filter p cs)) (itself c cs) rest
       | false ↦ rest
     ]
+
+wanted_there : (q : QuerySaid) (b : List ℕ) (cases : List Case) → All (IsThere cases) (wanted_for q b cases)
+wanted_there ask_header b cases = picked_there (is_wanted b) cases
+wanted_there ask_notes b cases = picked_there (is_wanted b) cases
+wanted_there ask_threads b cases = picked_there (is_wanted b) cases
+wanted_there (ask_registers t) b cases = picked_there (is_wanted b) cases
+wanted_there ask_process b cases = picked_there (is_wanted b) cases
+wanted_there ask_signal b cases = picked_there (is_wanted b) cases
+wanted_there ask_auxiliary_vector b cases = picked_there (is_wanted b) cases
+wanted_there ask_files b cases = picked_there (is_wanted b) cases
+wanted_there ask_maps b cases = picked_there (is_wanted b) cases
+wanted_there (ask_dump x n) b cases = picked_there (is_wanted b) cases
+wanted_there (ask_find n) b cases = picked_there (is_wanted b) cases
+wanted_there (ask_strings n) b cases = picked_there (is_wanted b) cases
+wanted_there (ask_backtrace t) b cases = picked_there (is_wanted b) cases
+wanted_there (ask_unwind t) b cases = picked_there (is_for (told_files b)) cases
+wanted_there (ask_frame t i) b cases = picked_there (is_for (told_files b)) cases
+wanted_there ask_builds b cases = picked_there (is_for (told_files b)) cases
+wanted_there (ask_symbol x) b cases = picked_there (is_wanted b) cases
 
 -- a count that rose since a moment rose since each moment before
 risen_since : (a b c : ℕ) → a ≤ b → HasRisen b c → HasRisen a c
@@ -154,13 +175,13 @@ module _ {D : Type 0} (g : disk.Ghosts D) where
     by_core : reads_executables q ≡ true → core_fault_of image ≡ None → ShowsCore g mid kind q image reply new → IsAnswered
     by_core reads sound (Ok xs, inl short, told) = absurd cc
     by_core reads sound (Ok xs, inr all, told) =
-        let are = subst (λ (s : ArchiveState). AreStored g.seen a (wanted_of image s.cases) xs) sees.state
-        (all_stored a mid new (wanted_of image (state_of mid).cases) xs (sees_as a a mid seq image (record { honest = honest; state = refl; contents = refl }) sees) all) in
+        let are = subst (λ (s : ArchiveState). AreStored g.seen a (wanted_for q image s.cases) xs) sees.state
+        (all_stored a mid new (wanted_for q image (state_of mid).cases) xs (sees_as a a mid seq image (record { honest = honest; state = refl; contents = refl }) sees) all) in
         ⊎_elim (λ is. inl (of_core image here reads sound xs are is)) (λ short. inr (inl short)) told
     by_core reads sound (Err f, inl short, told) = inr (hindered a new f reply (inl cc) told)
     by_core reads sound (Err f, inr all, told) =
         inr (hindered a new f reply (hinders_since a mid new f sees.stays.later
-        (unread mid new (wanted_of image (state_of mid).cases) f (ap (λ (s : ArchiveState). s.stopped) sees.state ∙ runs) (wanted_there image (state_of mid).cases) all)) told)
+        (unread mid new (wanted_for q image (state_of mid).cases) f (ap (λ (s : ArchiveState). s.stopped) sees.state ∙ runs) (wanted_there q image (state_of mid).cases) all)) told)
 
     by_fault : reads_executables q ≡ true → (o : Option CoreFault) → core_fault_of image ≡ o → ShowsWithExecutables g mid kind q image o reply new → IsAnswered
     by_fault reads (Some fault) is shows = inl (of_fault image here reads fault is shows.0)
@@ -216,5 +237,5 @@ module _ {D : Type 0} (g : disk.Ghosts D) where
       absurd (let e : None ≡ Some fault = sym sound ∙ sym (ap core_fault_of (one_image a seq i j x y)) ∙ is in cc)
   one a seq q kind reply reply' (of_core i x on sound xs are told) (of_core j y on' sound' ys are' told') =
       let image = one_image a seq i j x y in
-      let list = one_list a (wanted_of i (state_of a).cases) xs ys are (subst (λ (b : List ℕ). AreStored g.seen a (wanted_of b (state_of a).cases) ys) image are') in
+      let list = one_list a (wanted_for q i (state_of a).cases) xs ys are (subst (λ (b : List ℕ). AreStored g.seen a (wanted_for q b (state_of a).cases) ys) image are') in
       told' ∙ ap (λ (b : List ℕ). reply_of (answer_of kind q b ys)) image ∙ ap (λ (zs : List ExecutableView). reply_of (answer_of kind q i zs)) list ∙ sym told

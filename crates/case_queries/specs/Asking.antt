@@ -10,6 +10,8 @@ use Rattle.script_lines.specs.Queries.{QuerySaid, ask_builds, ask_find, ask_fram
 use Rattle.windowed_search.specs.ScanWords.{Aim, IsAim, aim_of, for_bytes, for_texts}
 use Rattle.case_queries.specs.declared.asked.Asked.{Asked}
 use Rattle.case_queries.specs.declared.asked.Asked.TheVariants as asked
+use Rattle.case_queries.specs.declared.asked.AskedFiles.{AskedFiles}
+use Rattle.case_queries.specs.declared.asked.AskedFiles.TheVariants as files
 
 -- what is sought in all of its memory; the frames of a thread, or the registers of one of them; the build IDs of its mapped files
 pub data Asking : Type 0 where
@@ -17,10 +19,13 @@ pub data Asking : Type 0 where
   for_frames : ℕ → Option ℕ → Asking
   for_builds : Asking
 
+abbrev pub files_asking : AskedFiles → Asking
+files_asking (files.Frames thread frame) = for_frames thread frame
+files_asking files.Builds = for_builds
+
 abbrev pub asking_of : Asked → Asking
 asking_of (asked.Sought s) = for_aim (aim_of s)
-asking_of (asked.Frames thread frame) = for_frames thread frame
-asking_of asked.Builds = for_builds
+asking_of (asked.Files a) = files_asking a
 
 -- nothing that is empty is sought
 abbrev pub IsAsking : Asking → Type 0

@@ -1,6 +1,10 @@
--- The executables that a line over memory reads with its core: those whose names the core's NT_FILE has.
+-- The executables that a line over memory reads with its core: those whose names the core's NT_FILE has, and those under the names of
+-- the builds that it tells.
 use Rattle.std.specs.Prelude.{◌≡◌, ◌⊎◌, ◌&&◌, ℕ, Bool, true, false, List, [], ◌∷◌, filter, map, Result, Ok, Err, MatchResult}
 use Rattle.address_space.specs.Source.{ExecutableView}
+use Rattle.build_replies.specs.Builds.{NamedId}
+use Rattle.build_replies.specs.Choosing.{told_files}
+use Rattle.build_replies.specs.NameWords.{is_one_of, stored_names}
 use Rattle.disk_model.specs.declared.disk.Disk as disk
 use Rattle.intake.specs.Parts.{Parts}
 use Rattle.intake.specs.declared.faults.ArchiveFault.{ArchiveFault}
@@ -9,6 +13,7 @@ use Rattle.journal_layout.specs.Case.{Case}
 use Rattle.journal_layout.specs.declared.entry.Kind.{Kind}
 use Rattle.journal_layout.specs.declared.entry.Kind.TheVariants.{Core, Exec}
 use Rattle.memory_replies.specs.Memory.{is_mapped}
+use Rattle.script_lines.specs.Queries.{QuerySaid, ask_builds, ask_frame, ask_unwind}
 use Rattle.case_queries.specs.Seeing.{LooksAt}
 
 abbrev pub is_exec : Kind → Bool
@@ -29,6 +34,20 @@ wanted_case c = (c.seq, c.origin.name)
 -- those that are read for a core, in the order of the cases
 abbrev pub wanted_of : List ℕ → List Case → List Wanted
 wanted_of b cases = map wanted_case (filter (is_wanted b) cases)
+
+-- An executable that is stored under the name of one of these mapped files, or of its build, for which the core tells that ID.
+abbrev pub is_for : List NamedId → Case → Bool
+is_for told c = is_exec c.origin.kind && is_one_of (stored_names told) c.origin.name
+
+abbrev pub wanted_by : List NamedId → List Case → List Wanted
+wanted_by told cases = map wanted_case (filter (is_for told) cases)
+
+-- Those that a line reads with a core: the lines over call frames and builds choose by build, the others by path alone.
+abbrev pub wanted_for : QuerySaid → List ℕ → List Case → List Wanted
+wanted_for (ask_unwind thread) b cases = wanted_by (told_files b) cases
+wanted_for (ask_frame thread frame) b cases = wanted_by (told_files b) cases
+wanted_for ask_builds b cases = wanted_by (told_files b) cases
+wanted_for q b cases = wanted_of b cases
 
 -- an executable, and those after it
 abbrev pub with_executable : List ℕ → List ℕ → Result (List ExecutableView) ArchiveFault → Result (List ExecutableView) ArchiveFault

@@ -10,6 +10,10 @@ use Rattle.case_queries.specs.declared.collect_executables.WantedCase.{WantedCas
 abbrev pub wanted_view : WantedCase → Wanted
 wanted_view w = (w.seq, w.path.items)
 
+-- as what an executable was read
+abbrev pub read_as : StoredExecutable → Wanted
+read_as x = (x.seq, x.path.items)
+
 abbrev pub executable_view : StoredExecutable → ExecutableView
 executable_view x = record { path = x.path.items; image = x.image.items }
 

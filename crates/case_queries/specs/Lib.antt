@@ -15,5 +15,6 @@ pub mod Pieces
 pub mod Unwound
 pub mod FrontIds
 pub mod Facts
+pub mod ToldWords
 pub mod Finding
 pub mod Stored

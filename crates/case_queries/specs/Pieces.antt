@@ -77,9 +77,9 @@ WalkedTo o ps (Ok stop) w = HasFound w stop
 WalkedTo o ps (Err (frame_fault.Unread u)) w = (length o.front.now ≤ u.place) × AreBeside u.place ps × ((image : List ℕ) → BeginsWith o ps image → u.place < o.size)
 WalkedTo o ps (Err frame_fault.OutOfMemory) w = ⊤
 
--- all frames are found of the image that is seen; or why the walk stops
-abbrev pub FindsFrames : {D : Type 0} → disk.Ghosts D → Parts D → CaseImage → List ExecutableView → ℕ → UnwoundProcess → Result Stop WalkFault → frames.Walk → Parts D → Type 0
-FindsFrames g before o xs t p (Ok stop) w now =
-    (image : List ℕ) × SeesImage g before o.seq image now × IsFrontOf o.front.now o.size image × IsWalkOf image xs t p w × HasFound w stop
-FindsFrames g before o xs t p (Err (Unread f)) w now = LooksAt g before o.seq (Err f) now
-FindsFrames g before o xs t p (Err OutOfMemory) w now = (image : List ℕ) × SeesImage g before o.seq image now × IsFrontOf o.front.now o.size image
+-- all frames are found of the image that is seen, which has these pieces; or why the walk stops
+abbrev pub FindsFrames : {D : Type 0} → disk.Ghosts D → Parts D → CaseImage → List Part → List ExecutableView → ℕ → UnwoundProcess → Result Stop WalkFault → frames.Walk → Parts D → Type 0
+FindsFrames g before o ps xs t p (Ok stop) w now =
+    (image : List ℕ) × SeesImage g before o.seq image now × BeginsWith o ps image × IsWalkOf image xs t p w × HasFound w stop
+FindsFrames g before o ps xs t p (Err (Unread f)) w now = LooksAt g before o.seq (Err f) now
+FindsFrames g before o ps xs t p (Err OutOfMemory) w now = (image : List ℕ) × SeesImage g before o.seq image now × IsFrontOf o.front.now o.size image

@@ -17,7 +17,7 @@ use Rattle.memory_replies.specs.Answers.{Answers}
 use Rattle.script_lines.specs.Queries.{QuerySaid}
 use Rattle.script_streams.specs.Replies.{no_reply}
 use Rattle.archive_replies.specs.Reasons.{reason_of}
-use Rattle.case_queries.specs.Collecting.{CollectsAll, wanted_of}
+use Rattle.case_queries.specs.Collecting.{CollectsAll, wanted_for}
 use Rattle.case_queries.specs.Inspecting.{Told, answer_of, kind_for, reads_executables}
 use Rattle.case_queries.specs.Seeing.{LooksAt}
 
@@ -38,7 +38,7 @@ ToldWithExecutables kind q b (Err f) reply = reply ≡ no_reply (reason_of f)
 -- a core that has no fault, with the executables that are read for it
 abbrev pub ShowsCore : {D : Type 0} → disk.Ghosts D → Parts D → Kind → QuerySaid → List ℕ → List ℕ → Parts D → Type 0
 ShowsCore g old kind q b reply new =
-    (r : Result (List ExecutableView) ArchiveFault) × CollectsAll g old (wanted_of b (state_of old).cases) r new × ToldWithExecutables kind q b r reply
+    (r : Result (List ExecutableView) ArchiveFault) × CollectsAll g old (wanted_for q b (state_of old).cases) r new × ToldWithExecutables kind q b r reply
 
 -- the executables are read where the core has no fault
 abbrev pub ShowsWithExecutables : {D : Type 0} → disk.Ghosts D → Parts D → Kind → QuerySaid → List ℕ → Option CoreFault → List ℕ → Parts D → Type 0

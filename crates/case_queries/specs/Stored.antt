@@ -15,7 +15,7 @@ use Rattle.journal_layout.specs.Case.{Case}
 use Rattle.journal_layout.specs.declared.entry.Kind.{Kind}
 use Rattle.script_lines.specs.Queries.{QuerySaid}
 use Rattle.script_streams.specs.Replies.{no_reply, reply_of}
-use Rattle.case_queries.specs.Collecting.{Wanted, wanted_of}
+use Rattle.case_queries.specs.Collecting.{Wanted, wanted_for}
 use Rattle.case_queries.specs.Inspecting.{Inspects, MayAsk, answer_of, reads_executables}
 
 -- These bytes are the image of the case of this number, each at its place: those of the blocks that it has on the disk, one block after
@@ -41,7 +41,7 @@ pub data IsAnsweredOfTheCase {D : Type 0} (seen : D → List ℕ) (a : Parts D) 
       → IsAnsweredOfTheCase seen a seq q kind reply
   -- of the core, and of the executables whose names its NT_FILE has
   of_core : (image : List ℕ) → IsStored seen a seq image → reads_executables q ≡ true → core_fault_of image ≡ None
-      → (xs : List ExecutableView) → AreStored seen a (wanted_of image (state_of a).cases) xs → reply ≡ reply_of (answer_of kind q image xs)
+      → (xs : List ExecutableView) → AreStored seen a (wanted_for q image (state_of a).cases) xs → reply ≡ reply_of (answer_of kind q image xs)
       → IsAnsweredOfTheCase seen a seq q kind reply
 
 -- There was no memory; or the disk failed, which its count of failures shows.

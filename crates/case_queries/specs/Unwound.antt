@@ -1,5 +1,5 @@
 -- The frames of a thread of a core that is read piece by piece.
-use Rattle.std.specs.Prelude.{◌≡◌, ℕ, List, None, Result, Ok, Err}
+use Rattle.std.specs.Prelude.{◌≡◌, ℕ, List, Result, Ok, Err}
 use Rattle.address_space.specs.Source.{ExecutableView}
 use Rattle.address_space.specs.SpaceWords.{core_of}
 use Rattle.address_space.specs.Whole.{IsFrontOf}
@@ -9,19 +9,14 @@ use Rattle.frame_replies.specs.Walking.{BeginsAt, HasFound, IsWalkOf}
 use Rattle.frame_replies.specs.declared.process.UnwoundProcess.{UnwoundProcess}
 use Rattle.frame_replies.specs.declared.walk.Walk.{Walk}
 use Rattle.intake.specs.Parts.{Parts}
-use Rattle.case_queries.specs.Pieces.{BeginsWith, SeesPieces}
+use Rattle.case_queries.specs.Pieces.{BeginsWith}
 use Rattle.case_queries.specs.Seeing.{LooksAt, SeesImage}
 use Rattle.case_queries.specs.declared.frames.UnwoundCore.{UnwoundCore}
 use Rattle.case_queries.specs.declared.frames.UnwoundThread.{UnwoundThread}
 use Rattle.case_queries.specs.declared.walk.CaseImage.{CaseImage}
 use Rattle.case_queries.specs.declared.walk.WalkFault.{WalkFault}
 use Rattle.case_queries.specs.declared.walk.WalkFault.TheVariants.{Unread, OutOfMemory}
-
--- The image that is seen has these pieces; or why it can't be read.
-abbrev pub SeesCore : {D : Type 0} → disk.Ghosts D → Parts D → CaseImage → Result UnwoundCore WalkFault → Parts D → Type 0
-SeesCore g before o (Ok u) now = SeesPieces g before o u.pieces.items now
-SeesCore g before o (Err (Unread f)) now = LooksAt g before o.seq (Err f) now
-SeesCore g before o (Err OutOfMemory) now = (image : List ℕ) × SeesImage g before o.seq image now × IsFrontOf o.front.now o.size image
+use Rattle.case_queries.specs.declared.window.Part.{Part}
 
 -- Each walk that begins through the frames of a thread is one through those of any image that begins so and has these pieces, and there is
 -- such an image.
@@ -34,12 +29,8 @@ pub record BeginsWalks (o : CaseImage) (xs : List ExecutableView) (u : UnwoundCo
 abbrev pub IsUnwound : List ℕ → List ExecutableView → ℕ → UnwoundProcess → UnwoundThread → Type 0
 IsUnwound image xs t p u = IsWalkOf image xs t p u.walk × HasFound u.walk u.stop
 
--- they are found of the image that is seen; or why it can't be read
-abbrev pub FindsThread : {D : Type 0} → disk.Ghosts D → Parts D → CaseImage → List ExecutableView → ℕ → UnwoundProcess → Result UnwoundThread WalkFault → Parts D → Type 0
-FindsThread g before o xs t p (Ok u) now = (image : List ℕ) × SeesImage g before o.seq image now × IsFrontOf o.front.now o.size image × IsUnwound image xs t p u
-FindsThread g before o xs t p (Err (Unread f)) now = LooksAt g before o.seq (Err f) now
-FindsThread g before o xs t p (Err OutOfMemory) now = (image : List ℕ) × SeesImage g before o.seq image now × IsFrontOf o.front.now o.size image
-
--- the image that is seen has no such thread
-abbrev pub MissesThread : {D : Type 0} → disk.Ghosts D → Parts D → CaseImage → ℕ → Parts D → Type 0
-MissesThread g before o t now = (image : List ℕ) × SeesImage g before o.seq image now × IsFrontOf o.front.now o.size image × (state_of image t ≡ None)
+-- they are found of the image that is seen, which has these pieces; or why it can't be read
+abbrev pub FindsThread : {D : Type 0} → disk.Ghosts D → Parts D → CaseImage → List Part → List ExecutableView → ℕ → UnwoundProcess → Result UnwoundThread WalkFault → Parts D → Type 0
+FindsThread g before o ps xs t p (Ok u) now = (image : List ℕ) × SeesImage g before o.seq image now × BeginsWith o ps image × IsUnwound image xs t p u
+FindsThread g before o ps xs t p (Err (Unread f)) now = LooksAt g before o.seq (Err f) now
+FindsThread g before o ps xs t p (Err OutOfMemory) now = (image : List ℕ) × SeesImage g before o.seq image now × IsFrontOf o.front.now o.size image

@@ -1,15 +1,21 @@
 // The executables that a line over memory reads with its core.
-ghost use Rattle.std.specs.Prelude.{◌≡◌, ◌∷◌, ◌++◌, [], ℕ, List, false, map, IfOk, OnOk};
+ghost use Rattle.std.specs.Prelude.{◌≡◌, ◌∷◌, ◌++◌, [], ℕ, List, false, map, IfOk, IsTrue, OnOk, Some};
 ghost use Rattle.image_replies.specs.CoreWords.{core_bytes};
 ghost use Rattle.intake.specs.Parts.{state_of};
 ghost use Rattle.journal_layout.specs.Case.{case_of};
 ghost use Rattle.memory_replies.specs.FileNameWords.{AreNamesOf};
 ghost use Rattle.memory_replies.specs.Memory.{attached_view};
-ghost use Rattle.case_queries.specs.Collecting.{Collects, CollectsAll, wanted_of, is_wanted};
-ghost use Rattle.case_queries.specs.CollectingWords.{executable_view, collected_view, wanted_view};
+ghost use Rattle.build_replies.specs.Builds.{NamedId, told_or_none};
+ghost use Rattle.build_replies.specs.Mapped.{id_view, told_view};
+ghost use Rattle.build_replies.specs.NameWords.{names_in, stored_names};
+ghost use Rattle.case_queries.specs.Collecting.{Collects, CollectsAll, Wanted, is_for, is_wanted, wanted_by, wanted_of};
+ghost use Rattle.case_queries.specs.CollectingWords.{executable_view, collected_view, read_as, wanted_view};
+ghost use Rattle.case_queries.specs.Keeping.{StayCollected};
 
 use crate::kept_image::see_image;
+use crate::told::ToldFiles;
 use address_space::Attached;
+use build_replies::{FrontId, StoredNames, build_names, listed};
 use disk_model::Disk;
 use image_replies::CoreImage;
 use intake::{Archive, ArchiveFault};
@@ -18,9 +24,10 @@ use memory_replies::FileNames;
 use std::alloc::{AllocError, Global};
 use stream_names::copied;
 
-/// A stored executable, by the path that is its name.
+/// A stored executable, by its number and its name.
 #[derive(Drop)]
 pub struct StoredExecutable {
+    pub(crate) seq: u32,
     pub(crate) path: Name,
     pub(crate) image: Vec<u8>,
 }
@@ -32,27 +39,8 @@ pub(crate) struct WantedCase {
     pub(crate) path: Name,
 }
 
-/// Reads the stored executables whose names the core's NT_FILE has, in the order of their numbers.
-///
-/// # Errors
-///
-/// Those of `image` of `Archive`. `OutOfMemory`: there is no memory to hold them.
-pub fn stored_executables<D: Disk>(
-    alloc: Global,
-    core: &CoreImage<'_>,
-    archive: &mut Archive<D>,
-) -> Result<Vec<StoredExecutable>, ArchiveFault>
-    requires { archive.old.stopped ≡ false }
-    ensures { CollectsAll D.Disk archive.old (wanted_of (core_bytes core.now) (state_of archive.old).cases) (collected_view result) archive.new }
-{
-    let Ok(wanted) = wanted_in(alloc, core, archive) else {
-        return Err(ArchiveFault::OutOfMemory);
-    };
-    read_each(alloc, &wanted, archive)
-}
-
-// Those that are wanted of an archive.
-fn wanted_in<D: Disk>(
+// Those whose names the core's NT_FILE has, in the order of their numbers. The error is that there is no memory.
+pub(crate) fn wanted_by_path<D: Disk>(
     alloc: Global,
     core: &CoreImage<'_>,
     archive: &Archive<D>,
@@ -106,13 +94,148 @@ fn is_wanted(names: &FileNames<'_>, entry: &Entry) -> bool
     }
 }
 
+// Those that are stored under the names of these mapped files, or of their builds, in the order of their numbers. The error is that there is
+// no memory.
+pub(crate) fn wanted_by_build<D: Disk>(
+    alloc: Global,
+    files: &[FrontId<'_>],
+    archive: &Archive<D>,
+) -> Result<Vec<WantedCase>, AllocError>
+    requires { archive.now.stopped ≡ false }
+    ensures { IfOk result (λ v. map wanted_view v.items ≡ wanted_by (map id_view files.now) (state_of archive.now).cases) }
+{
+    match archive.cases() {
+        Ok(entries) => wanted_for_files(alloc, files, entries),
+        Err(_) => Ok(Vec::new(alloc)),
+    }
+}
+
+fn wanted_for_files(
+    alloc: Global,
+    files: &[FrontId<'_>],
+    entries: &[Entry],
+) -> Result<Vec<WantedCase>, AllocError>
+    ensures { IfOk result (λ v. map wanted_view v.items ≡ wanted_by (map id_view files.now) (map case_of entries.now)) }
+{
+    let builds = build_names(alloc, files)?;
+    let names = StoredNames::of(alloc, files, &builds)?;
+    let mut wanted = Vec::new(alloc);
+    for entry in entries {
+        add_for_files(&names, entry, &mut wanted)?;
+    }
+    Ok(wanted)
+}
+
+fn add_for_files(
+    names: &StoredNames<'_>,
+    entry: &Entry,
+    wanted: &mut Vec<WantedCase>,
+) -> Result<(), AllocError>
+    ensures { OnOk result ((told : List NamedId) → names_in names.now ≡ stored_names told → map wanted_view wanted.new.items ≡ map wanted_view wanted.old.items ++ wanted_by told (case_of entry.now ∷ [])) }
+{
+    if is_for_files(names, entry) {
+        wanted.push(WantedCase {
+            seq: entry.seq,
+            path: copied(entry.name.as_slice()),
+        })?;
+    }
+    Ok(())
+}
+
+fn is_for_files(names: &StoredNames<'_>, entry: &Entry) -> bool
+    ensures { (told : List NamedId) → names_in names.now ≡ stored_names told → result ≡ is_for told (case_of entry.now) }
+{
+    match entry.kind {
+        Kind::Core => false,
+        Kind::Exec => names.contains(entry.name.as_slice()),
+    }
+}
+
+// Whether one of those that are kept is the case.
+fn is_read(executable: &StoredExecutable, case: &WantedCase) -> bool
+    ensures { IsTrue result → read_as executable.now ≡ wanted_view case.now }
+{
+    executable.seq == case.seq && executable.path.as_slice() == case.path.as_slice()
+}
+
+// Whether those that are kept are these cases.
+fn are_read(executables: &[StoredExecutable], wanted: &[WantedCase]) -> bool
+    ensures { IsTrue result → map read_as executables.now ≡ map wanted_view wanted.now }
+{
+    if executables.len() != wanted.len() {
+        return false;
+    }
+    for i in 0..wanted.len() {
+        if !is_read(&executables[i], &wanted[i]) {
+            return false;
+        }
+    }
+    true
+}
+
+// The executables of these cases: those that are kept, if they are these; else they are read now.
+fn kept_or_read<D: Disk>(
+    alloc: Global,
+    wanted: &[WantedCase],
+    kept: Option<Vec<StoredExecutable>>,
+    archive: &mut Archive<D>,
+) -> Result<Vec<StoredExecutable>, ArchiveFault>
+    requires { StayCollected D.Disk archive.old kept }
+    ensures collects { Collects D.Disk archive.old (map wanted_view wanted.now) (collected_view result) archive.new }
+    ensures are { IfOk result (λ v. map read_as v.items ≡ map wanted_view wanted.now) }
+{
+    if let Some(executables) = kept {
+        if are_read(&executables, wanted) {
+            return Ok(executables);
+        }
+    }
+    read_each(alloc, wanted, archive)
+}
+
+// The same, as they may be kept.
+pub(crate) fn collect<D: Disk>(
+    alloc: Global,
+    wanted: Result<Vec<WantedCase>, AllocError>,
+    kept: Option<Vec<StoredExecutable>>,
+    archive: &mut Archive<D>,
+) -> Result<Vec<StoredExecutable>, ArchiveFault>
+    requires { StayCollected D.Disk archive.old kept }
+    ensures collected { (ws : List Wanted) → IfOk wanted (λ v. map wanted_view v.items ≡ ws) → CollectsAll D.Disk archive.old ws (collected_view result) archive.new }
+    ensures are { (ws : List Wanted) → IfOk wanted (λ v. map wanted_view v.items ≡ ws) → IfOk result (λ v. map read_as v.items ≡ ws) }
+    ensures kept { IfOk result (λ v. StayCollected D.Disk archive.new (Some v)) }
+{
+    let Ok(wanted) = wanted else {
+        return Err(ArchiveFault::OutOfMemory);
+    };
+    kept_or_read(alloc, &wanted, kept, archive)
+}
+
+/// Reads the executables that are stored under the names of a core's mapped files, or of the builds that it tells, in the order of their
+/// numbers.
+///
+/// # Errors
+///
+/// Those of `image` of `Archive`. `OutOfMemory`: there is no memory to hold them.
+pub fn stored_executables<D: Disk>(
+    alloc: Global,
+    told: &ToldFiles<'_>,
+    archive: &mut Archive<D>,
+) -> Result<Vec<StoredExecutable>, ArchiveFault>
+    requires { archive.old.stopped ≡ false }
+    ensures { CollectsAll D.Disk archive.old (wanted_by (told_or_none (told_view told.now.files)) (state_of archive.old).cases) (collected_view result) archive.new }
+{
+    let wanted = wanted_by_build(alloc, listed(&told.files), archive);
+    collect(alloc, wanted, None, archive)
+}
+
 // Reads these, one after the other.
 fn read_each<D: Disk>(
     alloc: Global,
     wanted: &[WantedCase],
     archive: &mut Archive<D>,
 ) -> Result<Vec<StoredExecutable>, ArchiveFault>
-    ensures { Collects D.Disk archive.old (map wanted_view wanted.now) (collected_view result) archive.new }
+    ensures collects { Collects D.Disk archive.old (map wanted_view wanted.now) (collected_view result) archive.new }
+    ensures are { IfOk result (λ v. map read_as v.items ≡ map wanted_view wanted.now) }
 {
     let mut found = Vec::new(alloc);
     for case in wanted {
@@ -130,9 +253,11 @@ fn add_read(
     image: Vec<u8>,
     found: &mut Vec<StoredExecutable>,
 ) -> Result<(), AllocError>
-    ensures { OnOk result (map executable_view found.new.items ≡ map executable_view found.old.items ++ (record { path = (wanted_view case.now).1; image = image.items }) ∷ []) }
+    ensures view { OnOk result (map executable_view found.new.items ≡ map executable_view found.old.items ++ (record { path = (wanted_view case.now).1; image = image.items }) ∷ []) }
+    ensures are { OnOk result (map read_as found.new.items ≡ map read_as found.old.items ++ wanted_view case.now ∷ []) }
 {
     found.push(StoredExecutable {
+        seq: case.seq,
         path: copied(case.path.as_slice()),
         image,
     })?;

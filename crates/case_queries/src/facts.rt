@@ -1,7 +1,9 @@
 // What a screen shows of a core beside its notes, as values.
-ghost use Rattle.std.specs.Prelude.{◌≡◌, ◌≤◌, ℕ, List, IfOk, OnOk, length, map};
+ghost use Rattle.std.specs.Prelude.{◌≡◌, ◌≤◌, ℕ, List, IfOk, OnOk, Option, length, map};
 ghost use Rattle.address_space.specs.Source.{ExecutableView};
 ghost use Rattle.address_space.specs.SpaceWords.{core_of};
+ghost use Rattle.build_replies.specs.Builds.{NamedId, told_of, values_of};
+ghost use Rattle.build_replies.specs.Mapped.{told_view};
 ghost use Rattle.elf_view.specs.declared.faults.Want.TheVariants.{Core};
 ghost use Rattle.frame_replies.specs.FrameValues.{frames_of, frames_view};
 ghost use Rattle.image_replies.specs.CoreWords.{core_bytes};
@@ -9,17 +11,18 @@ ghost use Rattle.intake.specs.Parts.{Parts, state_of};
 ghost use Rattle.memory_replies.specs.Memory.{attached_view};
 ghost use Rattle.std.specs.Option.{option_map};
 ghost use Rattle.case_queries.specs.CollectingWords.{executable_view};
-ghost use Rattle.case_queries.specs.Facts.{AreFramesOf, AreOfThread, SaysFacts};
-ghost use Rattle.case_queries.specs.Fronts.{HasSize, IsSoundFront, ReadsFront};
+ghost use Rattle.case_queries.specs.Facts.{AreFramesOf, AreOfThread, SaysFacts, builds_view};
+ghost use Rattle.case_queries.specs.Fronts.{HasSize, IsSoundFront};
 ghost use Rattle.case_queries.specs.Pieces.{BeginsWith, SeesPieces};
+ghost use Rattle.case_queries.specs.ToldWords.{IsToldBy};
 ghost use Rattle.case_queries.specs.Unwound.{BeginsWalks};
 
-use crate::builds::compare_in_core;
 use crate::collect_executables::{StoredExecutable, lent};
 use crate::frames::{UnwoundCore, process_in_core, walk_thread};
+use crate::told::ToldFiles;
 use crate::walk::{CaseImage, WalkFault};
 use address_space::Attached;
-use build_replies::BuildAnswer;
+use build_replies::{BuildAnswer, FrontId, build_answers};
 use disk_model::Disk;
 use elf_view::a_sound_front_is_enough;
 use frame_replies::{FramesAnswer, Walk};
@@ -51,9 +54,10 @@ fn thread_frames<'a, D: Disk>(
     requires sound { IsSoundFront Core image.front.now }
     requires own { image.front.now ≡ core_of found.old.process.space }
     requires some { (b : List ℕ) × BeginsWith image found.old.pieces.items b }
-    ensures told { IfOk result (λ u. (before : Parts D) (stored : List ExecutableView) → BeginsWalks image.entry stored found.old
+    ensures told { IfOk result (λ u. (before : Parts D) (told : Option (List NamedId)) (stored : List ExecutableView) → BeginsWalks image.entry stored found.old
+        → ((b : List ℕ) → BeginsWith image.entry found.old.pieces.items b → told_of b ≡ told)
         → SeesPieces D.Disk before image.entry found.old.pieces.items archive.old
-        → AreOfThread D.Disk before image.entry.seq image.entry.front.now image.entry.size stored thread u) }
+        → AreOfThread D.Disk before image.entry.seq image.entry.front.now image.entry.size told stored thread u) }
     ensures process { found.new.process ≡ found.old.process }
     ensures pieces { OnOk result (found.new.pieces.items ≡ found.old.pieces.items) }
     ensures sees { OnOk result ((before : Parts D) → SeesPieces D.Disk before image.entry found.old.pieces.items archive.old
@@ -76,6 +80,7 @@ fn unwind_threads<'a, D: Disk>(
     alloc: Global,
     image: CaseImage<'_>,
     core: &CoreImage<'a>,
+    told: ToldFiles<'a>,
     attached: &[Attached<'a>],
     threads: u64,
     archive: &mut Archive<D>,
@@ -84,15 +89,17 @@ fn unwind_threads<'a, D: Disk>(
     requires short { length image.front.now ≤ image.size }
     requires front { core_bytes core.now ≡ image.front.now }
     requires sound { IsSoundFront Core image.front.now }
-    requires read { (before : Parts D) × ReadsFront D.Disk before image.seq image.front.now archive.old }
-    ensures told { IfOk result (λ all. (before : Parts D) → ReadsFront D.Disk before image.entry.seq image.entry.front.now archive.old
-        → AreFramesOf D.Disk before image.entry.seq image.entry.front.now image.entry.size (map attached_view attached.now) 0 all.items) }
-    ensures reads { IfOk result (λ all. (before : Parts D) → ReadsFront D.Disk before image.entry.seq image.entry.front.now archive.old
-        → ReadsFront D.Disk before image.entry.seq image.entry.front.now archive.new) }
+    requires told { IsToldBy image told }
+    ensures told { IfOk result (λ all. (before : Parts D) → SeesPieces D.Disk before image.entry told.entry.pieces.items archive.old
+        → AreFramesOf D.Disk before image.entry.seq image.entry.front.now image.entry.size (told_view told.entry.files) (map attached_view attached.now) 0 all.items) }
+    ensures sees { IfOk result (λ all. (before : Parts D) → SeesPieces D.Disk before image.entry told.entry.pieces.items archive.old
+        → SeesPieces D.Disk before image.entry told.entry.pieces.items archive.new) }
     ensures count { IfOk result (λ all. length all.items ≡ threads) }
-    ensures has { IfOk result (λ all. HasSize (state_of archive.new) image.entry.seq image.entry.size) }
 {
-    let mut found = process_in_core(alloc, image, core, attached, archive)?;
+    let Ok(found) = process_in_core(alloc, core, told, attached) else {
+        return Err(WalkFault::OutOfMemory);
+    };
+    let mut found = found;
     let mut all = Vec::new(alloc);
     for thread in 0..threads {
         let frames = thread_frames(alloc, image, core, &mut found, thread, archive)?;
@@ -103,39 +110,51 @@ fn unwind_threads<'a, D: Disk>(
     Ok(all)
 }
 
+// The build IDs of the mapped files, next to those of the executables that are stored for them. The error is that there is no memory.
+fn told_builds<'a>(
+    alloc: Global,
+    told: &Option<Vec<FrontId<'a>>>,
+    stored: &[Attached<'a>],
+) -> Result<Option<Vec<BuildAnswer<'a>>>, AllocError>
+    ensures { IfOk result (λ rows. builds_view rows ≡ option_map (values_of (map attached_view stored.now)) (told_view told.now)) }
+{
+    match told {
+        Some(files) => Ok(Some(build_answers(alloc, files, stored)?)),
+        None => Ok(None),
+    }
+}
+
 /// Finds the frames of the first threads of a core, and the build IDs of its mapped files, with the executables that are stored for
-/// them. The core may be the first bytes alone of the case's image, which has `size` bytes. Of the rest it reads what tells these.
+/// them. The core may be the first bytes alone of the case's image. Of the rest it reads what tells the frames.
 ///
 /// # Errors
 ///
 /// `Unread`: the image can't be read. `OutOfMemory`: there is no memory for what was found.
 pub fn core_facts<'a, D: Disk>(
     alloc: Global,
-    seq: u32,
-    size: usize,
+    image: CaseImage<'_>,
     core: &CoreImage<'a>,
+    told: ToldFiles<'a>,
     executables: &'a [StoredExecutable],
     threads: u64,
     archive: &mut Archive<D>,
 ) -> Result<CoreFacts<'a>, WalkFault>
-    requires has { HasSize (state_of archive.old) seq size }
-    requires short { length (core_bytes core.now) ≤ size }
-    requires read { (before : Parts D) × ReadsFront D.Disk before seq (core_bytes core.now) archive.old }
-    ensures { IfOk result (λ facts. (before : Parts D) → ReadsFront D.Disk before seq (core_bytes core.now) archive.old
-        → SaysFacts D.Disk before seq (core_bytes core.now) size (map executable_view executables.now) threads facts archive.new) }
+    requires has { HasSize (state_of archive.old) image.seq image.size }
+    requires short { length image.front.now ≤ image.size }
+    requires front { core_bytes core.now ≡ image.front.now }
+    requires sound { IsSoundFront Core image.front.now }
+    requires told { IsToldBy image told }
+    ensures { IfOk result (λ facts. (before : Parts D) → SeesPieces D.Disk before image.entry told.entry.pieces.items archive.old
+        → SaysFacts D.Disk before image.entry.seq image.entry.front.now image.entry.size (told_view told.entry.files) (map executable_view executables.now) threads facts archive.new) }
 {
-    let elf = core.elf();
-    let image = CaseImage {
-        seq,
-        size,
-        front: elf.image(),
-    };
     let Ok(attached) = lent(alloc, executables) else {
         return Err(WalkFault::OutOfMemory);
     };
-    let unwound = unwind_threads(alloc, image, core, &attached, threads, archive)?;
-    match compare_in_core(alloc, image, core, &attached, archive) {
-        Ok(builds) => Ok(CoreFacts { unwound, builds }),
+    let Ok(builds) = told_builds(alloc, &told.files, &attached) else {
+        return Err(WalkFault::OutOfMemory);
+    };
+    match unwind_threads(alloc, image, core, told, &attached, threads, archive) {
+        Ok(unwound) => Ok(CoreFacts { unwound, builds }),
         Err(fault) => Err(fault),
     }
 }

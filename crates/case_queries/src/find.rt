@@ -1,4 +1,4 @@
-// The answers to `find`, `strings`, `unwind`, `frame` and `builds` of a core that is read piece by piece.
+// The answers to `find` and `strings` of a core that is read piece by piece, and which lines are answered so.
 ghost use Rattle.std.specs.Prelude.{◌≡◌, ◌<◌, ◌≤◌, ◌-◌, ◌^◌, false, ℕ, List, None, Ok, Some, map, is_ok, length};
 ghost use Rattle.address_space.specs.Source.{Space};
 ghost use Rattle.address_space.specs.Whole.{IsFrontOf};
@@ -26,13 +26,12 @@ ghost use Rattle.case_queries.specs.LeaveLaws.{Leaves};
 ghost use Rattle.case_queries.specs.Walking.{LeadsOn};
 
 use crate::asked::Asked;
-use crate::builds::builds_in_core;
-use crate::collect_executables::{StoredExecutable, lent};
+use crate::by_build::answer_by_build;
+use crate::collect_executables::{StoredExecutable, collect, lent, wanted_by_path};
 use crate::found::tell_found;
-use crate::frames::frames_in_core;
 use crate::front::{read_up_to, see_front};
 use crate::kept_image::{Images, KeptImage, kept_if};
-use crate::memory::{answer_memory, collected, refused_by};
+use crate::memory::{answer_memory, refused_by};
 use crate::walk::{CaseImage, PIECE, Walk, WalkFault};
 use address_space::Attached;
 use archive_replies::reason;
@@ -173,55 +172,27 @@ fn find_in_core<O: Output, D: Disk>(
     }
 }
 
-// What a line asks of a core of which the first bytes are at hand.
-fn answer_in_core<O: Output, D: Disk>(
-    alloc: Global,
-    image: CaseImage<'_>,
-    core: &CoreImage<'_>,
-    attached: &[Attached<'_>],
-    asked: Asked<'_>,
-    reply: &mut Reply<'_, O>,
-    archive: &mut Archive<D>,
-) -> Outcome
-    requires has { HasSize (state_of archive.old) image.seq image.size }
-    requires some { IsAsking (asking_of asked) }
-    requires short { length image.front.now ≤ image.size }
-    requires front { core_bytes core.now ≡ image.front.now }
-    requires sound { IsSoundFront Core image.front.now }
-    requires clean { core_fault_of image.front.now ≡ None }
-    ensures { (before : Parts D) → ReadsFront D.Disk before image.entry.seq image.entry.front.now archive.old
-        → TellsOutcome (telling O.Output reply.old reply.new) (λ text. ShowsFound D.Disk before image.entry (map attached_view attached.now) (asking_of asked.entry) text archive.new) (is_done result) }
-{
-    match asked {
-        Asked::Sought(sought) => find_in_core(alloc, image, core, attached, sought, reply, archive),
-        Asked::Frames { thread, frame } => {
-            frames_in_core(alloc, image, core, attached, thread, frame, reply, archive)
-        }
-        Asked::Builds => builds_in_core(alloc, image, core, attached, reply, archive),
-    }
-}
-
 // The same with these executables.
 fn find_with<O: Output, D: Disk>(
     alloc: Global,
     image: CaseImage<'_>,
     core: &CoreImage<'_>,
     executables: &[StoredExecutable],
-    asked: Asked<'_>,
+    sought: Sought<'_>,
     reply: &mut Reply<'_, O>,
     archive: &mut Archive<D>,
 ) -> Outcome
     requires has { HasSize (state_of archive.old) image.seq image.size }
-    requires some { IsAsking (asking_of asked) }
+    requires some { IsAim (aim_of sought) }
     requires short { length image.front.now ≤ image.size }
     requires front { core_bytes core.now ≡ image.front.now }
     requires sound { IsSoundFront Core image.front.now }
     requires clean { core_fault_of image.front.now ≡ None }
     ensures { (before : Parts D) → ReadsFront D.Disk before image.entry.seq image.entry.front.now archive.old
-        → TellsOutcome (telling O.Output reply.old reply.new) (λ text. ShowsFound D.Disk before image.entry (map executable_view executables.now) (asking_of asked.entry) text archive.new) (is_done result) }
+        → TellsOutcome (telling O.Output reply.old reply.new) (λ text. ShowsFound D.Disk before image.entry (map executable_view executables.now) (for_aim (aim_of sought.entry)) text archive.new) (is_done result) }
 {
     match lent(alloc, executables) {
-        Ok(attached) => answer_in_core(alloc, image, core, &attached, asked, reply, archive),
+        Ok(attached) => find_in_core(alloc, image, core, &attached, sought, reply, archive),
         Err(_) => tell_no_memory(reply),
     }
 }
@@ -229,6 +200,45 @@ fn find_with<O: Output, D: Disk>(
 // The same with the executables that its process had mapped, where they are stored. They are kept for the lines over the same
 // core that come next.
 fn find_collected<O: Output, D: Disk>(
+    alloc: Global,
+    image: CaseImage<'_>,
+    core: &CoreImage<'_>,
+    sought: Sought<'_>,
+    kept: &mut Option<Vec<StoredExecutable>>,
+    reply: &mut Reply<'_, O>,
+    archive: &mut Archive<D>,
+) -> Outcome
+    requires runs { archive.old.stopped ≡ false }
+    requires has { HasSize (state_of archive.old) image.seq image.size }
+    requires some { IsAim (aim_of sought) }
+    requires short { length image.front.now ≤ image.size }
+    requires front { core_bytes core.now ≡ image.front.now }
+    requires sound { IsSoundFront Core image.front.now }
+    requires clean { core_fault_of image.front.now ≡ None }
+    requires own { IsFrontOfCase D.Disk archive.old image }
+    requires kept { StayCollected D.Disk archive.old kept.old }
+    ensures answers { (before : Parts D) → ReadsFront D.Disk before image.entry.seq image.entry.front.now archive.old
+        → TellsOutcome (telling O.Output reply.old reply.new) (λ text. AsksFront D.Disk before image.entry (for_aim (aim_of sought.entry)) text archive.new) (is_done result) }
+    ensures kept { StayCollected D.Disk archive.new kept.new }
+    ensures leaves { Leaves D.Disk archive.old archive.new }
+{
+    a_sound_front_names_the_files();
+    let wanted = wanted_by_path(alloc, core, archive);
+    match collect(alloc, wanted, kept.take(), archive) {
+        Ok(executables) => {
+            let outcome = find_with(alloc, image, core, &executables, sought, reply, archive);
+            *kept = Some(executables);
+            outcome
+        }
+        Err(refusal) => {
+            tell_no(reply, reason(refusal));
+            refused_by(refusal)
+        }
+    }
+}
+
+// What a line asks of a core that has no fault.
+fn ask_core<O: Output, D: Disk>(
     alloc: Global,
     image: CaseImage<'_>,
     core: &CoreImage<'_>,
@@ -245,23 +255,17 @@ fn find_collected<O: Output, D: Disk>(
     requires sound { IsSoundFront Core image.front.now }
     requires clean { core_fault_of image.front.now ≡ None }
     requires own { IsFrontOfCase D.Disk archive.old image }
-    requires kept { StayCollected D.Disk archive.old image.front.now kept.old }
+    requires kept { StayCollected D.Disk archive.old kept.old }
     ensures answers { (before : Parts D) → ReadsFront D.Disk before image.entry.seq image.entry.front.now archive.old
         → TellsOutcome (telling O.Output reply.old reply.new) (λ text. AsksFront D.Disk before image.entry (asking_of asked.entry) text archive.new) (is_done result) }
-    ensures kept { StayCollected D.Disk archive.new image.entry.front.now kept.new }
+    ensures kept { StayCollected D.Disk archive.new kept.new }
     ensures leaves { Leaves D.Disk archive.old archive.new }
 {
-    a_sound_front_names_the_files();
-    match collected(alloc, core, kept.take(), archive) {
-        Ok(executables) => {
-            let outcome = find_with(alloc, image, core, &executables, asked, reply, archive);
-            *kept = Some(executables);
-            outcome
+    match asked {
+        Asked::Sought(sought) => {
+            find_collected(alloc, image, core, sought, kept, reply, archive)
         }
-        Err(refusal) => {
-            tell_no(reply, reason(refusal));
-            refused_by(refusal)
-        }
+        Asked::Files(asked) => answer_by_build(alloc, image, core, asked, kept, reply, archive),
     }
 }
 
@@ -280,15 +284,15 @@ fn find_front<O: Output, D: Disk>(
     requires short { length image.front.now ≤ image.size }
     requires sound { IsSoundFront Core image.front.now }
     requires own { IsFrontOfCase D.Disk archive.old image }
-    requires kept { StayCollected D.Disk archive.old image.front.now kept.old }
+    requires kept { StayCollected D.Disk archive.old kept.old }
     ensures answers { (before : Parts D) (kind : Kind) → ReadsFront D.Disk before image.entry.seq image.entry.front.now archive.old
         → TellsOutcome (telling O.Output reply.old reply.new) (λ text. Asks D.Disk before image.entry.seq (asking_query (asking_of asked.entry)) (Ok kind) text archive.new) (is_done result) }
-    ensures kept { StayCollected D.Disk archive.new image.entry.front.now kept.new }
+    ensures kept { StayCollected D.Disk archive.new kept.new }
     ensures leaves { Leaves D.Disk archive.old archive.new }
 {
     a_sound_front_answers();
     match CoreImage::read(image.front) {
-        Ok(core) => find_collected(alloc, image, &core, asked, kept, reply, archive),
+        Ok(core) => ask_core(alloc, image, &core, asked, kept, reply, archive),
         Err(fault) => {
             tell_core_fault(reply, fault);
             Outcome::Refused

@@ -10,19 +10,21 @@ ghost use Rattle.memory_replies.specs.Answers.{AnswersWith, is_done};
 ghost use Rattle.memory_replies.specs.Memory.{attached_view};
 ghost use Rattle.script_streams.specs.Replies.{TellsOutcome, TellsReply, telling};
 ghost use Rattle.case_queries.specs.Asking.{for_frames, frames_answer};
-ghost use Rattle.case_queries.specs.Finding.{ShowsFound};
-ghost use Rattle.case_queries.specs.Fronts.{HasSize, IsSoundFront, ReadsFront};
+ghost use Rattle.case_queries.specs.Fronts.{HasSize, IsSoundFront};
 ghost use Rattle.case_queries.specs.Pieces.{BeginsWith, FindsFrames, SeesPieces, WalkedTo};
-ghost use Rattle.case_queries.specs.Unwound.{BeginsWalks, FindsThread, IsUnwound, SeesCore};
+ghost use Rattle.case_queries.specs.ToldWords.{IsToldBy, ShowsTold};
+ghost use Rattle.case_queries.specs.Unwound.{BeginsWalks, FindsThread, IsUnwound};
+ghost use Rattle.case_queries.specs.declared.walk.CaseImage as images;
 ghost use Rattle.case_queries.specs.declared.window.Part as windows;
 
-use crate::chosen::choose;
+use crate::find::tell_no_memory;
 use crate::found::tell_found;
 use crate::pieces::{MOST, lent_pieces, read_more};
+use crate::told::ToldFiles;
 use crate::walk::{CaseImage, WalkFault};
 use crate::window::Part;
 use address_space::Attached;
-use build_replies::FrontPlaces;
+use build_replies::{ChosenExecutables, listed};
 use disk_model::Disk;
 use elf_view::a_sound_front_is_enough;
 use frame_replies::{UnwoundProcess, Walk, tell_walked, tell_walked_frame};
@@ -30,14 +32,14 @@ use image_replies::CoreImage;
 use intake::Archive;
 use memory_replies::{Outcome, a_sound_front_names_the_files};
 use script_streams::{Output, Reply, tell_no};
-use std::alloc::Global;
+use std::alloc::{AllocError, Global};
 use unwind::Stop;
 
 // What the frames of each thread of a core are found with: its process, and the pieces of its image by which the executables were chosen.
 #[derive(Drop)]
 pub(crate) struct UnwoundCore<'a> {
     pub(crate) process: UnwoundProcess<'a>,
-    pieces: Vec<Part>,
+    pub(crate) pieces: Vec<Part>,
 }
 
 // The frames of a thread, all of which are found.
@@ -78,7 +80,7 @@ fn walk_frames<D: Disk>(
     requires some { (b : List ℕ) × BeginsWith image pieces.old.items b }
     ensures finds { (before : Parts D) (stored : List ExecutableView) (thread : ℕ) → SeesPieces D.Disk before image.entry pieces.old.items archive.old
         → ((b : List ℕ) → BeginsWith image.entry pieces.old.items b → IsWalkOf b stored thread process.now walk.old)
-        → FindsFrames D.Disk before image.entry stored thread process.now result walk.new archive.new }
+        → FindsFrames D.Disk before image.entry pieces.old.items stored thread process.now result walk.new archive.new }
     ensures behind { OnOk result ((more : List windows.Part) × (pieces.new.items ≡ pieces.old.items ++ more)) }
     ensures sees { OnOk result ((before : Parts D) → SeesPieces D.Disk before image.entry pieces.old.items archive.old
         → SeesPieces D.Disk before image.entry pieces.old.items archive.new) }
@@ -96,35 +98,26 @@ fn walk_frames<D: Disk>(
     Err(WalkFault::OutOfMemory)
 }
 
-// What the frames of the threads of a core are found with. The first bytes of its image are at hand. The image is read piece by piece, as far
-// as it tells which of the executables are used.
-pub(crate) fn process_in_core<'a, D: Disk>(
+// What the frames of the threads of a core are found with. The first bytes of its image are at hand, and the pieces that tell its mapped
+// files. The error is that there is no memory.
+pub(crate) fn process_in_core<'a>(
     alloc: Global,
-    image: CaseImage<'_>,
     core: &CoreImage<'a>,
+    told: ToldFiles<'a>,
     attached: &[Attached<'a>],
-    archive: &mut Archive<D>,
-) -> Result<UnwoundCore<'a>, WalkFault>
-    requires has { HasSize (state_of archive.old) image.seq image.size }
-    requires short { length image.front.now ≤ image.size }
-    requires front { core_bytes core.now ≡ image.front.now }
-    requires sound { IsSoundFront Core image.front.now }
-    ensures sees { (before : Parts D) → ReadsFront D.Disk before image.entry.seq image.entry.front.now archive.old
-        → SeesCore D.Disk before image.entry result archive.new }
-    ensures walks { IfOk result (BeginsWalks image.entry (map attached_view attached.now)) }
-    ensures has { OnOk result (HasSize (state_of archive.new) image.entry.seq image.entry.size) }
+) -> Result<UnwoundCore<'a>, AllocError>
+    ensures walks { IfOk result (λ u. (o : images.CaseImage) → core_bytes core.now ≡ o.front.now → IsSoundFront Core o.front.now → IsToldBy o told.entry
+        → BeginsWalks o (map attached_view attached.now) u) }
+    ensures pieces { IfOk result (λ u. u.pieces ≡ told.entry.pieces) }
 {
     a_sound_front_names_the_files();
     a_sound_front_is_enough();
-    let Ok(fronts) = FrontPlaces::of_core(alloc, core, image.size as u64) else {
-        return Err(WalkFault::OutOfMemory);
-    };
-    let mut pieces = Vec::new(alloc);
-    let chosen = choose(alloc, image, &fronts, attached, &mut pieces, archive)?;
-    let Ok(process) = UnwoundProcess::of(alloc, core, chosen) else {
-        return Err(WalkFault::OutOfMemory);
-    };
-    Ok(UnwoundCore { process, pieces })
+    let chosen = ChosenExecutables::of(alloc, listed(&told.files), attached)?;
+    let process = UnwoundProcess::of(alloc, core, chosen)?;
+    Ok(UnwoundCore {
+        process,
+        pieces: told.pieces,
+    })
 }
 
 // Finds the frames of a thread, whose walk has begun. What is read for them is given back.
@@ -140,7 +133,7 @@ pub(crate) fn walk_thread<D: Disk>(
     requires some { (b : List ℕ) × BeginsWith image core.old.pieces.items b }
     ensures finds { (before : Parts D) (stored : List ExecutableView) (thread : ℕ) → SeesPieces D.Disk before image.entry core.old.pieces.items archive.old
         → ((b : List ℕ) → BeginsWith image.entry core.old.pieces.items b → IsWalkOf b stored thread core.old.process begun)
-        → FindsThread D.Disk before image.entry stored thread core.old.process result archive.new }
+        → FindsThread D.Disk before image.entry core.old.pieces.items stored thread core.old.process result archive.new }
     ensures process { core.new.process ≡ core.old.process }
     ensures pieces { OnOk result (core.new.pieces.items ≡ core.old.pieces.items) }
     ensures sees { OnOk result ((before : Parts D) → SeesPieces D.Disk before image.entry core.old.pieces.items archive.old → SeesPieces D.Disk before image.entry core.old.pieces.items archive.new) }
@@ -191,7 +184,7 @@ fn frames_of_walk<O: Output, D: Disk>(
     requires some { (b : List ℕ) × BeginsWith image found.pieces.items b }
     ensures { (before : Parts D) (stored : List ExecutableView) (thread : ℕ) → SeesPieces D.Disk before image.entry found.entry.pieces.items archive.old
         → ((b : List ℕ) → BeginsWith image.entry found.entry.pieces.items b → IsWalkOf b stored thread found.entry.process begun)
-        → TellsOutcome (telling O.Output reply.old reply.new) (λ text. ShowsFound D.Disk before image.entry stored (for_frames thread frame) text archive.new) (is_done result) }
+        → TellsOutcome (telling O.Output reply.old reply.new) (λ text. ShowsTold D.Disk before image.entry found.entry.pieces.items stored (for_frames thread frame) text archive.new) (is_done result) }
 {
     let mut core = found;
     match walk_thread(alloc, image, &mut core, begun, archive) {
@@ -200,12 +193,13 @@ fn frames_of_walk<O: Output, D: Disk>(
     }
 }
 
-// Tells the frames of a thread of a core of which the first bytes are at hand, or the registers of the frame of that number. All that is
-// wanted is read before the first line.
+// Tells the frames of a thread of a core, or the registers of the frame of that number. The first bytes of its image are at hand, and the
+// pieces that tell its mapped files. All that is wanted is read before the first line.
 pub(crate) fn frames_in_core<'a, O: Output, D: Disk>(
     alloc: Global,
     image: CaseImage<'_>,
     core: &CoreImage<'a>,
+    told: ToldFiles<'a>,
     attached: &[Attached<'a>],
     thread: u64,
     frame: Option<u64>,
@@ -213,19 +207,19 @@ pub(crate) fn frames_in_core<'a, O: Output, D: Disk>(
     archive: &mut Archive<D>,
 ) -> Outcome
     requires has { HasSize (state_of archive.old) image.seq image.size }
-    requires short { length image.front.now ≤ image.size }
     requires front { core_bytes core.now ≡ image.front.now }
     requires sound { IsSoundFront Core image.front.now }
-    ensures { (before : Parts D) → ReadsFront D.Disk before image.entry.seq image.entry.front.now archive.old
-        → TellsOutcome (telling O.Output reply.old reply.new) (λ text. ShowsFound D.Disk before image.entry (map attached_view attached.now) (for_frames thread frame) text archive.new) (is_done result) }
+    requires told { IsToldBy image told }
+    ensures { (before : Parts D) → SeesPieces D.Disk before image.entry told.entry.pieces.items archive.old
+        → TellsOutcome (telling O.Output reply.old reply.new) (λ text. ShowsTold D.Disk before image.entry told.entry.pieces.items (map attached_view attached.now) (for_frames thread frame) text archive.new) (is_done result) }
 {
     a_sound_front_is_enough();
     let Some(begun) = Walk::begin(alloc, core, thread) else {
         tell_no(reply, b"NoThread");
         return Outcome::Refused;
     };
-    match process_in_core(alloc, image, core, attached, archive) {
+    match process_in_core(alloc, core, told, attached) {
         Ok(found) => frames_of_walk(alloc, image, found, begun, frame, reply, archive),
-        Err(fault) => tell_found(reply, Err(fault)),
+        Err(_) => tell_no_memory(reply),
     }
 }

@@ -3,8 +3,8 @@
 
 mod asked;
 mod builds;
+mod by_build;
 mod by_front;
-mod chosen;
 mod collect_executables;
 mod facts;
 mod find;
@@ -17,6 +17,7 @@ mod laws;
 mod memory;
 mod pieces;
 mod stack;
+mod told;
 mod walk;
 mod wanted;
 mod window;
@@ -27,4 +28,5 @@ pub use front::read_front;
 pub use inspect::answer_query;
 pub use kept_image::{Images, KeptImage};
 pub use laws::answers_are_of_the_case;
-pub use walk::WalkFault;
+pub use told::{ToldFiles, told_files};
+pub use walk::{CaseImage, WalkFault};

@@ -6,8 +6,9 @@ ghost use Rattle.script_streams.specs.Replies.{TellsOutcome, TellsReply, telling
 ghost use Rattle.memory_replies.specs.Answers.{AnswersWith, is_done};
 ghost use Rattle.memory_replies.specs.Memory.{attached_view};
 ghost use Rattle.intake.specs.Parts.{state_of};
-ghost use Rattle.case_queries.specs.Collecting.{CollectsAll, wanted_of};
-ghost use Rattle.case_queries.specs.CollectingWords.{executable_view, collected_view};
+ghost use Rattle.build_replies.specs.Choosing.{told_files};
+ghost use Rattle.case_queries.specs.Collecting.{CollectsAll, wanted_by, wanted_for};
+ghost use Rattle.case_queries.specs.CollectingWords.{executable_view, collected_view, wanted_view};
 ghost use Rattle.case_queries.specs.Asking.{IsAsking, asking_of, asking_query};
 ghost use Rattle.case_queries.specs.Inspecting.{answer_of};
 ghost use Rattle.case_queries.specs.Steps.{Asks, Shows, ShowsCore};
@@ -15,15 +16,17 @@ ghost use Rattle.case_queries.specs.Keeping.{AreKept, StayCollected};
 ghost use Rattle.case_queries.specs.Seeing.{IsKept};
 ghost use Rattle.case_queries.specs.Windows.{IsSeenBy};
 
-use crate::asked::Asked;
-use crate::collect_executables::{StoredExecutable, lent, stored_executables};
+use crate::asked::{Asked, AskedFiles};
+use crate::collect_executables::{
+    StoredExecutable, WantedCase, collect, lent, wanted_by_build, wanted_by_path,
+};
 use crate::find::answer_find;
 use crate::front::size_of;
 use crate::kept_image::{Images, kept_if};
 use crate::window::{lent_window, see_memory};
 use address_space::Attached;
 use archive_replies::reason;
-use build_replies::tell_builds;
+use build_replies::{listed, tell_builds, told_ids};
 use disk_model::Disk;
 use frame_replies::{tell_frame, tell_unwind};
 use image_replies::{CoreImage, a_sound_front_answers, tell_core_fault};
@@ -34,7 +37,7 @@ use memory_replies::{
 };
 use script_lines::MemoryQuery;
 use script_streams::{Output, Reply, tell_no};
-use std::alloc::Global;
+use std::alloc::{AllocError, Global};
 use windowed_search::Sought;
 
 // The most bytes of an image that is searched whole, in memory: what is found is then told as it is found. Of a larger one it is held
@@ -84,15 +87,15 @@ fn asked_in(query: &MemoryQuery, size: usize) -> Option<Asked<'_>>
             }
             Some(Asked::Sought(Sought::Texts(*least)))
         }
-        MemoryQuery::Unwind { thread } => Some(Asked::Frames {
+        MemoryQuery::Unwind { thread } => Some(Asked::Files(AskedFiles::Frames {
             thread: *thread,
             frame: None,
-        }),
-        MemoryQuery::Frame { thread, frame } => Some(Asked::Frames {
+        })),
+        MemoryQuery::Frame { thread, frame } => Some(Asked::Files(AskedFiles::Frames {
             thread: *thread,
             frame: Some(*frame),
-        }),
-        MemoryQuery::Builds => Some(Asked::Builds),
+        })),
+        MemoryQuery::Builds => Some(Asked::Files(AskedFiles::Builds)),
         _ => None,
     }
 }
@@ -149,10 +152,10 @@ pub(crate) fn answer_memory<O: Output, D: Disk>(
     archive: &mut Archive<D>,
 ) -> Outcome
     requires runs { archive.old.stopped ≡ false }
-    requires kept { StayCollected D.Disk archive.old front.now kept.old }
+    requires kept { StayCollected D.Disk archive.old kept.old }
     ensures answers { (image : List ℕ) → IsSeenBy query.now front.now window.entry.size window.entry.at window.entry.bytes.now image
         → TellsOutcome (telling O.Output reply.old reply.new) (λ text. Shows D.Disk archive.old kind (memory_query query.now) image text archive.new) (is_done result) }
-    ensures kept { StayCollected D.Disk archive.new front.now kept.new }
+    ensures kept { StayCollected D.Disk archive.new kept.new }
 {
     a_sound_front_answers();
     match CoreImage::read(front) {
@@ -176,13 +179,13 @@ fn answer_core<O: Output, D: Disk>(
     archive: &mut Archive<D>,
 ) -> Outcome
     requires runs { archive.old.stopped ≡ false }
-    requires kept { StayCollected D.Disk archive.old (core_bytes core.now) kept.old }
+    requires kept { StayCollected D.Disk archive.old kept.old }
     ensures answers { (image : List ℕ) → IsSeenBy query.now (core_bytes core.now) window.entry.size window.entry.at window.entry.bytes.now image
         → TellsOutcome (telling O.Output reply.old reply.new) (λ text. ShowsCore D.Disk archive.old kind (memory_query query.now) image text archive.new) (is_done result) }
-    ensures kept { StayCollected D.Disk archive.new (core_bytes core.now) kept.new }
+    ensures kept { StayCollected D.Disk archive.new kept.new }
 {
     a_sound_front_names_the_files();
-    match collected(alloc, core, kept.take(), archive) {
+    match collected(alloc, query, core, kept.take(), archive) {
         Ok(executables) => {
             let outcome = tell_with_executables(
                 alloc,
@@ -213,22 +216,55 @@ pub(crate) fn refused_by(fault: ArchiveFault) -> Outcome
     }
 }
 
-// The executables of a core: those that are kept, or else they are read now.
-pub(crate) fn collected<D: Disk>(
+// The executables that a line reads with a core of which it sees enough.
+fn wanted_for<D: Disk>(
     alloc: Global,
+    query: &MemoryQuery,
+    core: &CoreImage<'_>,
+    archive: &Archive<D>,
+) -> Result<Vec<WantedCase>, AllocError>
+    requires { archive.now.stopped ≡ false }
+    ensures { IfOk result (λ v. map wanted_view v.items ≡ wanted_for (memory_query query.now) (core_bytes core.now) (state_of archive.now).cases) }
+{
+    match query {
+        MemoryQuery::Unwind { .. } => wanted_for_builds(alloc, core, archive),
+        MemoryQuery::Frame { .. } => wanted_for_builds(alloc, core, archive),
+        MemoryQuery::Builds => wanted_for_builds(alloc, core, archive),
+        MemoryQuery::Dump { .. } => wanted_by_path(alloc, core, archive),
+        MemoryQuery::Find { .. } => wanted_by_path(alloc, core, archive),
+        MemoryQuery::Strings { .. } => wanted_by_path(alloc, core, archive),
+        MemoryQuery::Backtrace { .. } => wanted_by_path(alloc, core, archive),
+    }
+}
+
+// Those of a core of which all bytes are at hand, by the builds that it tells.
+fn wanted_for_builds<D: Disk>(
+    alloc: Global,
+    core: &CoreImage<'_>,
+    archive: &Archive<D>,
+) -> Result<Vec<WantedCase>, AllocError>
+    requires { archive.now.stopped ≡ false }
+    ensures { IfOk result (λ v. map wanted_view v.items ≡ wanted_by (told_files (core_bytes core.now)) (state_of archive.now).cases) }
+{
+    let told = told_ids(alloc, core)?;
+    wanted_by_build(alloc, listed(&told), archive)
+}
+
+// The executables of a core: those that are kept, if they are these, or else they are read now.
+fn collected<D: Disk>(
+    alloc: Global,
+    query: &MemoryQuery,
     core: &CoreImage<'_>,
     kept: Option<Vec<StoredExecutable>>,
     archive: &mut Archive<D>,
 ) -> Result<Vec<StoredExecutable>, ArchiveFault>
     requires runs { archive.old.stopped ≡ false }
-    requires kept { StayCollected D.Disk archive.old (core_bytes core.now) kept }
-    ensures collected { CollectsAll D.Disk archive.old (wanted_of (core_bytes core.now) (state_of archive.old).cases) (collected_view result) archive.new }
-    ensures kept { IfOk result (λ v. StayCollected D.Disk archive.new (core_bytes core.now) (Some v)) }
+    requires kept { StayCollected D.Disk archive.old kept }
+    ensures collected { CollectsAll D.Disk archive.old (wanted_for (memory_query query.now) (core_bytes core.now) (state_of archive.old).cases) (collected_view result) archive.new }
+    ensures kept { IfOk result (λ v. StayCollected D.Disk archive.new (Some v)) }
 {
-    match kept {
-        Some(executables) => Ok(executables),
-        None => stored_executables(alloc, core, archive),
-    }
+    let wanted = wanted_for(alloc, query, core, archive);
+    collect(alloc, wanted, kept, archive)
 }
 
 // Tells what a core and these executables answer. Says what became of it.

@@ -17,12 +17,15 @@ use windowed_search::{MemoryScan, Step};
 // How many bytes of an image are read at once.
 pub(crate) const PIECE: u64 = 131_072;
 
-// The image of a case, of which the first bytes are at hand.
+/// The image of a case, of which the first bytes are at hand.
 #[derive(Clone, Copy)]
-pub(crate) struct CaseImage<'f> {
-    pub(crate) seq: u32,
-    pub(crate) size: usize,
-    pub(crate) front: &'f [u8],
+pub struct CaseImage<'f> {
+    /// The number of the case.
+    pub seq: u32,
+    /// How many bytes the image has.
+    pub size: usize,
+    /// The first of them.
+    pub front: &'f [u8],
 }
 
 // How far the image is read, the piece of it that was read last, and the search of the values so far.

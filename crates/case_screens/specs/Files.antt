@@ -2,8 +2,8 @@
 use Rattle.std.specs.Prelude.{ℕ, nat_lt, if◌then◌else◌, List, [], ◌∷◌, ◌++◌, length, take, find, Option, None, Some, Result, Ok, Err, codes, decimal}
 use Rattle.std.specs.Str.{bytes_eq}
 use Rattle.build_replies.specs.Builds.{BuildValue}
-use Rattle.build_replies.specs.Compared.{build_view}
-use Rattle.build_replies.specs.declared.ids.BuildAnswer.{BuildAnswer}
+use Rattle.build_replies.specs.Mapped.{build_view}
+use Rattle.build_replies.specs.declared.answers.BuildAnswer.{BuildAnswer}
 use Rattle.elf_view.specs.NoteList.{NoteView}
 use Rattle.image_replies.specs.Lines.{numbered_lines}
 use Rattle.image_replies.specs.declared.core_image.CoreFault.{CoreFault}

@@ -2,7 +2,7 @@
 use Rattle.std.specs.Prelude.{ℕ, ◌-◌, Bool, nat_lt, if◌then◌else◌, Option, None, Some, Result, Ok, Err, List, [], ◌∷◌, ◌++◌, length, codes, decimal}
 use Rattle.std.specs.Borrow.{Bor}
 use Rattle.std.specs.Option.{option_map}
-use Rattle.build_replies.specs.declared.ids.BuildAnswer.{BuildAnswer}
+use Rattle.build_replies.specs.declared.answers.BuildAnswer.{BuildAnswer}
 use Rattle.journal_layout.specs.Case.{Case}
 use Rattle.elf_view.specs.declared.faults.ElfFault.{ElfFault}
 use Rattle.elf_view.specs.declared.view.Header.{Header}

@@ -1,6 +1,6 @@
 // The files that a core had mapped, and which of them are stored.
 ghost use Rattle.std.specs.Prelude.{◌≡◌, ◌++◌, length, map, option_map, take};
-ghost use Rattle.build_replies.specs.Compared.{build_view};
+ghost use Rattle.build_replies.specs.Mapped.{build_view};
 ghost use Rattle.image_replies.specs.Lines.{numbered_lines};
 ghost use Rattle.journal_layout.specs.Case.{case_of};
 ghost use Rattle.script_streams.specs.Replies.{TellsText, telling};

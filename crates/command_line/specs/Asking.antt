@@ -20,7 +20,7 @@ use Rattle.script_lines.specs.Commands.{question_said}
 use Rattle.script_lines.specs.Said.{is_question, said}
 use Rattle.script_lines.specs.declared.question.Question.{Question}
 use Rattle.script_words.specs.Hex.{hex_of}
-use Rattle.command_line.specs.Requesting.{AsksToStore, Handles, IsGiven, IsGivenToHandle, IsUnspelled}
+use Rattle.command_line.specs.Requesting.{AsksOfStore, Handles, IsGiven, IsGivenToHandle, IsUnspelled}
 use Rattle.command_line.specs.declared.ask_words.AskedLine.{AskedLine}
 use Rattle.command_line.specs.declared.ask_words.Form.{Form}
 use Rattle.command_line.specs.declared.ask_words.Form.TheVariants.{Plain, Reply, Rows}
@@ -176,7 +176,9 @@ IsNoneOf command (name ∷ names) = (command ≡ name → ⊥) × IsNoneOf comma
 abbrev pub IsOver : Given → ArchivePath → Asked → Type 0
 IsOver given archive (asked.Run place settings) = (given.command.now ≡ codes "run") × (place ≡ archive) × AreSettings given settings
 IsOver given archive (asked.Store place file stall request log spool) =
-    (given.command.now ≡ codes "store") × (store : GivenStore) × IsGiven found_under given store × (store.pairs.now ≡ given.words.items) × AsksToStore store archive (asked.Store place file stall request log spool)
+    (given.command.now ≡ codes "store") × (store : GivenStore) × IsGiven found_under given store × (store.pairs.now ≡ given.words.items) × AsksOfStore store archive (asked.Store place file stall request log spool)
+IsOver given archive (asked.StoreBuild place file build log) =
+    (given.command.now ≡ codes "store") × (store : GivenStore) × IsGiven found_under given store × (store.pairs.now ≡ given.words.items) × AsksOfStore store archive (asked.StoreBuild place file build log)
 IsOver given archive (asked.Extract place case file) =
     (given.command.now ≡ codes "extract") × (place ≡ archive) × (case.now ≡ text_said given (codes "case")) × (option_copied file ≡ text_in given (codes "file"))
 IsOver given archive (asked.List place wanted) = (given.command.now ≡ codes "list") × (place ≡ archive) × IsListed given wanted

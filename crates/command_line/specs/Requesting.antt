@@ -1,15 +1,17 @@
 -- What the words of `store` and of `handle` ask for.
-use Rattle.std.specs.Prelude.{◌≡◌, ◌⊎◌, ℕ, ◌==◌, nat_lt, Bool, true, false, List, [], ◌∷◌, ◌++◌, length, map, Option, None, Some, is_some, Result, Ok, Err, codes, if◌then◌else◌}
+use Rattle.std.specs.Prelude.{◌≡◌, ◌⊎◌, ℕ, ◌==◌, ◌||◌, not, nat_lt, Bool, true, false, List, [], ◌∷◌, ◌++◌, length, map, Option, None, Some, is_some, Result, Ok, Err, codes, if◌then◌else◌}
 use Rattle.std.specs.List.{after_first, before_first, flat_map, position_or_len}
 use Rattle.std.specs.Borrow.{Bor}
-use Rattle.std.specs.Option.{option_copied, unwrap_or}
+use Rattle.std.specs.Option.{option_copied, option_map, unwrap_or}
 use Rattle.arrayvec.specs.ArrayVec.{ArrayVec}
 use Rattle.archive_files.specs.declared.archive_path.ArchivePath.{ArchivePath}
+use Rattle.archive_files.specs.declared.build_store.BuildRequest.{BuildRequest}
 use Rattle.archive_files.specs.declared.failures.Refusal.{Refusal}
 use Rattle.archive_files.specs.declared.failures.WordPart.{WordPart}
 use Rattle.archive_files.specs.declared.failures.Refusal.TheVariants.{BadLine, NotUtf8, OutOfMemory}
 use Rattle.archive_files.specs.declared.storing.StoreRequest.{StoreRequest}
 use Rattle.archive_files.specs.declared.storing.StoreWords.{StoreWords}
+use Rattle.build_ids.specs.BuildName.{has_name}
 use Rattle.command_words.specs.RawWords.{bytes_meant}
 use Rattle.core_handler.specs.Fronts.{named_by}
 use Rattle.core_handler.specs.Requesting.{order_of, policy_within}
@@ -21,13 +23,14 @@ use Rattle.name_template.specs.declared.template.TemplateFault.{TemplateFault}
 use Rattle.retention.specs.declared.Policy.{Policy}
 use Rattle.script_lines.specs.Commands.{label_bytes}
 use Rattle.script_lines.specs.Said.{Said, said, label_of, begin_core}
+use Rattle.script_words.specs.Hex.{needle_of}
 use Rattle.script_words.specs.Number.{number_of}
 use Rattle.script_words.specs.Printing.{shown_byte}
 use Rattle.stream_names.specs.Commands.{stream_found}
 use Rattle.command_line.specs.declared.store_words.GivenStore.{GivenStore}
 use Rattle.command_line.specs.declared.handle_words.GivenHandle.{GivenHandle}
 use Rattle.command_line.specs.declared.asked.Asked.{Asked}
-use Rattle.command_line.specs.declared.asked.Asked.TheVariants.{Store}
+use Rattle.command_line.specs.declared.asked.Asked.TheVariants.{Store, StoreBuild}
 use Rattle.command_line.specs.declared.named_words.NamedWords as named
 
 -- ---- How a line of a script has the words.
@@ -185,6 +188,9 @@ pub record IsGiven {W : Type 0} (g : named.Ghosts W) (words : W) (given : GivenS
   pub fit : g.stated words (codes "fit") given.fit
   pub fair : g.stated words (codes "fair") given.fair
   pub cut : g.stated words (codes "cut") given.cut
+  pub build : g.stated words (codes "build") given.build
+  pub id : g.stands words (codes "id") (option_copied given.id)
+  pub is_debug : g.stated words (codes "debug") given.is_debug
   pub template : (template : Option (List ℕ)) × g.stands words (codes "template") template × (given.settings.template.now ≡ unwrap_or template [])
   pub uses_pid : g.stated words (codes "uses-pid") given.settings.uses_pid
   pub limit : g.counts words (codes "limit") given.settings.limit
@@ -203,8 +209,49 @@ IsSpooled given (Some folder) None = ⊥
 IsSpooled given (Some folder) (Some spool) =
     (spool.folder.now ≡ folder) × IsBegun given (option_copied given.exec) (pairs_of given) spool.begin.items × (spool.fit ≡ given.fit)
 
+-- the ID that is wanted, if it is one that gives a name
+abbrev pub id_within : Option (List ℕ) → Result (Option (List ℕ)) Refusal
+id_within None = Err BadLine
+id_within (Some id) = if has_name id then Ok (Some id) else Err BadLine
+
+-- The build ID that FILE has to have: the bytes of the word's digits. If the word is left out there is none.
+abbrev pub id_said : Option (List ℕ) → Result (Option (List ℕ)) Refusal
+id_said None = Ok None
+id_said (Some word) = id_within (needle_of word)
+
+-- A word says what FILE is, or that it may be cut, though its build says so.
+abbrev pub is_said_twice : GivenStore → Bool
+is_said_twice given = is_some given.exec || (not (length given.pairs.now == 0) || given.cut)
+
+-- What `store --build` asks for: what `store` does without the name of an executable, pairs and a cut.
+pub record AsksForBuild (given : GivenStore) (build : BuildRequest) : Type 0 where
+  pub words : StoreWords
+  pub asked : AsksFor given words
+  pub policy : build.policy ≡ words.policy
+  pub options : build.options ≡ words.options
+  pub naming : build.naming ≡ named_by given.settings.template.now given.settings.uses_pid
+  pub limit : build.limit ≡ given.settings.limit
+  -- the build that it has to be of, and whether it is a debug file, whatever it is
+  pub id : id_said (option_copied given.id) ≡ Ok (option_map (λ (i : ArrayVec ℕ). i.items) build.id)
+  pub is_debug : build.is_debug ≡ given.is_debug
+  pub alone : is_said_twice given ≡ false
+
+-- Why it is refused.
+abbrev pub IsBuildRefused : GivenStore → Refusal → Type 0
+IsBuildRefused given why = ((why ≡ BadLine) × ((is_said_twice given ≡ true) ⊎ (id_said (option_copied given.id) ≡ Err BadLine))) ⊎ IsRefused given why
+
+-- What `store --build` asks for over this archive.
+pub record AsksToStoreBuild (given : GivenStore) (archive : ArchivePath) (asked : Asked) : Type 0 where
+  pub is_build : given.build ≡ true
+  pub file : Bor (List ℕ)
+  pub path : file.now ≡ given.file.now
+  pub build : BuildRequest
+  pub asks : AsksForBuild given build
+  pub same : asked ≡ StoreBuild archive file build given.log
+
 -- What `store` asks for over this archive: which file is stored, as what, through which spool, and where it is told.
 pub record AsksToStore (given : GivenStore) (archive : ArchivePath) (asked : Asked) : Type 0 where
+  pub is_plain : given.build ≡ false
   pub file : Bor (List ℕ)
   pub path : file.now ≡ given.file.now
   pub request : StoreRequest
@@ -216,6 +263,12 @@ pub record AsksToStore (given : GivenStore) (archive : ArchivePath) (asked : Ask
   pub spool : Option SpoolWords
   pub spooled : IsSpooled given (spool_said given) spool
   pub same : asked ≡ Store archive file stall request given.log spool
+
+-- What `store` asks for: by its build, or as the words say.
+abbrev pub AsksOfStore : GivenStore → ArchivePath → Asked → Type 0
+AsksOfStore given archive (Store place file stall request log spool) = AsksToStore given archive (Store place file stall request log spool)
+AsksOfStore given archive (StoreBuild place file build log) = AsksToStoreBuild given archive (StoreBuild place file build log)
+AsksOfStore given archive _ = ⊥
 
 -- ---- The words of `handle`.
 

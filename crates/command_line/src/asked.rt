@@ -14,7 +14,8 @@ use crate::handle_words::{GivenHandle, handle_words};
 use crate::list_words::list_words;
 use crate::store_words::{GivenStore, store_words};
 use archive_files::{
-    ArchivePath, CopyWords, NewArchive, Refusal, Salvaged, ShapeWish, StoreRequest, WordPart,
+    ArchivePath, BuildRequest, CopyWords, NewArchive, Refusal, Salvaged, ShapeWish, StoreRequest,
+    WordPart,
 };
 use case_info::InfoWords;
 use case_listing::ListWords;
@@ -56,6 +57,14 @@ pub(crate) enum Asked<'a> {
         log: Option<&'a str>,
         // The spool that a core goes to first, if there is one.
         spool: Option<SpoolWords<'a>>,
+    },
+    // A file under the name of its build, as a case of an archive.
+    StoreBuild {
+        archive: ArchivePath<'a>,
+        file: &'a str,
+        build: BuildRequest,
+        // Where its outcome is told, if it is.
+        log: Option<&'a str>,
     },
     // The image of a case, in a new file or on the output.
     Extract {

@@ -1,19 +1,20 @@
 // What the words of `store` ask for.
-ghost use Rattle.std.specs.Prelude.{◌≡◌, ◌⊎◌, None, Some, Err, IfOk, IfErr, if◌then◌else◌};
-ghost use Rattle.std.specs.Option.{option_copied};
+ghost use Rattle.std.specs.Prelude.{◌≡◌, ◌⊎◌, true, false, None, Some, Ok, Err, IfOk, IfErr, if◌then◌else◌};
+ghost use Rattle.std.specs.Option.{option_copied, option_map};
 ghost use Rattle.archive_files.specs.declared.failures.Refusal.TheVariants.{BadLine};
 ghost use Rattle.command_line.specs.Requesting as spec;
 
 use crate::asked::{Asked, SessionWords, checked, naming_of};
 use crate::begin_line::{core_line, valued_line};
 use crate::named_words::NamedWords;
-use archive_files::{ArchivePath, Refusal, StoreRequest, StoreWords};
+use archive_files::{ArchivePath, BuildRequest, Refusal, StoreRequest, StoreWords};
 use arrayvec::ArrayVec;
+use build_ids::has_name;
 use core_handler::{SpoolWords, order_of, policy_within};
 use inspector_cli::StoreOptions;
 use retention::Policy;
 use script_lines::{Call, Question, parse_question};
-use script_words::parse_number;
+use script_words::{decode_hex, parse_number};
 use std::alloc::Global;
 
 // The words of `store` that say what is stored, and how.
@@ -37,6 +38,10 @@ pub(crate) struct GivenStore<'g, 'a> {
     fit: bool,
     fair: bool,
     cut: bool,
+    // It is stored under the name of its build: one of this ID, or its debug file.
+    build: bool,
+    id: Option<&'a str>,
+    is_debug: bool,
     settings: SessionWords<'a>,
     // Where the outcome is told.
     log: Option<&'a str>,
@@ -65,6 +70,9 @@ impl<'g, 'a> GivenStore<'g, 'a> {
             fit: words.states("fit"),
             fair: words.states("fair"),
             cut: words.states("cut"),
+            build: words.states("build"),
+            id: words.word("id"),
+            is_debug: words.states("debug"),
             settings: SessionWords {
                 template: words.word("template").unwrap_or(""),
                 uses_pid: words.states("uses-pid"),
@@ -82,10 +90,19 @@ pub(crate) fn store_words<'a>(
     given: &GivenStore<'_, 'a>,
     archive: ArchivePath<'a>,
 ) -> Result<Asked<'a>, Refusal>
-    ensures asked { IfOk result (λ asked. spec.AsksToStore given.now archive.entry asked) }
-    ensures refused { IfErr result (spec.IsRefused given.now) }
+    ensures asked { IfOk result (λ asked. spec.AsksOfStore given.now archive.entry asked) }
+    ensures plain { given.now.build ≡ false → IfErr result (spec.IsRefused given.now) }
+    ensures build { given.now.build ≡ true → IfErr result (spec.IsBuildRefused given.now) }
 {
     let file = checked(given.file)?;
+    if given.build {
+        return Ok(Asked::StoreBuild {
+            archive,
+            file,
+            build: build_of(alloc, given)?,
+            log: given.log,
+        });
+    }
     let stall = number_of(given.stall)?;
     let request = request_of(alloc, given)?;
     let spool = spool_of(alloc, given)?;
@@ -97,6 +114,55 @@ pub(crate) fn store_words<'a>(
         log: given.log,
         spool,
     })
+}
+
+// What is stored under the name of its build. No word says what else it could be.
+fn build_of(alloc: Global, given: &GivenStore<'_, '_>) -> Result<BuildRequest, Refusal>
+    ensures asked { IfOk result (λ build. spec.AsksForBuild given.now build) }
+    ensures refused { IfErr result (spec.IsBuildRefused given.now) }
+{
+    if is_said_twice(given) {
+        return Err(Refusal::BadLine);
+    }
+    let id = id_of(given.id)?;
+    let StoreWords {
+        policy,
+        options,
+        ..
+    } = wanted_of(alloc, given)?;
+    if let Some(log) = given.log {
+        checked(log)?;
+    }
+    let naming = naming_of(given.settings)?;
+    Ok(BuildRequest {
+        id,
+        is_debug: given.is_debug,
+        policy,
+        options,
+        naming,
+        limit: given.settings.limit,
+    })
+}
+
+// Whether a word says what FILE is, or that it may be cut, though its build says so.
+fn is_said_twice(given: &GivenStore<'_, '_>) -> bool
+    ensures { result ≡ spec.is_said_twice given.now }
+{
+    given.exec.is_some() || !given.pairs.is_empty() || given.cut
+}
+
+// The build ID of a word, if it is there: 2 to 55 bytes, each as two hexadecimal digits.
+fn id_of(word: Option<&str>) -> Result<Option<ArrayVec<u8, 64>>, Refusal>
+    ensures said { IfOk result (λ id. spec.id_said (option_copied word.entry) ≡ Ok (option_map (λ i. i.items) id)) }
+    ensures refused { IfErr result (λ why. (why ≡ BadLine) × (spec.id_said (option_copied word.entry) ≡ Err BadLine)) }
+{
+    let Some(word) = word else {
+        return Ok(None);
+    };
+    match decode_hex(word.as_bytes()) {
+        Some(id) if has_name(&id) => Ok(Some(id)),
+        _ => Err(Refusal::BadLine),
+    }
 }
 
 // The spool that a core goes to first. An executable goes to none: if it were cut on its way, a flush would store it under its name.

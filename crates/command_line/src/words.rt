@@ -17,8 +17,8 @@ use command_words::{
     tell_notes, words_of,
 };
 use core_handler::{
-    Log, Notes, Source, SpoolWords, Teller, handle, store_spooled, store_told, tell_lost_words,
-    write_trouble,
+    Log, Notes, Source, SpoolWords, Teller, handle, store_build_told, store_spooled, store_told,
+    tell_lost_words, write_trouble,
 };
 use diagnostics::{Nobody, Onlooker};
 use inspector_cli::memory_session;
@@ -224,6 +224,18 @@ fn answer_asked<
                 rt, archive, source, request, log, &spool, input, output, notes, onlooker,
             )
         }
+        Asked::StoreBuild {
+            archive,
+            file,
+            build,
+            log,
+        } => {
+            let teller = teller_of(rt.alloc(), archive, log);
+            let note = &mut notes.subject;
+            store_build_told(
+                rt, teller, archive, file, build, input, output, note, onlooker,
+            )
+        }
         Asked::Extract {
             archive,
             case,
@@ -265,6 +277,19 @@ fn answer_asked<
     }
 }
 
+// What tells the outcome of a store to this log, if there is one.
+fn teller_of<'a>(alloc: Global, archive: ArchivePath<'a>, log: Option<&'a str>) -> Teller<'a> {
+    Teller {
+        alloc,
+        log: Log {
+            path: log.unwrap_or(""),
+            archive: Some(archive.path),
+        },
+        mode: None,
+        spooling: None,
+    }
+}
+
 // Stores a file, by way of a spool if there is one, and notes what people are to know of it.
 fn store_noting<
     R: AllocGlobal + Files<File = File> + Clock + Clone + Drop,
@@ -283,15 +308,7 @@ fn store_noting<
     notes: &mut Notes,
     onlooker: &mut W,
 ) -> Result<(), Failure> {
-    let teller = Teller {
-        alloc: rt.alloc(),
-        log: Log {
-            path: log.unwrap_or(""),
-            archive: Some(archive.path),
-        },
-        mode: None,
-        spooling: None,
-    };
+    let teller = teller_of(rt.alloc(), archive, log);
     match spool {
         Some(spool) => store_spooled(
             rt, spool, teller, archive, source, request, input, output, notes, onlooker,

@@ -16,6 +16,7 @@ use Rattle.command_words.specs.declared.tables.Word.{Word}
 abbrev pub action_said : Takes → ArgAction
 action_said takes.Flag = SetTrue
 action_said takes.FlagWithoutJson = SetTrue
+action_said takes.FlagWithBuild = SetTrue
 action_said (takes.Words least) = Append
 action_said _ = Set
 
@@ -49,7 +50,9 @@ rule_by word takes.NewPlace = placed word
 rule_by word (takes.Words least) = record (placed word) { range = Some (record { start_inclusive = least; end_inclusive = usize_max }); required = nat_lt 0 least }
 rule_by word takes.Flag = flagged word
 rule_by word takes.FlagWithoutJson = record (flagged word) { is_free = false }
+rule_by word takes.FlagWithBuild = record (flagged word) { is_free = false }
 rule_by word takes.Text = named word
+rule_by word takes.TextWithBuild = record (named word) { is_free = false }
 rule_by word takes.Blocks = record (named word) { parser = Some (Signed (pos 0) (pos 4294967295)); required = true }
 rule_by word (takes.Within least most) = record (named word) { parser = Some (Signed least most) }
 rule_by word takes.Bytes = record (named word) { parser = Some (Unsigned 0 18446744073709551615) }

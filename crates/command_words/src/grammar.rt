@@ -99,6 +99,7 @@ fn argument<'a>(alloc: Global, word: &Word) -> Result<Arg<'a>, AllocError>
     match word.takes {
         Takes::Flag => Ok(argument.long(word.id)),
         Takes::FlagWithoutJson => Ok(argument.long(word.id).conflicts_with("json")?),
+        Takes::FlagWithBuild => Ok(argument.long(word.id).requires_arg("build")?),
         Takes::Place => Ok(argument.value_name(word.shown).required(true)),
         Takes::NewPlace => Ok(argument.value_name(word.shown)),
         Takes::Words(least) => Ok(
@@ -108,6 +109,7 @@ fn argument<'a>(alloc: Global, word: &Word) -> Result<Arg<'a>, AllocError>
                 .required(least > 0),
         ),
         Takes::Text => Ok(named(argument, word)),
+        Takes::TextWithBuild => Ok(named(argument, word).requires_arg("build")?),
         Takes::Blocks => Ok(
             named(argument, word)
                 .value_parser(ValueParser::signed(0, 4_294_967_295))
@@ -134,7 +136,7 @@ fn action_of(takes: Takes) -> ArgAction
     ensures { result ≡ action_said takes }
 {
     match takes {
-        Takes::Flag | Takes::FlagWithoutJson => ArgAction::SetTrue,
+        Takes::Flag | Takes::FlagWithoutJson | Takes::FlagWithBuild => ArgAction::SetTrue,
         Takes::Words(_) => ArgAction::Append,
         _ => ArgAction::Set,
     }

@@ -95,7 +95,8 @@ fn kind_of_value(word: &str) -> Option<Kind> {
         | "--template"
         | "--limit"
         | "--exec"
-        | "--spool" => { Some(Kind::Unknown) }
+        | "--spool"
+        | "--id" => { Some(Kind::Unknown) }
         _ => None,
     }
 }

@@ -7,7 +7,7 @@ pub(crate) struct Meaning {
 }
 
 // The reasons for which something is refused. Other reasons are fields of an image.
-static MEANINGS: [Meaning; 41] = [
+static MEANINGS: [Meaning; 43] = [
     Meaning {
         reason: b"SpaceFull",
         words: b"the image takes more blocks than are free (corekeep ask ARCHIVE free counts them): delete or retire cases (pinned ones once they are unpinned); if it takes more than the archive has, make that larger (corekeep resize)",
@@ -71,6 +71,14 @@ static MEANINGS: [Meaning; 41] = [
     Meaning {
         reason: b"NotAnArchive",
         words: b"the file is no archive, or its superblock is damaged: then corekeep salvage ARCHIVE NEW copies what can be read",
+    },
+    Meaning {
+        reason: b"NoBuildId",
+        words: b"FILE has no build ID that gives a name (one of 2 to 55 bytes): link it with --build-id, or store it with --exec PATH",
+    },
+    Meaning {
+        reason: b"OtherBuild",
+        words: b"FILE is of another build than --id says",
     },
     Meaning {
         reason: b"BadLine",

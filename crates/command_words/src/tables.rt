@@ -14,8 +14,12 @@ pub(crate) enum Takes {
     Flag,
     // The same, and not beside `--json`.
     FlagWithoutJson,
+    // The same, and only beside `--build`.
+    FlagWithBuild,
     // A text after its name.
     Text,
+    // The same, and only beside `--build`.
+    TextWithBuild,
     // A number below 2^32 after its name, which has to be there.
     Blocks,
     // A number after its name, from one to another.
@@ -65,7 +69,7 @@ pub(crate) static STORE: CommandWords = CommandWords {
     after_help: None,
     words: &[
         ARCHIVE, FILE, PAIRS, EXEC, PIN, LABEL, ESCAPE, KEEP, BYTES, BEFORE, FIT, FAIR, CUT,
-        NO_WAIT, TEMPLATE, USES_PID, LIMIT, LOG, QUIET, LENGTH, STALL, SPOOL,
+        NO_WAIT, TEMPLATE, USES_PID, LIMIT, LOG, QUIET, LENGTH, STALL, SPOOL, BUILD, ID, DEBUG,
     ],
 };
 
@@ -385,4 +389,31 @@ const SPOOL: Word = Word {
     takes: Takes::Text,
     default: None,
     help: "Take a core that comes through a pipe into a file of this directory first, and store it from there: a slow sender keeps nobody waiting, and a core that the archive can't take now stays there until `handle --flush` stores it",
+};
+
+// Whether it is stored by its build ID.
+const BUILD: Word = Word {
+    id: "build",
+    shown: "",
+    takes: Takes::Flag,
+    default: None,
+    help: "Store an executable, a library or a debug file under the name that its build ID gives (.build-id/ab/cdef..): cores that mapped this build use it, whatever its path was",
+};
+
+// The build ID that it has to have.
+const ID: Word = Word {
+    id: "id",
+    shown: "ID",
+    takes: Takes::TextWithBuild,
+    default: None,
+    help: "With --build, store FILE only if it has this build ID, in hexadecimal digits (otherwise `no OtherBuild`)",
+};
+
+// Whether it is stored as a debug file.
+const DEBUG: Word = Word {
+    id: "debug",
+    shown: "",
+    takes: Takes::FlagWithBuild,
+    default: None,
+    help: "With --build, store FILE as the debug file of its build, even if it has code",
 };

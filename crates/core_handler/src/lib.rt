@@ -29,4 +29,4 @@ pub use log::Log;
 pub use notes::Notes;
 pub use requesting::{order_of, policy_within};
 pub use spool_store::{SpoolWords, store_spooled};
-pub use teller::{Source, Spooling, Teller, store_told};
+pub use teller::{Source, Spooling, Teller, store_build_told, store_told};

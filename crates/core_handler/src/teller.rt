@@ -8,7 +8,8 @@ use crate::outcome_lines::{
 };
 use crate::patient_input::PatientInput;
 use archive_files::{
-    ArchivePath, Collected, Failure, Held, Refusal, StoreRequest, reason_of, store_file, tell_stall,
+    ArchivePath, BuildRequest, Collected, Failure, Held, Refusal, StoreRequest, read_whole,
+    reason_of, refuse_file, store_file, tell_stall,
 };
 use diagnostics::{Onlooker, Trouble};
 use disk_model::FileDisk;
@@ -108,6 +109,53 @@ pub fn store_told<R: AllocGlobal + Files<File = File> + Clock, I: Read, O: Outpu
         Ok(()) => (ended, outcome),
         Err(fault) => (Err(Failure::from(fault)), outcome),
     }
+}
+
+/// Stores a file, or the standard input, under the name that its build ID gives, and tells what became of it, as `store_told` does. The file
+/// is read whole before the archive's lock is taken.
+///
+/// # Errors
+///
+/// Those of `store_told`, and those of `BuildRequest::for_image` and `read_whole` of `archive_files`, which come after what is wrong with the
+/// archive.
+pub fn store_build_told<
+    R: AllocGlobal + Files<File = File> + Clock,
+    I: Read,
+    O: Output,
+    W: Onlooker,
+>(
+    rt: &R,
+    teller: Teller<'_>,
+    place: ArchivePath<'_>,
+    file: &str,
+    build: BuildRequest,
+    input: &mut I,
+    output: &mut O,
+    note: &mut Collected,
+    onlooker: &mut W,
+) -> Result<(), Failure> {
+    let limit = build.limit;
+    let refusal = match read_whole(rt, file, limit, input) {
+        Ok(image) => match build.for_image(rt.alloc(), &image) {
+            Ok(request) => {
+                let source = Source {
+                    path: "-",
+                    stall: None,
+                };
+                let mut image = image.as_slice();
+                let (ended, _) = store_told(
+                    rt, teller, place, source, request, &mut image, output, note, onlooker,
+                );
+                return ended;
+            }
+            Err(refusal) => refusal,
+        },
+        Err(refusal) => refusal,
+    };
+    let (ended, disk) = refuse_file(rt, place, limit, refusal, onlooker);
+    let name = b"an executable";
+    teller.tell_outcome(rt, place.path, name, b"", false, &ended, disk, note);
+    ended
 }
 
 // Stores a file, or the standard input, and says for how many seconds the archive's lock was waited for.

@@ -1,5 +1,5 @@
 -- On which executables a frame stands.
-use Rattle.std.proofs.Common.{◌≡◌, inl, inr, ℕ, Bool, true, cond, List, [], ◌∷◌, find, Option, None, Some, Result, Ok, refl, sym, ap, subst, ◌∙◌}
+use Rattle.std.proofs.Common.{◌≡◌, inl, inr, ℕ, Bool, true, cond, List, [], ◌∷◌, find, map, Option, None, Some, Result, Ok, refl, sym, ap, subst, ◌∙◌}
 use Rattle.std.specs.Prelude.{is_none, is_ok, slice_get}
 use Rattle.std.specs.List.{AllByRecursion, filter}
 use Rattle.std.specs.Option.{option_map, option_or}
@@ -9,8 +9,9 @@ use Rattle.elf_view.specs.Header.{segments_of}
 use Rattle.elf_view.specs.Sound.{first_fault}
 use Rattle.elf_view.specs.declared.faults.Want.TheVariants.{Exec}
 use Rattle.address_space.specs.Source.{ExecutableView, SpotView, is_named}
-use Rattle.build_replies.specs.Choosing.{Choice, choice_for, core_fronts, told_id}
-use Rattle.build_replies.specs.ChoosingLaws.{choice_plain, each_own}
+use Rattle.build_replies.specs.Builds.{name_of, once}
+use Rattle.build_replies.specs.Choosing.{Choice, choice_for, core_fronts, told_files, told_id, under_names}
+use Rattle.build_replies.specs.ChoosingLaws.{choice_plain, each_own, each_with_code}
 use Rattle.memory_replies.specs.Memory.{is_attached, mapped_files, memory_of}
 use Rattle.memory_replies.specs.Places.{has_symbols, known_among}
 use Rattle.memory_replies.specs.Symbol.{executable_fault}
@@ -21,7 +22,7 @@ use Rattle.unwind.specs.Unwinding.{unwound}
 use Rattle.unwind.specs.declared.faults.Stop.{Stop}
 use Rattle.unwind.specs.declared.faults.Stop.TheVariants.{NoAddress, NoFile}
 use Rattle.unwind.specs.declared.frame.Frame.{Frame}
-use Rattle.frame_replies.specs.Choices.{IsBuildOf, IsOwnBuild, by_path_alone, frame_by_path, process_of, spot_of_frame, unwind_by_path}
+use Rattle.frame_replies.specs.Choices.{AreNoDebugFiles, IsBuildOf, IsOwnBuild, by_path_alone, frame_by_path, process_of, spot_of_frame, unwind_by_path}
 use Rattle.frame_replies.specs.FrameLines.{unwind_answer, unwound_answer, unwound_lines}
 use Rattle.frame_replies.specs.FrameRegisters.{frame_answer, one_frame_answer, registers_of}
 use Rattle.frame_replies.specs.Processes.{of_thread, process_in, start_of, state_of}
@@ -48,7 +49,11 @@ module _ {A : Type 0} (P : A → Type 0) where
 
 used_own : (b : List ℕ) (stored : List ExecutableView) → AllByRecursion (IsOwnBuild b) (choice_for b stored).used
 unfolding choice_for
-used_own b stored = each_own (core_fronts b) stored
+used_own b stored = each_own (core_fronts b) stored (once (map name_of (mapped_files b)))
+
+pub used_code : (b : List ℕ) (stored : List ExecutableView) → AreNoDebugFiles (choice_for b stored).used
+unfolding choice_for
+used_code b stored = each_with_code stored (told_files b)
 
 pub attached_own : (b : List ℕ) (stored : List ExecutableView) → AllByRecursion (IsOwnBuild b) (process_of b stored).executables
 unfolding process_in memory_of
@@ -125,37 +130,40 @@ thread_same : (f g : List ℕ → Result (List ℕ) (List ℕ)) → ((desc : Lis
 thread_same f g same None = refl
 thread_same f g same (Some desc) = same desc
 
-module _ (b : List ℕ) (stored : List ExecutableView) (unknown : (path : List ℕ) → told_id b path ≡ None) where
+module _ (b : List ℕ) (stored : List ExecutableView) (unknown : (path : List ℕ) → told_id b path ≡ None) (codes : AreNoDebugFiles stored) where
+  abbrev under : List ExecutableView
+  under = under_names stored (once (map name_of (mapped_files b)))
+
   abbrev plain : Choice
-  plain = record { used = filter is_attached stored; others = [] }
+  plain = record { used = filter is_attached under; others = [] }
 
   chosen_plain : choice_for b stored ≡ plain
   unfolding choice_for
-  chosen_plain = choice_plain (core_fronts b) unknown stored
+  chosen_plain = choice_plain (core_fronts b) stored unknown codes (once (map name_of (mapped_files b)))
 
-  process_plain : process_in b plain ≡ process_in b (by_path_alone stored)
+  process_plain : process_in b plain ≡ process_in b (by_path_alone b stored)
   unfolding process_in memory_of process_from
-  process_plain = ap (process_from b) (filter_within is_attached is_attached (λ x h. h) stored)
+  process_plain = ap (process_from b) (filter_within is_attached is_attached (λ x h. h) under)
 
-  known_plain : known_among plain.used ≡ known_among stored
-  known_plain = filter_within has_symbols is_attached known_attached stored
+  known_plain : known_among plain.used ≡ known_among under
+  known_plain = filter_within has_symbols is_attached known_attached under
 
-  unwound_plain : (desc : List ℕ) → unwound_answer b plain desc ≡ unwound_answer b (by_path_alone stored) desc
+  unwound_plain : (desc : List ℕ) → unwound_answer b plain desc ≡ unwound_answer b (by_path_alone b stored) desc
   unwound_plain desc =
       ap (λ (p : ProcessView). Ok (unwound_lines p (known_among plain.used) desc)) process_plain
-      ∙ ap (λ (named : List ExecutableView). Ok (unwound_lines (process_in b (by_path_alone stored)) named desc)) known_plain
+      ∙ ap (λ (named : List ExecutableView). Ok (unwound_lines (process_in b (by_path_alone b stored)) named desc)) known_plain
 
-  one_frame_plain : (i : ℕ) (desc : List ℕ) → one_frame_answer b plain i desc ≡ one_frame_answer b (by_path_alone stored) i desc
+  one_frame_plain : (i : ℕ) (desc : List ℕ) → one_frame_answer b plain i desc ≡ one_frame_answer b (by_path_alone b stored) i desc
   one_frame_plain i desc = ap (λ (p : ProcessView). registers_of (slice_get (unwound p desc) i)) process_plain
 
   pub unwind_plain : (t : ℕ) → unwind_answer b stored t ≡ unwind_by_path b stored t
   unfolding unwind_answer
   unwind_plain t =
       ap (λ (c : Choice). of_thread (unwound_answer b c) (state_of b t)) chosen_plain
-      ∙ thread_same (unwound_answer b plain) (unwound_answer b (by_path_alone stored)) unwound_plain (state_of b t)
+      ∙ thread_same (unwound_answer b plain) (unwound_answer b (by_path_alone b stored)) unwound_plain (state_of b t)
 
   pub frame_plain : (t i : ℕ) → frame_answer b stored t i ≡ frame_by_path b stored t i
   unfolding frame_answer
   frame_plain t i =
       ap (λ (c : Choice). of_thread (one_frame_answer b c i) (state_of b t)) chosen_plain
-      ∙ thread_same (one_frame_answer b plain i) (one_frame_answer b (by_path_alone stored) i) (one_frame_plain i) (state_of b t)
+      ∙ thread_same (one_frame_answer b plain i) (one_frame_answer b (by_path_alone b stored) i) (one_frame_plain i) (state_of b t)

@@ -1,9 +1,13 @@
 -- Of the executables that are stored: on which a frame may stand.
-use Rattle.std.specs.Prelude.{◌≡◌, ℕ, List, [], Option, Some, Result}
+use Rattle.std.specs.Prelude.{◌≡◌, ℕ, List, [], map, Option, Some, Result}
+use Rattle.std.specs.List.{AllByRecursion}
 use Rattle.std.specs.Option.{option_and_then}
 use Rattle.address_space.specs.Source.{ExecutableView, SpotView, entry_at, spot_of}
 use Rattle.build_ids.specs.BuildId.{build_id_of}
-use Rattle.build_replies.specs.Choosing.{Choice, choice_for, told_id}
+use Rattle.build_replies.specs.Builds.{name_of, once}
+use Rattle.build_replies.specs.Choosing.{Choice, choice_for, told_id, under_names}
+use Rattle.build_replies.specs.ChoosingLaws.{HasCode}
+use Rattle.memory_replies.specs.Memory.{mapped_files}
 use Rattle.unwind.specs.Code.{ProcessView, looked_up}
 use Rattle.unwind.specs.declared.frame.Frame.{Frame}
 use Rattle.frame_replies.specs.FrameLines.{unwound_answer}
@@ -26,11 +30,15 @@ abbrev pub spot_of_frame : ProcessView → Frame → Option SpotView
 spot_of_frame p f = option_and_then (λ a. spot_of a (entry_at p.space.files a)) (looked_up f)
 
 -- the path alone decides: whatever is stored under the name of a file is used
-abbrev pub by_path_alone : List ExecutableView → Choice
-by_path_alone stored = record { used = stored; others = [] }
+abbrev pub by_path_alone : List ℕ → List ExecutableView → Choice
+by_path_alone b stored = record { used = under_names stored (once (map name_of (mapped_files b))); others = [] }
+
+-- its code has bytes
+abbrev pub AreNoDebugFiles : List ExecutableView → Type 0
+AreNoDebugFiles stored = AllByRecursion HasCode stored
 
 abbrev pub unwind_by_path : List ℕ → List ExecutableView → ℕ → Result (List ℕ) (List ℕ)
-unwind_by_path b stored t = of_thread (unwound_answer b (by_path_alone stored)) (state_of b t)
+unwind_by_path b stored t = of_thread (unwound_answer b (by_path_alone b stored)) (state_of b t)
 
 abbrev pub frame_by_path : List ℕ → List ExecutableView → ℕ → ℕ → Result (List ℕ) (List ℕ)
-frame_by_path b stored t i = of_thread (one_frame_answer b (by_path_alone stored) i) (state_of b t)
+frame_by_path b stored t i = of_thread (one_frame_answer b (by_path_alone b stored) i) (state_of b t)

@@ -7,7 +7,7 @@ ghost use Rattle.memory_replies.specs.Places.{known_among};
 ghost use Rattle.unwind.specs.Code.{CodeView, code_of};
 ghost use Rattle.unwind.specs.declared.faults.Stop as stops;
 ghost use Rattle.unwind.specs.declared.frame.Frame as frames;
-ghost use Rattle.frame_replies.specs.Choices.{IsBuildOf, IsOwnBuild, frame_by_path, process_of, spot_of_frame, unwind_by_path};
+ghost use Rattle.frame_replies.specs.Choices.{AreNoDebugFiles, IsBuildOf, IsOwnBuild, frame_by_path, process_of, spot_of_frame, unwind_by_path};
 ghost use Rattle.frame_replies.specs.FrameLines.{unwind_answer};
 ghost use Rattle.frame_replies.specs.FrameRegisters.{frame_answer};
 ghost use Rattle.frame_replies.specs.Processes.{state_of};
@@ -27,20 +27,21 @@ pub fn each_frame_shown_stands_on_a_rule()
     each_frame_stands_on_a_rule();
 }
 
-/// No file of another build is used: if the core tells a build ID for a mapped file, an executable that is attached for it, or that
+/// No file of another build is used, and no debug file: if the core tells a build ID for a mapped file, an executable that is attached for it, or that
 /// names its functions, has that ID, and so has the one in which the code of a frame is found. It does nothing.
 pub fn never_another()
     ensures attached { (b : List ℕ) (stored : List ExecutableView) → AllByRecursion (IsOwnBuild b) (process_of b stored).executables }
     ensures named { (b : List ℕ) (stored : List ExecutableView) → AllByRecursion (IsOwnBuild b) (known_among (choice_for b stored).used) }
+    ensures no_debug { (b : List ℕ) (stored : List ExecutableView) → AreNoDebugFiles (choice_for b stored).used }
     ensures code { (b : List ℕ) (stored : List ExecutableView) (f : frames.Frame) (spot : SpotView) (code : CodeView) → spot_of_frame (process_of b stored) f ≡ Some spot
         → code_of (process_of b stored) f ≡ Ok code → IsBuildOf b spot.name code.image }
 {}
 
-/// If the core tells no build ID for any of its mapped files, the path alone decides: what is stored under the name of a file is used.
-/// It does nothing.
+/// If the core tells no build ID for any of its mapped files, and no debug file is stored, the path alone decides: what is stored under
+/// the name of a file is used. It does nothing.
 pub fn by_path_where_unknown()
-    ensures unwind { (b : List ℕ) (stored : List ExecutableView) → ((path : List ℕ) → told_id b path ≡ None)
+    ensures unwind { (b : List ℕ) (stored : List ExecutableView) → ((path : List ℕ) → told_id b path ≡ None) → AreNoDebugFiles stored
         → (t : ℕ) → unwind_answer b stored t ≡ unwind_by_path b stored t }
-    ensures frame { (b : List ℕ) (stored : List ExecutableView) → ((path : List ℕ) → told_id b path ≡ None)
+    ensures frame { (b : List ℕ) (stored : List ExecutableView) → ((path : List ℕ) → told_id b path ≡ None) → AreNoDebugFiles stored
         → (t i : ℕ) → frame_answer b stored t i ≡ frame_by_path b stored t i }
 {}

@@ -10,7 +10,7 @@ ghost use Rattle.frame_replies.specs.Processes as spec;
 use crate::described::Described;
 use crate::executables::all_described;
 use address_space::{AddressSpace, Attached};
-use build_replies::ChosenExecutables;
+use build_replies::{ChosenExecutables, listed, told_ids};
 use core_notes::AuxvPairs;
 use image_replies::CoreImage;
 use memory_replies::{SymbolizedExecutables, space_and_images};
@@ -83,7 +83,8 @@ impl<'a> UnwoundProcess<'a> {
     ) -> Result<UnwoundProcess<'a>, AllocError>
         ensures { IfOk result (IsProcessOf (core_bytes core.now) (choice_for (core_bytes core.now) (map attached_view stored.now))) }
     {
-        let chosen = ChosenExecutables::of(alloc, core, stored)?;
+        let files = told_ids(alloc, core)?;
+        let chosen = ChosenExecutables::of(alloc, listed(&files), stored)?;
         UnwoundProcess::of(alloc, core, chosen)
     }
 }

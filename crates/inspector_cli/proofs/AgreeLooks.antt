@@ -16,7 +16,7 @@ use Rattle.intake.specs.declared.faults.ArchiveFault.TheVariants.{Stopped, NoCas
 use Rattle.journal_layout.specs.Soundness.{case_numbered}
 use Rattle.journal_layout.specs.Case.{Case}
 use Rattle.journal_layout.specs.declared.entry.Kind.{Kind}
-use Rattle.case_queries.specs.Collecting.{Collects, Wanted, wanted_of, with_executable}
+use Rattle.case_queries.specs.Collecting.{Collects, Wanted, wanted_for, with_executable}
 use Rattle.case_queries.specs.InspectLaws.{steps_of}
 use Rattle.case_queries.specs.Inspecting.{Inspects, Told, reads_executables}
 use Rattle.case_queries.specs.Steps.{Asks, ShowsBy, ShowsWithExecutables, ShowsCore, ToldWithExecutables, kind_asked, kind_found}
@@ -148,8 +148,8 @@ module _ {D E : Type 0} (g : disk.Ghosts D) (h : disk.Ghosts E) where
     core_agrees (r, inl short, told) shows' = absurd (subst IsDecided short.0 (with_executables_decided kind q b r reply told bound))
     core_agrees (r, inr all, told) (r', inl short, told') = absurd (subst IsDecided short.0 (with_executables_decided kind q b r' reply' told' bound'))
     core_agrees (r, inr all, told) (r', inr all', told') =
-        let collected = collects_agree (wanted_of b (state_of old).cases) old new old' new' r r' honest honest' same runs all
-        (subst (λ (s : ArchiveState). Collects h old' (wanted_of b s.cases) r' new') same.state all')
+        let collected = collects_agree (wanted_for q b (state_of old).cases) old new old' new' r r' honest honest' same runs all
+        (subst (λ (s : ArchiveState). Collects h old' (wanted_for q b s.cases) r' new') same.state all')
         (with_executables_decided kind q b r reply told bound) (with_executables_decided kind q b r' reply' told' bound') in
         (with_executables_one kind q b r reply reply' told (subst (λ (x : Result (List ExecutableView) ArchiveFault). ToldWithExecutables kind q b x reply') collected.0 told') bound bound', collected.1)
 

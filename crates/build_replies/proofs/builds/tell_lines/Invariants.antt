@@ -2,7 +2,7 @@ use Rattle.std.proofs.Common.{map, take}
 use Rattle.std.specs.List.{flat_map}
 use Rattle.script_streams.specs.Telling.{Tells, sink}
 use Rattle.build_replies.specs.Builds.{build_line}
-use Rattle.build_replies.specs.Compared.{build_view}
+use Rattle.build_replies.specs.Mapped.{build_view}
 use Rattle.build_replies.proofs.builds.tell_lines.Given as goal
 
 -- the lines of those that went by are told

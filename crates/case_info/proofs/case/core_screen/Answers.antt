@@ -1,36 +1,61 @@
 use Rattle.std.proofs.Common.{None, map, ap, sym, subst, ◌∙◌}
+use Rattle.build_replies.specs.Mapped.{told_view}
 use Rattle.case_queries.specs.CollectingWords.{executable_view}
+use Rattle.case_queries.specs.declared.walk.CaseImage.{CaseImage}
+use Rattle.case_queries.proofs.FindLemmas.{still_pieces, still_sized}
+use Rattle.case_queries.proofs.WindowLemmas.{seen_reads, sized}
 use Rattle.case_screens.specs.Core.{notes_read}
 use Rattle.case_screens.specs.declared.answer.CoreAnswers.{CoreAnswers}
 use Rattle.image_replies.specs.CoreWords.{core_bytes}
 use Rattle.elf_view.specs.declared.faults.Want.TheVariants.{Core}
 use Rattle.case_info.specs.Fronts.{IsFront}
 use Rattle.case_info.specs.Screens.{shown_count}
-use Rattle.case_info.proofs.ScreenLemmas.{asks_none, asks_some, bytes_in, has_then, image_size, read_then, runs_on, says_same}
+use Rattle.case_info.proofs.ScreenLemmas.{asks_none, asks_some, bytes_in, front_again, front_short, has_still, says_same, sound_core}
 use Rattle.case_info.proofs.case.core_screen.Goals as goal
 
-pub executables_of-requires : goal.executables_of-requires
-executables_of-requires g c =
+pub told_of-requires-clause-has : goal.told_of-requires-clause-has
+told_of-requires-clause-has g c =
     let seen = c.in_ok-front.ensures in
-    runs_on g.D.Disk c.args.archive.now c.front_of.new.archive c.args.seq c.in_ok-size.size seen.0 _ c.in_ok-size.ensures seen.1 seen.2
+    has_still g.D.Disk c.args.archive.now c.front_of.new.archive c.args.seq c.in_ok-size.size seen.0 c.in_ok-size.ensures seen.1
+
+pub told_of-requires-clause-short : goal.told_of-requires-clause-short
+told_of-requires-clause-short g c =
+    let seen = c.in_ok-front.ensures in
+    let core = c.in-Ok.core in
+    let bytes = bytes_in c.core_in-said.result.core core c.deref.result.now c.in-Ok.is c.core_in-said.ensures.bytes ∙ c.deref.ensures.value in
+    let own = c.image.ensures ∙ c.elf-elf.ensures.image ∙ bytes in
+    front_short g.D.Disk c.args.archive.now c.front_of.new.archive c.args.seq c.in_ok-size.size seen.0 c.in_ok-size.ensures seen.1 c.image.result.now (subst (λ b. IsFront Core b seen.0) (sym own) seen.2)
+
+pub told_of-requires-clause-front : goal.told_of-requires-clause-front
+told_of-requires-clause-front g c = sym (c.image.ensures ∙ c.elf-elf.ensures.image)
+
+pub told_of-requires-clause-sound : goal.told_of-requires-clause-sound
+told_of-requires-clause-sound g c =
+    let elf = c.elf-elf.result in
+    sound_core elf.want elf.image.now c.image.result.now c.elf-elf.ensures.want (sym c.image.ensures) elf.whole elf.sound
+
+pub executables_of-requires : goal.executables_of-requires
+executables_of-requires g c = c.in_ok-told.ensures.has.1.0
 
 pub facts_of-requires-clause-has : goal.facts_of-requires-clause-has
 facts_of-requires-clause-has g c =
-    let seen = c.in_ok-front.ensures in
-    let core = c.in-Ok.core in
-    let bytes = bytes_in c.core_in-said.result.core core c.deref.result.now c.in-Ok.is c.core_in-said.ensures.bytes ∙ c.deref.ensures.value in
-    let is = subst (λ b. IsFront Core b seen.0) (sym bytes) seen.2 in
-    has_then g.D.Disk c.args.archive.now c.front_of.new.archive c.args.seq c.in_ok-size.size seen.0 (core_bytes core) c.in_ok-size.ensures seen.1 is g.met.D.Disk.only_now c.executables_of.new.archive _ (c.in_ok-executables.ensures seen.0 is)
+    still_sized g.D.Disk g.met.D.Disk.only_now c.told_of.new.archive c.executables_of.new.archive c.args.seq c.in_ok-size.size _ _ c.in_ok-told.ensures.has c.in_ok-executables.ensures
 
-pub facts_of-requires-clause-read : goal.facts_of-requires-clause-read
-facts_of-requires-clause-read g c =
+pub facts_of-requires-clause-short : goal.facts_of-requires-clause-short
+facts_of-requires-clause-short g c =
     let seen = c.in_ok-front.ensures in
     let core = c.in-Ok.core in
     let bytes = bytes_in c.core_in-said.result.core core c.deref.result.now c.in-Ok.is c.core_in-said.ensures.bytes ∙ c.deref.ensures.value in
-    let is = subst (λ b. IsFront Core b seen.0) (sym bytes) seen.2 in (
-      c.args.archive.now,
-      read_then g.D.Disk c.args.archive.now c.front_of.new.archive c.args.seq c.in_ok-size.size seen.0 (core_bytes core) c.in_ok-size.ensures seen.1 is g.met.D.Disk.only_now c.executables_of.new.archive _ (c.in_ok-executables.ensures seen.0 is),
-    )
+    let own = c.image.ensures ∙ c.elf-elf.ensures.image ∙ bytes in
+    front_short g.D.Disk c.args.archive.now c.front_of.new.archive c.args.seq c.in_ok-size.size seen.0 c.in_ok-size.ensures seen.1 c.image.result.now (subst (λ b. IsFront Core b seen.0) (sym own) seen.2)
+
+pub facts_of-requires-clause-front : goal.facts_of-requires-clause-front
+facts_of-requires-clause-front g c = sym (c.image.ensures ∙ c.elf-elf.ensures.image)
+
+pub facts_of-requires-clause-sound : goal.facts_of-requires-clause-sound
+facts_of-requires-clause-sound g c =
+    let elf = c.elf-elf.result in
+    sound_core elf.want elf.image.now c.image.result.now c.elf-elf.ensures.want (sym c.image.ensures) elf.whole elf.sound
 
 pub returns-in_default : goal.returns-in_default
 returns-in_default g c = λ plain.
@@ -49,36 +74,42 @@ returns g c = λ plain.
     let size = c.in_ok-size.size in
     let has = c.in_ok-size.ensures in
     let seen = c.in_ok-front.ensures in
-    let image = seen.0 in
-    let mid = c.front_of.new.archive in
+    let first = c.front_of.new.archive in
+    let mid = c.told_of.new.archive in
     let read = c.executables_of.new.archive in
     let new = c.facts_of.new.archive in
     let said = c.core_in-said.result in
     let core = c.in-Ok.core in
-    let front = core_bytes core in
-    let says = (rw c.deref.ensures.value at c.core_in-said.ensures.says) image seen.2 in
-    let bytes = bytes_in said.core core c.deref.result.now c.in-Ok.is c.core_in-said.ensures.bytes ∙ c.deref.ensures.value in
-    let is = subst (λ b. IsFront Core b image) (sym bytes) seen.2 in
+    let o : CaseImage = record { seq = seq; size = size; front = c.image.result } in
+    let lent = c.image.ensures ∙ c.elf-elf.ensures.image in
+    let own = lent ∙ bytes_in said.core core c.deref.result.now c.in-Ok.is c.core_in-said.ensures.bytes ∙ c.deref.ensures.value in
+    let begins = subst (λ b. IsFront Core b seen.0) (sym own) seen.2 in
+    let told = c.in_ok-told.told in
+    let sees = c.in_ok-told.ensures.sees old (seen_reads g.D.Disk old first seq seen.0 o.front.now seen.1 begins.begins) in
+    let image = sees.0 in
+    let is = front_again Core o.front.now seen.0 image size (sized g.D.Disk old first seq size seen.0 has seen.1) sees.2.0 begins in
+    let says = (rw c.deref.ensures.value at c.core_in-said.ensures.says) image (subst (λ b. IsFront Core b image) own is) in
     let xs = map executable_view c.in_ok-executables.executables.items in
-    let collects = c.in_ok-executables.ensures image is in
+    let collects = c.in_ok-executables.ensures in
     let facts = c.in_ok-facts.facts in
-    let found = c.in_ok-facts.ensures old (read_then g.D.Disk old mid seq size image front has seen.1 is g.met.D.Disk.only_now read xs collects) in
+    let found = c.in_ok-facts.ensures old (still_pieces g.D.Disk g.met.D.Disk.only_now old mid read o told.pieces.items _ xs sees collects) in
     let a : CoreAnswers = record { core = said.core; unwound = c.deref-3.result; builds = c.builds_in.result; whole = said.whole; unread = said.unread } in
     let count = ap (shown_count all) (sym (ap notes_read c.in-Ok.is) ∙ says.notes_are) in
-    let long = sym (image_size g.D.Disk old mid seq size image front has seen.1 is) in
-    let lent = ap (map executable_view) c.deref-2.ensures.value in (
+    let views = ap (map executable_view) c.deref-2.ensures.value in (
       image,
       mid,
-      seen.1,
+      sees.1,
       a,
       says,
       asks_some g.D.Disk old mid seq image all a said.core core new c.in-Ok.is
           record {
+            told = told_view told.files;
+            tells = c.in_ok-told.ensures.told.told image sees.2;
             executables = xs;
             read = read;
             collects = collects;
             facts = facts;
-            says = says_same g.D.Disk old new seq front size _ _ xs _ _ facts long lent count found;
+            says = says_same g.D.Disk old new seq o.front.now (core_bytes core) size _ (told_view told.files) _ xs _ _ facts lent (sym sees.2.0.0) views count found;
             are = record { unwound = c.deref-3.ensures.value; builds = c.builds_in.ensures };
           },
       c.in_ok-put_core-2.ensures plain,

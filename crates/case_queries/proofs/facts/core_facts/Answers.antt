@@ -1,37 +1,29 @@
-use Rattle.std.proofs.Common.{List, map, sym, ap, subst, ◌∙◌}
+use Rattle.std.proofs.Common.{List, Option, map, sym, ap, subst, ◌∙◌}
+use Rattle.std.specs.Option.{option_map}
 use Rattle.address_space.specs.Source.{ExecutableView}
-use Rattle.address_space.specs.Whole.{IsFrontOf}
-use Rattle.build_replies.specs.Builds.{builds_of}
+use Rattle.build_replies.specs.Builds.{NamedId, values_of}
+use Rattle.build_replies.specs.Mapped.{told_view}
 use Rattle.memory_replies.specs.Memory.{attached_view}
 use Rattle.case_queries.specs.CollectingWords.{executable_view}
 use Rattle.case_queries.specs.Facts.{AreFramesOf}
-use Rattle.case_queries.specs.Fronts.{ReadsFront}
 use Rattle.case_queries.proofs.facts.core_facts.Goals as goal
 
-pub unwind_threads-requires-clause-read : goal.unwind_threads-requires-clause-read
-unwind_threads-requires-clause-read g c =
-    let e = c.image.ensures ∙ c.elf-elf.ensures.image in
-    let read = c.requires.read in
-    (read.0, subst (λ b. ReadsFront g.D.Disk read.0 c.args.seq b c.args.archive.now) (sym e) read.1)
-
-pub returns-in-Ok-compare_in_core : goal.returns-in-Ok-compare_in_core
-returns-in-Ok-compare_in_core g c = λ before reads.
-    let seq = c.args.seq in
-    let size = c.args.size in
-    let e = c.image.ensures ∙ c.elf-elf.ensures.image in
+pub returns-in-Ok-unwind_threads : goal.returns-in-Ok-unwind_threads
+returns-in-Ok-unwind_threads g c = λ before sees.
+    let o = c.args.image in
+    let told = told_view c.args.told.files in
     let views = map executable_view c.args.executables.now in
-    let all = c.in_ok-unwound.unwound.items in
-    let read = subst (λ b. ReadsFront g.D.Disk before seq b c.args.archive.now) (sym e) reads in
-    let told = c.in_ok-unwound.ensures.told before read in
-    let built = c.in-Ok-compare_in_core.ensures before (c.in_ok-unwound.ensures.reads before read) in
+    let found = c.in-Ok-unwind_threads.ensures in
+    let seen = found.sees before sees in
+    let tells = c.requires.told.told seen.0 seen.2 in
     let first = ap (map attached_view) c.deref.ensures.value ∙ c.in-Ok.ensures in
     let second = ap (map attached_view) c.deref-2.ensures.value ∙ c.in-Ok.ensures in
     record {
-      count = c.in_ok-unwound.ensures.count;
-      frames = subst (λ b. AreFramesOf g.D.Disk before seq b size views 0 all) e
-          (subst (λ (ys : List ExecutableView). AreFramesOf g.D.Disk before seq c.image.result.now size ys 0 all) first told);
-      image = built.0;
-      seen = built.1;
-      begins = subst (λ b. IsFrontOf b size built.0) e built.2;
-      builds = ap (builds_of built.0) (sym second) ∙ built.3;
+      count = found.count;
+      frames = subst (λ (ys : List ExecutableView). AreFramesOf g.D.Disk before o.seq o.front.now o.size told ys 0 c.in-Ok-unwind_threads.unwound.items) second (found.told before sees);
+      image = seen.0;
+      seen = seen.1;
+      begins = seen.2.0;
+      tells = tells;
+      builds = ap (λ (t : Option (List NamedId)). option_map (values_of views) t) tells ∙ ap (λ (ys : List ExecutableView). option_map (values_of ys) told) (sym first) ∙ sym c.in-Ok-told_builds.ensures;
     }

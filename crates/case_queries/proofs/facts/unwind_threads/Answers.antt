@@ -1,24 +1,25 @@
-use Rattle.std.proofs.Common.{List, Option, map, refl, sym, subst, ◌∙◌, arith, rules}
+use Rattle.std.proofs.Common.{List, Option, Vec, Global, map, sym, subst, ap, ◌∙◌, arith, rules}
 use Rattle.frame_replies.specs.declared.values.FramesAnswer.{FramesAnswer}
+use Rattle.build_replies.specs.Mapped.{told_view}
 use Rattle.intake.specs.Parts.{Parts}
 use Rattle.memory_replies.specs.Memory.{attached_view}
 use Rattle.case_queries.specs.Facts.{AreFramesOf}
-use Rattle.case_queries.specs.Pieces.{SeesPieces}
+use Rattle.case_queries.specs.Pieces.{BeginsWith, SeesPieces}
+use Rattle.case_queries.specs.declared.window.Part.{Part}
 use Rattle.case_queries.proofs.FactLemmas.{frames_more}
 use Rattle.case_queries.proofs.FramesLemmas.{walks_same}
-use Rattle.case_queries.proofs.WindowLemmas.{seen_reads}
 use Rattle.case_queries.proofs.facts.unwind_threads.Goals as goal
 
 pub loop-thread-init : goal.loop-thread-init
 loop-thread-init g c =
     let o = c.args.image in
-    let found = c.in_ok-found.ensures in
+    let found = c.in-Ok.ensures in
     record {
-      has = found.has;
-      walks = found.walks;
-      pieces = refl;
+      has = c.requires.has;
+      walks = found.walks o c.requires.front c.requires.sound c.requires.told;
+      pieces = ap (λ (v : Vec Part Global). v.items) found.pieces;
       sees = λ before seen. seen;
-      told = λ before seen. subst (λ (us : List (Option FramesAnswer)). AreFramesOf g.D.Disk before o.seq o.front.now o.size (map attached_view c.args.attached.now) 0 us) (sym c.new-all.ensures.items) tt;
+      told = λ before seen. subst (λ (us : List (Option FramesAnswer)). AreFramesOf g.D.Disk before o.seq o.front.now o.size (told_view c.args.told.files) (map attached_view c.args.attached.now) 0 us) (sym c.new-all.ensures.items) tt;
       count = search (rules, c.new-all.ensures.items);
     }
 
@@ -32,29 +33,27 @@ pub loop-thread-preserved : goal.loop-thread-preserved
 loop-thread-preserved g c =
     let o = c.args.image in
     let xs = map attached_view c.args.attached.now in
+    let told = c.args.told in
     let so_far = c.loop-thread.invariant in
     let thread = c.loop-thread.thread in
     let new = c.thread_frames.new.archive in
     let last = c.in_ok-frames.ensures in
-    let start = c.process_in_core.new.archive in
-    let first = c.in_ok-found.found.pieces.items in
-    let now = λ (before : Parts g.row.D.Denot) (seen : SeesPieces g.D.Disk before o first start). subst (λ ps. SeesPieces g.D.Disk before o ps c.loop-thread.archive) (sym so_far.pieces) (so_far.sees before seen) in
+    let first = told.pieces.items in
+    let now = λ (before : Parts g.row.D.Denot) (seen : SeesPieces g.D.Disk before o first c.args.archive.now). subst (λ ps. SeesPieces g.D.Disk before o ps c.loop-thread.archive) (sym so_far.pieces) (so_far.sees before seen) in
     record {
       has = last.has;
       walks = walks_same o xs c.loop-thread.found c.thread_frames.new.found last.process last.pieces so_far.walks;
       pieces = last.pieces ∙ so_far.pieces;
       sees = λ before seen. subst (λ ps. SeesPieces g.D.Disk before o ps new) so_far.pieces (last.sees before (now before seen));
       told = λ before seen.
-          subst (λ (us : List (Option FramesAnswer)). AreFramesOf g.D.Disk before o.seq o.front.now o.size xs 0 us) (sym c.in-Ok.ensures.items)
-          (frames_more g.D.Disk before o.seq o.front.now o.size xs 0 thread c.loop-thread.all.items c.in_ok-frames.frames (so_far.told before seen) (omega (arith, so_far.count)) (last.told before xs so_far.walks (now before seen)));
-      count = search (rules, c.in-Ok.ensures.items, so_far.count);
+          subst (λ (us : List (Option FramesAnswer)). AreFramesOf g.D.Disk before o.seq o.front.now o.size (told_view told.files) xs 0 us) (sym c.in-Ok-push.ensures.items)
+          (frames_more g.D.Disk before o.seq o.front.now o.size (told_view told.files) xs 0 thread c.loop-thread.all.items c.in_ok-frames.frames (so_far.told before seen) (omega (arith, so_far.count))
+          (last.told before (told_view told.files) xs so_far.walks (λ b begins. c.requires.told.told b (subst (λ ps. BeginsWith o ps b) so_far.pieces begins)) (now before seen)));
+      count = search (rules, c.in-Ok-push.ensures.items, so_far.count);
     }
 
 pub returns-clause-told : goal.returns-clause-told
-returns-clause-told g c = λ before reads. c.loop-thread.invariant.told before (c.in_ok-found.ensures.sees before reads)
+returns-clause-told g c = λ before sees. c.loop-thread.invariant.told before sees
 
-pub returns-clause-reads : goal.returns-clause-reads
-returns-clause-reads g c = λ before reads.
-    let o = c.args.image in
-    let seen = c.loop-thread.invariant.sees before (c.in_ok-found.ensures.sees before reads) in
-    seen_reads g.D.Disk before _ o.seq seen.0 o.front.now seen.1 seen.2.0.1
+pub returns-clause-sees : goal.returns-clause-sees
+returns-clause-sees g c = λ before sees. c.loop-thread.invariant.sees before sees

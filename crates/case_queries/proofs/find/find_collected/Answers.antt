@@ -1,11 +1,11 @@
-use Rattle.std.proofs.Common.{Some, Ok, Err, map, refl, subst}
+use Rattle.std.proofs.Common.{Some, Ok, Err, List, map, refl, subst, sym}
 use Rattle.archive_replies.specs.Reasons.{reason_of}
 use Rattle.image_replies.specs.CoreWords.{core_bytes}
 use Rattle.intake.specs.Parts.{state_of}
-use Rattle.case_queries.specs.Asking.{asking_of}
-use Rattle.case_queries.specs.Collecting.{CollectsAll, wanted_of}
+use Rattle.windowed_search.specs.ScanWords.{aim_of}
+use Rattle.case_queries.specs.Asking.{for_aim}
+use Rattle.case_queries.specs.Collecting.{Collects, CollectsAll, Wanted, wanted_of}
 use Rattle.case_queries.specs.CollectingWords.{executable_view}
-use Rattle.case_queries.specs.Keeping.{StayCollected}
 use Rattle.case_queries.specs.LeaveLaws.{all_leaves, leaves_then}
 use Rattle.case_queries.proofs.AgainLemmas.{stay_after}
 use Rattle.case_queries.proofs.FindAskLemmas.{found_asked, found_leaves, own_after, reads_again, unread_asked}
@@ -16,17 +16,23 @@ pub returns-in-Ok-clause-answers : goal.returns-in-Ok-clause-answers
 returns-in-Ok-clause-answers g c before reads =
     let image = c.args.image in
     let now = c.args.archive.now in
-    let mid = c.collected.new.archive in
+    let mid = c.collect.new.archive in
     let new = c.find_with-outcome.new.archive in
     let ws = wanted_of (core_bytes c.args.core.now) (state_of now).cases in
-    let views = map executable_view c.in-Ok.executables.items in
-    let leaves = all_leaves g.D.Disk now mid ws (Ok views) c.in-Ok.ensures.collected in
+    let xs = c.in-Ok.executables in
+    let views = map executable_view xs.items in
+    let collects = c.in-Ok.ensures.collected ws c.wanted_by_path-wanted.ensures in
+    let leaves = all_leaves g.D.Disk now mid ws (Ok views) collects in
     let again = reads_again g.D.Disk mid image (g.met.D.Disk.only_now mid.disk) (own_after g.D.Disk now mid image leaves c.requires.own) in
-    let after = found_leaves g.D.Disk mid new image _ (asking_of c.args.asked) _ (c.find_with-outcome.ensures mid again).1 in
-    let stay = subst (λ b. StayCollected g.D.Disk mid b (Some c.in-Ok.executables)) c.requires.front c.in-Ok.ensures.kept in
-    let told = rw c.deref.ensures.value at (c.find_with-outcome.ensures before (still_front g.D.Disk g.met.D.Disk.only_now before now mid image.seq image.front.now ws views reads c.in-Ok.ensures.collected)) in (
+    let after = found_leaves g.D.Disk mid new image _ (for_aim (aim_of c.args.sought)) _ (c.find_with-outcome.ensures mid again).1 in
+    let all = leaves_then g.D.Disk now mid new leaves after in
+    let stay = stay_after g.D.Disk new (g.met.D.Disk.only_now new.disk) mid (Some xs) after c.in-Ok.ensures.kept in
+    let first = subst (λ (vs : List Wanted). Collects g.D.Disk new vs (Ok views) new) (c.in-Ok.ensures.are ws c.wanted_by_path-wanted.ensures) stay in
+    let second = subst (λ (b : List _). Collects g.D.Disk new (wanted_of b (state_of now).cases) (Ok views) new) c.requires.front first in
+    let third = subst (λ cases. Collects g.D.Disk new (wanted_of image.front.now cases) (Ok views) new) (sym all.cases) second in
+    let told = rw c.deref.ensures.value at (c.find_with-outcome.ensures before (still_front g.D.Disk g.met.D.Disk.only_now before now mid image.seq image.front.now ws views reads collects)) in (
       told.0,
-      found_asked g.D.Disk c.a_sound_front_names_the_files.ensures image c.requires.sound (asking_of c.args.asked) before new c.in-Ok.executables told.0 (stay_after g.D.Disk new (g.met.D.Disk.only_now new.disk) mid image.front.now (Some c.in-Ok.executables) after stay) told.1,
+      found_asked g.D.Disk c.a_sound_front_names_the_files.ensures image c.requires.sound (aim_of c.args.sought) before new xs told.0 third told.1,
       told.2,
       told.3,
     )
@@ -35,36 +41,35 @@ pub returns-in-Ok-clause-kept : goal.returns-in-Ok-clause-kept
 returns-in-Ok-clause-kept g c =
     let image = c.args.image in
     let now = c.args.archive.now in
-    let mid = c.collected.new.archive in
+    let mid = c.collect.new.archive in
     let new = c.find_with-outcome.new.archive in
     let ws = wanted_of (core_bytes c.args.core.now) (state_of now).cases in
-    let views = map executable_view c.in-Ok.executables.items in
-    let leaves = all_leaves g.D.Disk now mid ws (Ok views) c.in-Ok.ensures.collected in
+    let xs = c.in-Ok.executables in
+    let leaves = all_leaves g.D.Disk now mid ws (Ok (map executable_view xs.items)) (c.in-Ok.ensures.collected ws c.wanted_by_path-wanted.ensures) in
     let again = reads_again g.D.Disk mid image (g.met.D.Disk.only_now mid.disk) (own_after g.D.Disk now mid image leaves c.requires.own) in
-    let after = found_leaves g.D.Disk mid new image _ (asking_of c.args.asked) _ (c.find_with-outcome.ensures mid again).1 in
-    let stay = subst (λ b. StayCollected g.D.Disk mid b (Some c.in-Ok.executables)) c.requires.front c.in-Ok.ensures.kept in
-    stay_after g.D.Disk new (g.met.D.Disk.only_now new.disk) mid image.front.now (Some c.in-Ok.executables) after stay
+    let after = found_leaves g.D.Disk mid new image _ (for_aim (aim_of c.args.sought)) _ (c.find_with-outcome.ensures mid again).1 in
+    stay_after g.D.Disk new (g.met.D.Disk.only_now new.disk) mid (Some xs) after c.in-Ok.ensures.kept
 
 pub returns-in-Ok-clause-leaves : goal.returns-in-Ok-clause-leaves
 returns-in-Ok-clause-leaves g c =
     let image = c.args.image in
     let now = c.args.archive.now in
-    let mid = c.collected.new.archive in
+    let mid = c.collect.new.archive in
     let new = c.find_with-outcome.new.archive in
     let ws = wanted_of (core_bytes c.args.core.now) (state_of now).cases in
-    let views = map executable_view c.in-Ok.executables.items in
-    let leaves = all_leaves g.D.Disk now mid ws (Ok views) c.in-Ok.ensures.collected in
+    let leaves = all_leaves g.D.Disk now mid ws (Ok (map executable_view c.in-Ok.executables.items)) (c.in-Ok.ensures.collected ws c.wanted_by_path-wanted.ensures) in
     let again = reads_again g.D.Disk mid image (g.met.D.Disk.only_now mid.disk) (own_after g.D.Disk now mid image leaves c.requires.own) in
-    leaves_then g.D.Disk now mid new leaves (found_leaves g.D.Disk mid new image _ (asking_of c.args.asked) _ (c.find_with-outcome.ensures mid again).1)
+    leaves_then g.D.Disk now mid new leaves (found_leaves g.D.Disk mid new image _ (for_aim (aim_of c.args.sought)) _ (c.find_with-outcome.ensures mid again).1)
 
 pub returns-in-Err-clause-answers : goal.returns-in-Err-clause-answers
 returns-in-Err-clause-answers g c before reads =
     let image = c.args.image in
     let f = c.in-Err.refusal in
     let now = c.args.archive.now in
-    let collects = subst (λ b. CollectsAll g.D.Disk now (wanted_of b (state_of now).cases) (Err f) c.collected.new.archive) c.requires.front c.in-Err.ensures.collected in (
+    let ws = wanted_of (core_bytes c.args.core.now) (state_of now).cases in
+    let collects = subst (λ b. CollectsAll g.D.Disk now (wanted_of b (state_of now).cases) (Err f) c.collect.new.archive) c.requires.front (c.in-Err.ensures.collected ws c.wanted_by_path-wanted.ensures) in (
       _,
-      unread_asked g.D.Disk c.a_sound_front_names_the_files.ensures image c.requires.sound (asking_of c.args.asked) before now c.collected.new.archive f c.requires.has c.requires.short reads collects,
+      unread_asked g.D.Disk c.a_sound_front_names_the_files.ensures image c.requires.sound (aim_of c.args.sought) before now c.collect.new.archive f c.requires.has c.requires.short reads collects,
       rw c.refused_by.ensures (reason_of f, refl),
       rw c.reason.ensures at c.tell_no.ensures,
     )
@@ -72,10 +77,11 @@ returns-in-Err-clause-answers g c before reads =
 pub returns-in-Err-clause-leaves : goal.returns-in-Err-clause-leaves
 returns-in-Err-clause-leaves g c =
     let now = c.args.archive.now in
-    all_leaves g.D.Disk now c.collected.new.archive (wanted_of (core_bytes c.args.core.now) (state_of now).cases) (Err c.in-Err.refusal) c.in-Err.ensures.collected
+    let ws = wanted_of (core_bytes c.args.core.now) (state_of now).cases in
+    all_leaves g.D.Disk now c.collect.new.archive ws (Err c.in-Err.refusal) (c.in-Err.ensures.collected ws c.wanted_by_path-wanted.ensures)
 
 pub find_with-outcome-requires-clause-has : goal.find_with-outcome-requires-clause-has
 find_with-outcome-requires-clause-has g c =
     let now = c.args.archive.now in
     let ws = wanted_of (core_bytes c.args.core.now) (state_of now).cases in
-    still_sized g.D.Disk g.met.D.Disk.only_now now c.collected.new.archive c.args.image.seq c.args.image.size ws (map executable_view c.in-Ok.executables.items) c.requires.has c.in-Ok.ensures.collected
+    still_sized g.D.Disk g.met.D.Disk.only_now now c.collect.new.archive c.args.image.seq c.args.image.size ws (map executable_view c.in-Ok.executables.items) c.requires.has (c.in-Ok.ensures.collected ws c.wanted_by_path-wanted.ensures)

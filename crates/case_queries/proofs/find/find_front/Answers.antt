@@ -7,8 +7,8 @@ use Rattle.case_queries.proofs.find.find_front.Goals as goal
 pub returns-in-Ok-clause-answers : goal.returns-in-Ok-clause-answers
 returns-in-Ok-clause-answers g c before kind reads =
     let image = c.args.image in
-    let told = c.find_collected.ensures.answers before reads in
-    (told.0, front_asked g.D.Disk c.a_sound_front_answers.ensures.fault before c.find_collected.new.archive image (asking_of c.args.asked) told.0 kind c.requires.sound c.in-Ok.ensures.fault told.1, told.2, told.3)
+    let told = c.ask_core.ensures.answers before reads in
+    (told.0, front_asked g.D.Disk c.a_sound_front_answers.ensures.fault before c.ask_core.new.archive image (asking_of c.args.asked) told.0 kind c.requires.sound c.in-Ok.ensures.fault told.1, told.2, told.3)
 
 pub returns-in-Err-clause-answers : goal.returns-in-Err-clause-answers
 returns-in-Err-clause-answers g c before kind reads =

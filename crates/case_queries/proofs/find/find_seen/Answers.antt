@@ -3,7 +3,6 @@ use Rattle.elf_view.specs.declared.faults.Want.TheVariants.{Core}
 use Rattle.intake.specs.State.{ArchiveState}
 use Rattle.script_lines.specs.Queries.{QuerySaid, memory_query}
 use Rattle.case_queries.specs.Fronts.{HasSize, IsSoundFront, ReadsFront}
-use Rattle.case_queries.specs.Keeping.{StayCollected}
 use Rattle.case_queries.specs.Seeing.{SeesImage}
 use Rattle.case_queries.specs.Steps.{Asks}
 use Rattle.case_queries.proofs.AskLemmas.{kept_still}
@@ -34,7 +33,7 @@ returns-then-len-size-clause-kept g c =
     kept_still g.D.Disk c.args.archive.now c.answer_memory.new.archive c.args.kind (memory_query c.args.query.now) k told.0 c.args.kept.now told.1 c.requires.kept
 
 pub returns-then-len-size-clause-are_kept : goal.returns-then-len-size-clause-are_kept
-returns-then-len-size-clause-are_kept g c = rw c.deref-then-len-size.ensures.value at c.answer_memory.ensures.kept
+returns-then-len-size-clause-are_kept g c = c.answer_memory.ensures.kept
 
 pub returns-clause-answers : goal.returns-clause-answers
 returns-clause-answers g c before seen =
@@ -49,13 +48,13 @@ pub returns-clause-kept : goal.returns-clause-kept
 returns-clause-kept g c = kept_after g.D.Disk c.args.archive.now c.find_front.new.archive c.args.kept.now c.find_front.ensures.leaves c.requires.kept
 
 pub returns-clause-are_kept : goal.returns-clause-are_kept
-returns-clause-are_kept g c = rw c.deref-2.ensures.value at c.find_front.ensures.kept
+returns-clause-are_kept g c = c.find_front.ensures.kept
 
 pub answer_memory-requires-clause-runs : goal.answer_memory-requires-clause-runs
 answer_memory-requires-clause-runs g c = c.requires.runs
 
 pub answer_memory-requires-clause-kept : goal.answer_memory-requires-clause-kept
-answer_memory-requires-clause-kept g c = subst (λ b. StayCollected g.D.Disk c.args.archive.now b c.args.kept.now.executables) (sym c.deref-then-len-size.ensures.value) c.requires.are_kept
+answer_memory-requires-clause-kept g c = c.requires.are_kept
 
 pub find_front-requires-clause-runs : goal.find_front-requires-clause-runs
 find_front-requires-clause-runs g c = c.requires.runs
@@ -84,4 +83,4 @@ find_front-requires-clause-own g c =
     (kept.0, kept.1, subst (λ (b : List ℕ). b ≡ take (length b) kept.0) (sym c.deref-2.ensures.value) kept.2)
 
 pub find_front-requires-clause-kept : goal.find_front-requires-clause-kept
-find_front-requires-clause-kept g c = subst (λ b. StayCollected g.D.Disk c.args.archive.now b c.args.kept.now.executables) (sym c.deref-2.ensures.value) c.requires.are_kept
+find_front-requires-clause-kept g c = c.requires.are_kept

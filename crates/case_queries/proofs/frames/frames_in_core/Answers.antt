@@ -1,26 +1,32 @@
-use Rattle.std.proofs.Common.{◌≡◌, Err, None, map, refl, subst}
+use Rattle.std.proofs.Common.{◌≡◌, None, Ok, Vec, Global, inr, map, refl, subst, sym, ap}
 use Rattle.std.specs.Prelude.{codes}
 use Rattle.frame_replies.specs.Processes.{state_of}
 use Rattle.frame_replies.specs.Walking.{BeginsAt}
 use Rattle.memory_replies.specs.Memory.{attached_view}
-use Rattle.case_queries.proofs.FindLemmas.{found_outcome}
-use Rattle.case_queries.proofs.FramesLemmas.{core_shown, missing_found, missing_shown}
+use Rattle.case_queries.specs.Asking.{for_frames}
+use Rattle.case_queries.specs.Pieces.{SeesPieces}
+use Rattle.case_queries.specs.ToldWords.{ShowsTold}
+use Rattle.case_queries.specs.declared.window.Part.{Part}
+use Rattle.case_queries.proofs.FindLemmas.{memory_outcome}
+use Rattle.case_queries.proofs.FramesLemmas.{missing_in, missing_shown}
 use Rattle.case_queries.proofs.frames.frames_in_core.Goals as goal
 
 pub returns-in_default : goal.returns-in_default
-returns-in_default g c before reads =
+returns-in_default g c before sees =
     let image = c.args.image in
     let xs = map attached_view c.args.attached.now in
     let none = subst (λ b. state_of b c.args.thread ≡ None) c.requires.front c.in_default.ensures in
-    (_, missing_shown g.D.Disk before c.args.archive.now image xs c.args.thread c.args.frame (missing_found c.a_sound_front_is_enough.ensures.notes image c.requires.sound c.args.thread g.D.Disk before c.args.archive.now c.requires.has c.requires.short reads none), (codes "NoThread", refl), c.tell_no.ensures)
+    (_, missing_shown g.D.Disk before c.args.archive.now image c.args.told.pieces.items xs c.args.thread c.args.frame sees (missing_in c.a_sound_front_is_enough.ensures.notes image c.requires.sound c.args.thread sees.0 sees.2.0 none), (codes "NoThread", refl), c.tell_no.ensures)
 
 pub returns-in-Ok : goal.returns-in-Ok
-returns-in-Ok g c before reads =
+returns-in-Ok g c before sees =
+    let o = c.args.image in
     let xs = map attached_view c.args.attached.now in
     let begins = subst (λ b. BeginsAt (state_of b c.args.thread) c.in-Some.begun) c.requires.front c.in-Some.ensures in
-    c.frames_of_walk.ensures before xs c.args.thread (c.in-Ok.ensures.sees before reads) (λ b has. c.in-Ok.ensures.walks.begins c.args.thread c.in-Some.begun begins b has)
+    let walks = c.in-Ok.ensures.walks o c.requires.front c.requires.sound c.requires.told in
+    let same = ap (λ (v : Vec Part Global). v.items) c.in-Ok.ensures.pieces in
+    let told = c.frames_of_walk.ensures before xs c.args.thread (subst (λ ps. SeesPieces g.D.Disk before o ps c.args.archive.now) (sym same) sees) (λ b has. walks.begins c.args.thread c.in-Some.begun begins b has) in
+    (told.0, subst (λ ps. ShowsTold g.D.Disk before o ps xs (for_frames c.args.thread c.args.frame) told.0 c.frames_of_walk.new.archive) same told.1, told.2, told.3)
 
 pub returns-in-Err : goal.returns-in-Err
-returns-in-Err g c before reads =
-    let xs = map attached_view c.args.attached.now in
-    (_, core_shown g.D.Disk before c.process_in_core.new.archive c.args.image xs c.args.thread c.args.frame c.in-Err.fault (c.in-Err.ensures.sees before reads), found_outcome (Err c.in-Err.fault) _ c.tell_found.ensures.done, c.tell_found.ensures.tells)
+returns-in-Err g c before sees = (_, (Ok sees.0, sees.1, (sees.2.0, inr refl)), memory_outcome _ c.tell_no_memory.ensures.done, c.tell_no_memory.ensures.tells)

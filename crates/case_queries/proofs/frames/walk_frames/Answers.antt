@@ -9,7 +9,7 @@ pub returns-in_err-read_more-in-Err-Unread-clause-finds : goal.returns-in_err-re
 returns-in_err-read_more-in-Err-Unread-clause-finds g c before xs thread reads begins =
     let p = err_from_is_err_and c.from_residual.result c.from_residual.ensures.1 in
     let sees = c.in_err-read_more-in-Err-Unread.ensures.sees before (c.loop-count.invariant.sees before reads) in
-    rw (p.1, p.2) (stops_so g.D.Disk before c.read_more.new.archive c.args.image c.read_more.new.pieces.items xs thread c.args.process.now c.go_on.new.walk c.in_err-read_more-in-Err-Unread.field-0.0 sees)
+    rw (p.1, p.2) (stops_so g.D.Disk before c.read_more.new.archive c.args.image c.read_more.new.pieces.items c.args.pieces.now.items xs thread c.args.process.now c.go_on.new.walk c.in_err-read_more-in-Err-Unread.field-0.0 sees)
 
 pub returns-in-Ok-clause-finds : goal.returns-in-Ok-clause-finds
 returns-in-Ok-clause-finds g c before stored thread sees begins =
@@ -20,7 +20,7 @@ returns-in-Ok-clause-finds g c before stored thread sees begins =
     let walk = so_far.walks b stored thread has (begins b (has.0, so_far.earlier b has.1)) in (
       b,
       now.1,
-      has.0,
+      (has.0, so_far.earlier b has.1),
       walk_goes_on b stored thread c.args.process.now c.loop-count.walk c.go_on.new.walk walk (c.in-Ok.ensures.walks b (has.0, subst (ArePieces b) (sym c.deref.ensures.value) has.1)),
       c.in-Ok.ensures.told,
     )

@@ -28,7 +28,7 @@ returns-in-Ok-clause-kept g c =
 
 pub returns-in-Ok-clause-are_kept : goal.returns-in-Ok-clause-are_kept
 returns-in-Ok-clause-are_kept g c =
-    collected_if g.D.Disk c.answer_memory-outcome.new.archive c.kept_if.result _ c.kept_if.ensures (rw c.deref.ensures.value at c.answer_memory-outcome.ensures.kept)
+    collected_if g.D.Disk c.answer_memory-outcome.new.archive c.kept_if.result _ c.kept_if.ensures c.answer_memory-outcome.ensures.kept
 
 pub returns-in-Err-clause-answers : goal.returns-in-Err-clause-answers
 returns-in-Err-clause-answers g c = (

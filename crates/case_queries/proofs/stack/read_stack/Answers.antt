@@ -32,4 +32,4 @@ returns-clause-seen g c before has seen =
 pub returns-clause-are_kept : goal.returns-clause-are_kept
 returns-clause-are_kept g c =
     let leaves = range_leaves g.D.Disk c.args.archive.now c.read_range.new.archive c.args.seq c.args.range.start (c.args.range.past - c.args.range.start) c.deref.result.now c.read_range.new.bytes.items c.in_ok-read_range.ensures.reads in
-    stay_after g.D.Disk c.read_range.new.archive (g.met.D.Disk.only_now c.read_range.new.archive.disk) c.args.archive.now c.args.front.image.items c.args.front.executables leaves c.requires.are_kept
+    stay_after g.D.Disk c.read_range.new.archive (g.met.D.Disk.only_now c.read_range.new.archive.disk) c.args.archive.now c.args.front.executables leaves c.requires.are_kept

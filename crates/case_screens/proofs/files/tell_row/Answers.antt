@@ -1,6 +1,6 @@
 use Rattle.std.proofs.Common.{◌≡◌, ◌-◌, length, ap, arith}
 use Rattle.script_streams.specs.TellLaws.{tells_then, tells_as}
-use Rattle.build_replies.specs.Compared.{build_view}
+use Rattle.build_replies.specs.Mapped.{build_view}
 use Rattle.case_tables.specs.Table.{spaces}
 use Rattle.case_screens.specs.Files.{stored_text}
 use Rattle.case_screens.specs.Texts.{name_text}

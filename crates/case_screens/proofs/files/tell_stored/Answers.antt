@@ -2,7 +2,7 @@ use Rattle.std.proofs.Common.{Bor, List, ap, sym, ◌∙◌, ℕ}
 use Rattle.std.specs.Option.{option_map}
 use Rattle.std.specs.Prelude.{decimal}
 use Rattle.script_streams.specs.TellLaws.{tells_then, tells_as}
-use Rattle.build_replies.specs.Compared.{build_view}
+use Rattle.build_replies.specs.Mapped.{build_view}
 use Rattle.case_screens.specs.Files.{build_text, stored_text}
 use Rattle.case_screens.proofs.files.tell_stored.Goals as goal
 

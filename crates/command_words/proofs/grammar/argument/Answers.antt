@@ -5,7 +5,7 @@ use Rattle.clap.specs.declared.builder.range.ValueRange.{ValueRange}
 use Rattle.clap.specs.declared.builder.value_parser.ValueParser.{ValueParser}
 use Rattle.clap.specs.declared.builder.value_parser.ValueParser.TheVariants.{Signed, Unsigned}
 use Rattle.command_words.specs.Grammar.{flagged, named, named_by, placed, rule_by}
-use Rattle.command_words.proofs.RuleLemmas.{conflicting}
+use Rattle.command_words.proofs.RuleLemmas.{conflicting, requiring}
 use Rattle.command_words.proofs.grammar.argument.Goals as goal
 
 pub returns-in-Flag : goal.returns-in-Flag
@@ -22,6 +22,24 @@ returns-in_ok-conflicts_with-in-FlagWithoutJson c =
     conflicting c.long-in-FlagWithoutJson.result _ _ added.0 added.1
     ∙ (ap (λ (r : Rule). record r { is_free = false }) long
     ∙ ap (rule_by c.args.word.now) (sym c.in-FlagWithoutJson.is))
+
+pub returns-in_ok-requires_arg-in-FlagWithBuild : goal.returns-in_ok-requires_arg-in-FlagWithBuild
+returns-in_ok-requires_arg-in-FlagWithBuild c =
+    let added = c.in_ok-requires_arg-in-FlagWithBuild.ensures in
+    let long : rule_of c.long-in-FlagWithBuild.result ≡ flagged c.args.word.now =
+    ap rule_of c.long-in-FlagWithBuild.ensures ∙ ap (λ (r : Rule). record r { long = Some c.args.word.now.id.now }) c.begun-argument.ensures in
+    requiring c.long-in-FlagWithBuild.result _ _ added.0 added.1
+    ∙ (ap (λ (r : Rule). record r { is_free = false }) long
+    ∙ ap (rule_by c.args.word.now) (sym c.in-FlagWithBuild.is))
+
+pub returns-in_ok-requires_arg-in-TextWithBuild : goal.returns-in_ok-requires_arg-in-TextWithBuild
+returns-in_ok-requires_arg-in-TextWithBuild c =
+    let added = c.in_ok-requires_arg-in-TextWithBuild.ensures in
+    let before : rule_of c.named-in-TextWithBuild.result ≡ named c.args.word.now =
+    c.named-in-TextWithBuild.ensures ∙ ap (λ (r : Rule). named_by r c.args.word.now) c.begun-argument.ensures in
+    requiring c.named-in-TextWithBuild.result _ _ added.0 added.1
+    ∙ (ap (λ (r : Rule). record r { is_free = false }) before
+    ∙ ap (rule_by c.args.word.now) (sym c.in-TextWithBuild.is))
 
 pub returns-in-Place : goal.returns-in-Place
 returns-in-Place c =

@@ -1,4 +1,4 @@
-use Rattle.frame_replies.proofs.ChoiceLemmas.{attached_own, code_own, named_own}
+use Rattle.frame_replies.proofs.ChoiceLemmas.{attached_own, code_own, named_own, used_code}
 use Rattle.frame_replies.proofs.laws.never_another.Goals as goal
 
 pub returns-clause-attached : goal.returns-clause-attached
@@ -9,3 +9,6 @@ returns-clause-named c = named_own
 
 pub returns-clause-code : goal.returns-clause-code
 returns-clause-code c = code_own
+
+pub returns-clause-no_debug : goal.returns-clause-no_debug
+returns-clause-no_debug c = used_code

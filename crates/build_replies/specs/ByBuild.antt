@@ -1,0 +1,88 @@
+-- What a mapped file has of the executables that are stored: the one that is stored under the name of its build, else the one under its
+-- path; never a file of another build, nor a debug file (GDB, "Debugging Information in Separate Files").
+use Rattle.std.specs.Prelude.{ℕ, ◌&&◌, not, if◌then◌else◌, Bool, true, false, List, [], ◌∷◌, find, is_none, Option, None, Some}
+use Rattle.std.specs.Str.{bytes_eq}
+use Rattle.elf_view.specs.Sound.{first_fault}
+use Rattle.elf_view.specs.declared.faults.Want.TheVariants.{Exec}
+use Rattle.address_space.specs.Source.{ExecutableView, is_named}
+use Rattle.build_ids.specs.BuildId.{build_id_of}
+use Rattle.build_ids.specs.BuildName.{build_name, has_name}
+use Rattle.build_ids.specs.DebugFile.{is_debug}
+
+-- it is that ID
+abbrev pub is_id : List ℕ → Option (List ℕ) → Bool
+is_id id None = false
+is_id id (Some own) = bytes_eq id own
+
+-- an image has the build ID that a core tells for a file, if it tells one
+abbrev pub has_told_id : Option (List ℕ) → List ℕ → Bool
+has_told_id None image = true
+has_told_id (Some id) image = is_id id (build_id_of image)
+
+-- its headers have no fault
+abbrev pub is_executable : List ℕ → Bool
+is_executable image = is_none (first_fault Exec image)
+
+-- An image may be the file that was mapped, for which a core tells that build ID, or none: it is an executable, and no debug file, whose
+-- code has no bytes.
+unfoldable pub agrees : Option (List ℕ) → List ℕ → Bool
+agrees id image = is_executable image && (not (is_debug image) && has_told_id id image)
+
+-- the executable of that name
+abbrev pub stored_as : List ExecutableView → List ℕ → Option ExecutableView
+stored_as stored name = find (is_named name) stored
+
+abbrev pub if_agrees : Option (List ℕ) → Option ExecutableView → Option ExecutableView
+if_agrees id None = None
+if_agrees id (Some x) = if agrees id x.image then Some x else None
+
+-- the one that is stored under the name of that build, if it is that build
+abbrev pub build_stored : List ExecutableView → Option (List ℕ) → Option ExecutableView
+build_stored stored None = None
+build_stored stored (Some id) = if has_name id then if_agrees (Some id) (stored_as stored (build_name id)) else None
+
+-- What a mapped file has of what is stored: an executable that is used, under the name of its build or under its path; one under its path
+-- that is not used, since it is of another build, has no build ID though the core tells one, or is a debug file; or none. One whose
+-- headers have a fault is none.
+pub data Chosen : Type 0 where
+  by_build : ExecutableView → Chosen
+  by_path : ExecutableView → Chosen
+  other : ExecutableView → Chosen
+  none : Chosen
+
+abbrev pub by_its_path : Option (List ℕ) → Option ExecutableView → Chosen
+by_its_path id None = none
+by_its_path id (Some x) = if agrees id x.image then by_path x else (if is_executable x.image then other x else none)
+
+abbrev pub build_first : Option ExecutableView → Chosen → Chosen
+build_first None c = c
+build_first (Some x) c = by_build x
+
+-- of the file of that name, for which the core tells that ID
+unfoldable pub chosen : List ExecutableView → Option (List ℕ) → List ℕ → Chosen
+chosen stored id path = build_first (build_stored stored id) (by_its_path id (stored_as stored path))
+
+-- its build ID
+abbrev pub chosen_id : Chosen → Option (List ℕ)
+chosen_id (by_build x) = build_id_of x.image
+chosen_id (by_path x) = build_id_of x.image
+chosen_id (other x) = build_id_of x.image
+chosen_id none = None
+
+-- an executable under the name of a mapped file
+abbrev pub as_file : List ℕ → ExecutableView → ExecutableView
+as_file path x = record { path = path; image = x.image }
+
+-- what is used for the file of that name
+abbrev pub used_by : List ℕ → Chosen → List ExecutableView
+used_by path (by_build x) = as_file path x ∷ []
+used_by path (by_path x) = as_file path x ∷ []
+used_by path (other x) = []
+used_by path none = []
+
+-- what is there for it, and not used
+abbrev pub others_by : List ℕ → Chosen → List ExecutableView
+others_by path (by_build x) = []
+others_by path (by_path x) = []
+others_by path (other x) = as_file path x ∷ []
+others_by path none = []

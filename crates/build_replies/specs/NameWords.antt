@@ -1,0 +1,35 @@
+-- The names under which the executables of a core's mapped files may be stored: their own, and those of their builds.
+use Rattle.std.specs.Prelude.{ℕ, if◌then◌else◌, Bool, List, [], ◌∷◌, ◌++◌, map, Option, None, Some}
+use Rattle.std.specs.List.{flat_map, list_any}
+use Rattle.std.specs.Str.{bytes_eq}
+use Rattle.arrayvec.specs.ArrayVec.{ArrayVec}
+use Rattle.build_ids.specs.BuildName.{build_name, has_name}
+use Rattle.build_replies.specs.Builds.{NamedId}
+use Rattle.build_replies.specs.TableWords.{path_of, table_rows}
+use Rattle.build_replies.specs.declared.stored_names.StoredNames.{StoredNames}
+
+-- the name of the build of that ID, if there is an ID, and it has one
+abbrev pub name_of_build : Option (List ℕ) → List (List ℕ)
+name_of_build None = []
+name_of_build (Some id) = if has_name id then build_name id ∷ [] else []
+
+abbrev pub builds_named : List NamedId → List (List ℕ)
+builds_named told = flat_map (λ (t : NamedId). name_of_build t.1) told
+
+abbrev pub file_name : NamedId → List ℕ
+file_name t = t.0
+
+-- all of them
+abbrev pub stored_names : List NamedId → List (List ℕ)
+stored_names told = map file_name told ++ builds_named told
+
+-- it is one of these
+abbrev pub is_one_of : List (List ℕ) → List ℕ → Bool
+is_one_of names name = list_any (λ n. bytes_eq n name) names
+
+-- what the code's names mean
+abbrev pub name_bytes : ArrayVec ℕ → List ℕ
+name_bytes n = n.items
+
+abbrev pub names_in : StoredNames → List (List ℕ)
+names_in s = map path_of (table_rows s.names)

@@ -1,0 +1,52 @@
+// The build IDs of a core's mapped files, next to those of the executables that are stored for them.
+ghost use Rattle.std.specs.Prelude.{◌≡◌, IfOk, map};
+ghost use Rattle.address_space.specs.SpaceWords.{attached_view};
+ghost use Rattle.build_replies.specs.Builds.{build_value, values_of};
+ghost use Rattle.build_replies.specs.Mapped.{build_view, id_view};
+ghost use Rattle.build_replies.specs.TableWords.{table_rows};
+
+use crate::choosing::ChosenFile;
+use crate::ids::FrontId;
+use crate::table::Table;
+use address_space::Attached;
+use std::alloc::{AllocError, Global};
+
+/// A mapped file, with the build ID of its front, and that of the executable that is stored for it.
+#[derive(Drop)]
+pub struct BuildAnswer<'a> {
+    /// Its name, and the build ID of its front, as far as the core has it.
+    pub front: FrontId<'a>,
+    /// That of the executable that is stored under the name of its build or under its path, whether it is used or not. `None` if there is
+    /// none, or it has no build ID.
+    pub stored: Option<&'a [u8]>,
+}
+
+/// What is told of a mapped file. The error is that there is no memory.
+fn answer<'a>(
+    alloc: Global,
+    table: &Table<'a>,
+    file: &FrontId<'a>,
+) -> Result<BuildAnswer<'a>, AllocError>
+    ensures { IfOk result (λ row. build_view row ≡ build_value (table_rows table.now) (id_view file.now)) }
+{
+    Ok(BuildAnswer {
+        front: FrontId::new(alloc, file.name, file.id())?,
+        stored: ChosenFile::for_file(table, file).id(),
+    })
+}
+
+/// What is told of these mapped files, with the executables that are stored. The error is that there is no memory.
+pub fn build_answers<'a>(
+    alloc: Global,
+    files: &[FrontId<'a>],
+    stored: &[Attached<'a>],
+) -> Result<Vec<BuildAnswer<'a>>, AllocError>
+    ensures { IfOk result (λ rows. map build_view rows.items ≡ values_of (map attached_view stored.now) (map id_view files.now)) }
+{
+    let table = Table::of(alloc, stored)?;
+    let mut rows = Vec::new(alloc);
+    for file in files {
+        rows.push(answer(alloc, &table, file)?)?;
+    }
+    Ok(rows)
+}

@@ -1,0 +1,45 @@
+-- The mapped files of a core that is read piece by piece, each with the build ID that the core tells; and what a line shows by them.
+use Rattle.std.specs.Prelude.{◌≡◌, ◌⊎◌, ℕ, List, Result, Ok, Err}
+use Rattle.address_space.specs.Source.{ExecutableView}
+use Rattle.address_space.specs.Whole.{IsFrontOf}
+use Rattle.archive_replies.specs.Reasons.{reason_of}
+use Rattle.build_replies.specs.Builds.{told_of}
+use Rattle.build_replies.specs.Mapped.{told_view}
+use Rattle.disk_model.specs.declared.disk.Disk as disk
+use Rattle.intake.specs.Parts.{Parts}
+use Rattle.intake.specs.declared.faults.ArchiveFault.{ArchiveFault}
+use Rattle.memory_replies.specs.Answers.{Answers, memory_reply}
+use Rattle.script_streams.specs.Replies.{no_reply}
+use Rattle.case_queries.specs.Asking.{Asking, asking_answer}
+use Rattle.case_queries.specs.Pieces.{ArePieces, BeginsWith, SeesPieces}
+use Rattle.case_queries.specs.Seeing.{AreOfCase, LooksAt, SeesImage}
+use Rattle.case_queries.specs.declared.told.ToldFiles.{ToldFiles}
+use Rattle.case_queries.specs.declared.walk.CaseImage.{CaseImage}
+use Rattle.case_queries.specs.declared.walk.WalkFault.{WalkFault}
+use Rattle.case_queries.specs.declared.walk.WalkFault.TheVariants.{Unread, OutOfMemory}
+use Rattle.case_queries.specs.declared.window.Part.{Part}
+
+-- Each image that begins so and has these pieces tells these files; and there is such an image.
+pub record IsToldBy (o : CaseImage) (t : ToldFiles) : Type 0 where
+  pub some : (image : List ℕ) × BeginsWith o t.pieces.items image
+  pub told : (image : List ℕ) → BeginsWith o t.pieces.items image → told_of image ≡ told_view t.files
+
+-- The image that is seen has the pieces; or why it can't be read.
+abbrev pub SeesTold : {D : Type 0} → disk.Ghosts D → Parts D → CaseImage → Result ToldFiles WalkFault → Parts D → Type 0
+SeesTold g before o (Ok t) now = SeesPieces g before o t.pieces.items now
+SeesTold g before o (Err (Unread f)) now = LooksAt g before o.seq (Err f) now
+SeesTold g before o (Err OutOfMemory) now = (image : List ℕ) × SeesImage g before o.seq image now × IsFrontOf o.front.now o.size image
+
+-- what is at hand is of the case's image
+abbrev pub ArePiecesOfCase : {D : Type 0} → disk.Ghosts D → Parts D → CaseImage → List Part → Type 0
+ArePiecesOfCase g a o ps = (image : List ℕ) × AreOfCase g a o.seq image × BeginsWith o ps image
+
+-- an answer of an image that begins so and has these pieces, or that there is no memory; or why it can't be read
+abbrev pub ToldPieces : CaseImage → List Part → List ExecutableView → Asking → List ℕ → Result (List ℕ) ArchiveFault → Type 0
+ToldPieces o ps xs asking text (Ok image) =
+    IsFrontOf o.front.now o.size image × ((ArePieces image ps × Answers (asking_answer asking image xs) text) ⊎ (text ≡ memory_reply))
+ToldPieces o ps xs asking text (Err f) = text ≡ no_reply (reason_of f)
+
+-- what the line shows, with these executables
+abbrev pub ShowsTold : {D : Type 0} → disk.Ghosts D → Parts D → CaseImage → List Part → List ExecutableView → Asking → List ℕ → Parts D → Type 0
+ShowsTold g before o ps xs asking text now = (r : Result (List ℕ) ArchiveFault) × LooksAt g before o.seq r now × ToldPieces o ps xs asking text r

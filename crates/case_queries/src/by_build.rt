@@ -1,0 +1,161 @@
+// The answers to `unwind`, `frame` and `builds` of a core that is read piece by piece: by executables of the builds that were mapped.
+ghost use Rattle.std.specs.Prelude.{◌≡◌, ◌≤◌, false, length, map};
+ghost use Rattle.elf_view.specs.declared.faults.Want.TheVariants.{Core};
+ghost use Rattle.image_replies.specs.CoreWords.{core_bytes};
+ghost use Rattle.intake.specs.Parts.{Parts, state_of};
+ghost use Rattle.memory_replies.specs.Answers.{is_done};
+ghost use Rattle.memory_replies.specs.Memory.{attached_view};
+ghost use Rattle.script_streams.specs.Replies.{TellsOutcome, telling};
+ghost use Rattle.case_queries.specs.Asking.{files_asking};
+ghost use Rattle.case_queries.specs.CollectingWords.{executable_view};
+ghost use Rattle.case_queries.specs.Finding.{AsksFront, IsFrontOfCase};
+ghost use Rattle.case_queries.specs.Fronts.{HasSize, IsSoundFront, ReadsFront};
+ghost use Rattle.case_queries.specs.Keeping.{StayCollected};
+ghost use Rattle.case_queries.specs.LeaveLaws.{Leaves};
+ghost use Rattle.case_queries.specs.Pieces.{SeesPieces};
+ghost use Rattle.case_queries.specs.ToldWords.{ArePiecesOfCase, IsToldBy, ShowsTold};
+
+use crate::asked::AskedFiles;
+use crate::collect_executables::{StoredExecutable, collect, lent, wanted_by_build};
+use crate::find::tell_no_memory;
+use crate::found::tell_found;
+use crate::frames::frames_in_core;
+use crate::memory::refused_by;
+use crate::told::{ToldFiles, told_files};
+use crate::walk::CaseImage;
+use address_space::Attached;
+use archive_replies::reason;
+use build_replies::{listed, tell_told};
+use disk_model::Disk;
+use image_replies::CoreImage;
+use intake::Archive;
+use memory_replies::Outcome;
+use script_streams::{Output, Reply, tell_no};
+use std::alloc::Global;
+
+// Tells what is asked of a core, with the executables that are stored for its mapped files.
+fn tell_asked<'a, O: Output, D: Disk>(
+    alloc: Global,
+    image: CaseImage<'_>,
+    core: &CoreImage<'a>,
+    told: ToldFiles<'a>,
+    attached: &[Attached<'a>],
+    asked: AskedFiles,
+    reply: &mut Reply<'_, O>,
+    archive: &mut Archive<D>,
+) -> Outcome
+    requires has { HasSize (state_of archive.old) image.seq image.size }
+    requires front { core_bytes core.now ≡ image.front.now }
+    requires sound { IsSoundFront Core image.front.now }
+    requires told { IsToldBy image told }
+    ensures { (before : Parts D) → SeesPieces D.Disk before image.entry told.entry.pieces.items archive.old
+        → TellsOutcome (telling O.Output reply.old reply.new) (λ text. ShowsTold D.Disk before image.entry told.entry.pieces.items (map attached_view attached.now) (files_asking asked) text archive.new) (is_done result) }
+{
+    match asked {
+        AskedFiles::Frames { thread, frame } => {
+            frames_in_core(
+                alloc, image, core, told, attached, thread, frame, reply, archive,
+            )
+        }
+        AskedFiles::Builds => tell_told(alloc, reply, &told.files, attached),
+    }
+}
+
+// The same with these executables.
+fn tell_with<O: Output, D: Disk>(
+    alloc: Global,
+    image: CaseImage<'_>,
+    core: &CoreImage<'_>,
+    told: ToldFiles<'_>,
+    executables: &[StoredExecutable],
+    asked: AskedFiles,
+    reply: &mut Reply<'_, O>,
+    archive: &mut Archive<D>,
+) -> Outcome
+    requires has { HasSize (state_of archive.old) image.seq image.size }
+    requires front { core_bytes core.now ≡ image.front.now }
+    requires sound { IsSoundFront Core image.front.now }
+    requires told { IsToldBy image told }
+    ensures { (before : Parts D) → SeesPieces D.Disk before image.entry told.entry.pieces.items archive.old
+        → TellsOutcome (telling O.Output reply.old reply.new) (λ text. ShowsTold D.Disk before image.entry told.entry.pieces.items (map executable_view executables.now) (files_asking asked) text archive.new) (is_done result) }
+{
+    match lent(alloc, executables) {
+        Ok(attached) => tell_asked(alloc, image, core, told, &attached, asked, reply, archive),
+        Err(_) => tell_no_memory(reply),
+    }
+}
+
+// The same with those that are stored for the files. They are kept for the lines over the same core that come next.
+fn tell_collected<O: Output, D: Disk>(
+    alloc: Global,
+    image: CaseImage<'_>,
+    core: &CoreImage<'_>,
+    told: ToldFiles<'_>,
+    asked: AskedFiles,
+    kept: &mut Option<Vec<StoredExecutable>>,
+    reply: &mut Reply<'_, O>,
+    archive: &mut Archive<D>,
+) -> Outcome
+    requires runs { archive.old.stopped ≡ false }
+    requires has { HasSize (state_of archive.old) image.seq image.size }
+    requires front { core_bytes core.now ≡ image.front.now }
+    requires sound { IsSoundFront Core image.front.now }
+    requires told { IsToldBy image told }
+    requires own { ArePiecesOfCase D.Disk archive.old image told.pieces.items }
+    requires kept { StayCollected D.Disk archive.old kept.old }
+    ensures answers { (before : Parts D) → SeesPieces D.Disk before image.entry told.entry.pieces.items archive.old
+        → TellsOutcome (telling O.Output reply.old reply.new) (λ text. AsksFront D.Disk before image.entry (files_asking asked) text archive.new) (is_done result) }
+    ensures kept { StayCollected D.Disk archive.new kept.new }
+    ensures leaves { Leaves D.Disk archive.old archive.new }
+{
+    let wanted = wanted_by_build(alloc, listed(&told.files), archive);
+    match collect(alloc, wanted, kept.take(), archive) {
+        Ok(executables) => {
+            let outcome = tell_with(
+                alloc,
+                image,
+                core,
+                told,
+                &executables,
+                asked,
+                reply,
+                archive,
+            );
+            *kept = Some(executables);
+            outcome
+        }
+        Err(refusal) => {
+            tell_no(reply, reason(refusal));
+            refused_by(refusal)
+        }
+    }
+}
+
+// Answers a line over call frames or builds of a core of which the first bytes are at hand. Its mapped files are found first, each with the
+// build ID that the core tells; then the executables are read that are stored for them.
+pub(crate) fn answer_by_build<O: Output, D: Disk>(
+    alloc: Global,
+    image: CaseImage<'_>,
+    core: &CoreImage<'_>,
+    asked: AskedFiles,
+    kept: &mut Option<Vec<StoredExecutable>>,
+    reply: &mut Reply<'_, O>,
+    archive: &mut Archive<D>,
+) -> Outcome
+    requires runs { archive.old.stopped ≡ false }
+    requires has { HasSize (state_of archive.old) image.seq image.size }
+    requires short { length image.front.now ≤ image.size }
+    requires front { core_bytes core.now ≡ image.front.now }
+    requires sound { IsSoundFront Core image.front.now }
+    requires own { IsFrontOfCase D.Disk archive.old image }
+    requires kept { StayCollected D.Disk archive.old kept.old }
+    ensures answers { (before : Parts D) → ReadsFront D.Disk before image.entry.seq image.entry.front.now archive.old
+        → TellsOutcome (telling O.Output reply.old reply.new) (λ text. AsksFront D.Disk before image.entry (files_asking asked) text archive.new) (is_done result) }
+    ensures kept { StayCollected D.Disk archive.new kept.new }
+    ensures leaves { Leaves D.Disk archive.old archive.new }
+{
+    match told_files(alloc, image, core, archive) {
+        Ok(told) => tell_collected(alloc, image, core, told, asked, kept, reply, archive),
+        Err(fault) => tell_found(reply, Err(fault)),
+    }
+}

@@ -1,0 +1,130 @@
+//! The names by which files are stored, next to the names that GDB and other tools give the same build IDs.
+use build_ids::{id_of_name, is_debug, told_name};
+use std::process::Abort;
+use std::test::Fail;
+
+/// The file header of a library, one program header, three section headers, and the note of a build ID of no bytes. The note is in a
+/// PT_NOTE and in a section of notes; the last section is code.
+static LIBRARY: [u8; 328] =
+    *b"\x7fELF\x02\x01\x01\x00\x00\x00\x00\x00\x00\x00\x00\x00\x03\x00\xf3\x00\x01\x00\x00\x00\x00\x00\x00\x00\x00\x00\x00\x00@\x00\x00\x00\x00\x00\x00\x00x\x00\x00\x00\x00\x00\x00\x00\x05\x00\x00\x00@\x008\x00\x01\x00@\x00\x03\x00\x00\x00\x04\x00\x00\x00\x04\x00\x00\x008\x01\x00\x00\x00\x00\x00\x00\x00\x00\x00\x00\x00\x00\x00\x00\x00\x00\x00\x00\x00\x00\x00\x00\x10\x00\x00\x00\x00\x00\x00\x00\x10\x00\x00\x00\x00\x00\x00\x00\x04\x00\x00\x00\x00\x00\x00\x00\x00\x00\x00\x00\x00\x00\x00\x00\x00\x00\x00\x00\x00\x00\x00\x00\x00\x00\x00\x00\x00\x00\x00\x00\x00\x00\x00\x00\x00\x00\x00\x00\x00\x00\x00\x00\x00\x00\x00\x00\x00\x00\x00\x00\x00\x00\x00\x00\x04\x00\x00\x00\x00\x00\x00\x00\x00\x00\x00\x00\x00\x00\x00\x00\x00\x00\x00\x00\x07\x00\x00\x00\x02\x00\x00\x00\x00\x00\x00\x00\x00\x00\x00\x00\x00\x00\x00\x008\x01\x00\x00\x00\x00\x00\x00\x10\x00\x00\x00\x00\x00\x00\x00\x00\x00\x00\x00\x00\x00\x00\x00\x04\x00\x00\x00\x00\x00\x00\x00\x00\x00\x00\x00\x00\x00\x00\x00\x00\x00\x00\x00\x01\x00\x00\x00\x06\x00\x00\x00\x00\x00\x00\x00\x00\x00\x00\x00\x00\x00\x00\x008\x01\x00\x00\x00\x00\x00\x00\x00\x00\x00\x00\x00\x00\x00\x00\x00\x00\x00\x00\x00\x00\x00\x00\x04\x00\x00\x00\x00\x00\x00\x00\x00\x00\x00\x00\x00\x00\x00\x00\x04\x00\x00\x00\x00\x00\x00\x00\x03\x00\x00\x00GNU\x00";
+
+/// The places of what a test changes: e_shoff, p_type, p_filesz, sh_size of the notes, sh_type of the code, and n_descsz.
+const SECTIONS: usize = 40;
+
+const SEGMENT: usize = 64;
+
+const SEGMENT_SIZE: usize = 96;
+
+const SECTION_SIZE: usize = 216;
+
+const CODE: usize = 252;
+
+const ID_SIZE: usize = 316;
+
+/// The first bytes of an ID.
+static ID: [u8; 65] = [0xab; 65];
+
+/// Whether a library with an ID of that many bytes is a debug file, and how long its name is; 0, if it has none.
+fn told(
+    rt: &HostRuntime,
+    count: u8,
+    debug: bool,
+    changes: &[(usize, u8)],
+) -> Result<(bool, usize), Fail> {
+    let mut image = Vec::from_array(rt.alloc(), LIBRARY)?;
+    let size = count.saturating_add(16);
+    image[SEGMENT_SIZE] = size;
+    image[SECTION_SIZE] = size;
+    image[ID_SIZE] = count;
+    for (place, value) in changes {
+        image[*place] = *value;
+    }
+    image.extend_from_slice(&ID[..usize::from(count)])?;
+    let long = match told_name(debug, &image) {
+        Some(name) => name.len(),
+        None => 0,
+    };
+    Ok((is_debug(&image), long))
+}
+
+#[test]
+fn names_are_of_ids_of_2_to_55_bytes(rt: HostRuntime) -> Result<(), Fail> {
+    for (count, long, debug) in [
+        (0, 0, 0),
+        (1, 0, 0),
+        (2, 15, 21),
+        (20, 51, 57),
+        (55, 121, 127),
+        (56, 0, 0),
+        (64, 0, 0),
+        (65, 0, 0),
+    ] {
+        assert_eq!(rt; told(&rt, count, false, &[])?, (false, long), "{count}");
+        assert_eq!(rt; told(&rt, count, true, &[])?, (false, debug), "{count}");
+    }
+    Ok(())
+}
+
+#[test]
+fn debug_files_have_code_without_bytes(rt: HostRuntime) -> Result<(), Fail> {
+    // SHT_NOBITS
+    assert_eq!(rt; told(&rt, 2, false, &[(CODE, 8)])?, (true, 21));
+    // And it has no PT_NOTE.
+    assert_eq!(rt;
+        told(&rt, 2, false, &[(CODE, 8), (SEGMENT, 0)])?,
+        (true, 21)
+    );
+    // An executable without a PT_NOTE.
+    assert_eq!(rt; told(&rt, 2, false, &[(SEGMENT, 0)])?, (false, 0));
+    // Without section headers.
+    assert_eq!(rt;
+        told(&rt, 2, false, &[(CODE, 8), (SECTIONS, 0)])?,
+        (false, 15)
+    );
+    assert_eq!(rt;
+        told(&rt, 2, true, &[(CODE, 8), (SECTIONS, 0)])?,
+        (false, 0)
+    );
+    // A core.
+    assert_eq!(rt; told(&rt, 2, false, &[(CODE, 8), (16, 4)])?, (false, 0));
+    Ok(())
+}
+
+/// The first byte of the ID that has the name, and how many bytes it has; none, if the name is of another kind.
+fn id_told(name: &[u8]) -> (u8, usize) {
+    match id_of_name(name) {
+        Some(id) if !id.is_empty() => (id[0], id.len()),
+        _ => (0, 0),
+    }
+}
+
+#[test]
+fn ids_are_found_by_their_names(rt: HostRuntime) -> Result<(), Fail> {
+    for (name, id) in [
+        (
+            b".build-id/2c/f08c38e98c274fce085506e97ce53045af6315".as_slice(),
+            (0x2c, 20),
+        ),
+        (
+            b".build-id/2c/f08c38e98c274fce085506e97ce53045af6315.debug",
+            (0x2c, 20),
+        ),
+        (b".build-id/ab/cd", (0xab, 2)),
+        (b".build-id/ab/cd.debug", (0xab, 2)),
+        (b".build-id/ab/cd.debug.debug", (0, 0)),
+        (b".build-id/AB/cd", (0, 0)),
+        (b".build-id/ab/cD", (0, 0)),
+        (b".build-id/ab/c", (0, 0)),
+        (b".build-id/ab/", (0, 0)),
+        (b".build-id/ab", (0, 0)),
+        (b".build-id/ab/.debug", (0, 0)),
+        (b".build-id/ab-cd", (0, 0)),
+        (b"/.build-id/ab/cd", (0, 0)),
+        (b"x/.build-id/ab/cd", (0, 0)),
+        (b"/usr/bin/foo", (0, 0)),
+        (b"", (0, 0)),
+    ] {
+        assert_eq!(rt; id_told(name), id);
+    }
+    Ok(())
+}
