@@ -1,6 +1,6 @@
 -- The build IDs of a core's mapped files (core(5), NT_FILE), next to those of the executables that are stored for them.
-use Rattle.std.specs.Prelude.{ℕ, ◌-◌, ◌==◌, not, if◌then◌else◌, Bool, List, [], ◌∷◌, ◌++◌, filter, find, map, Option, None, Some, Result, Ok, Err, codes}
-use Rattle.std.specs.List.{flat_map}
+use Rattle.std.specs.Prelude.{ℕ, ◌-◌, ◌==◌, ◌&&◌, not, if◌then◌else◌, Bool, List, [], ◌∷◌, ◌++◌, filter, find, is_none, map, Option, None, Some, Result, Ok, Err, codes, decimal}
+use Rattle.std.specs.List.{filter_map, flat_map}
 use Rattle.std.specs.Option.{option_and_then, option_map}
 use Rattle.std.specs.Str.{bytes_eq}
 use Rattle.script_words.specs.Hex.{hex_of}
@@ -13,7 +13,8 @@ use Rattle.address_space.specs.Source.{Space, ExecutableView, Content, held, is_
 use Rattle.address_space.specs.Pieces.{PieceView, pieces_of}
 use Rattle.build_ids.specs.BuildId.{build_id_of}
 use Rattle.memory_replies.specs.Memory.{memory_of}
-use Rattle.build_replies.specs.ByBuild.{chosen, chosen_id}
+use Rattle.build_ids.specs.BuildName.{has_name}
+use Rattle.build_replies.specs.ByBuild.{Chosen, chosen, chosen_id, how_word, used_executable}
 
 -- each of the names once, at its first place
 unfoldable pub once : List (List ℕ) → List (List ℕ)
@@ -84,14 +85,14 @@ abbrev pub told_or_none : Option (List NamedId) → List NamedId
 told_or_none None = []
 told_or_none (Some told) = told
 
--- a mapped file, by its name, with the build ID of its front and that of what is chosen for it of what is stored
+-- a mapped file, by its name, with the build ID of its front and what is chosen for it of what is stored
 pub record BuildValue : Type 0 where
   pub name : List ℕ
   pub core : Option (List ℕ)
-  pub stored : Option (List ℕ)
+  pub chosen : Chosen
 
 abbrev pub build_value : List ExecutableView → NamedId → BuildValue
-build_value stored t = record { name = t.0; core = t.1; stored = chosen_id (chosen stored t.1 t.0) }
+build_value stored t = record { name = t.0; core = t.1; chosen = chosen stored t.1 t.0 }
 
 -- one for each
 abbrev pub values_of : List ExecutableView → List NamedId → List BuildValue
@@ -103,13 +104,78 @@ builds_of b stored = option_map (values_of stored) (told_of b)
 
 -- `NAME CORE STORED VERDICT`
 unfoldable pub build_line : BuildValue → List ℕ
-build_line v = shown v.name ++ (32 ∷ [] ++ (ids_words v.core v.stored ++ 10 ∷ []))
+build_line v = shown v.name ++ (32 ∷ [] ++ (ids_words v.core (chosen_id v.chosen) ++ 10 ∷ []))
 
--- a line for each, if the core has an NT_FILE
-abbrev pub printed : Option (List BuildValue) → Result (List ℕ) (List ℕ)
-printed None = Err (codes "Missing")
-printed (Some values) = Ok (flat_map build_line values)
+-- a case, by its number and its name
+abbrev pub NumberedName : Type 0
+NumberedName = ℕ × List ℕ
 
--- `builds`
-unfoldable pub builds_answer : List ℕ → List ExecutableView → Result (List ℕ) (List ℕ)
-builds_answer b stored = printed (builds_of b stored)
+abbrev pub is_of_name : List ℕ → NumberedName → Bool
+is_of_name name c = bytes_eq c.1 name
+
+abbrev pub number_in : NumberedName → ℕ
+number_in c = c.0
+
+-- the number of the case of that name
+abbrev pub number_named : List NumberedName → List ℕ → Option ℕ
+number_named cases name = option_map number_in (find (is_of_name name) cases)
+
+-- that of the case whose executable is used
+abbrev pub case_used : List NumberedName → Chosen → Option ℕ
+case_used cases k = option_and_then (λ (x : ExecutableView). number_named cases x.path) (used_executable k)
+
+abbrev pub number_word : Option ℕ → List ℕ
+number_word None = codes "-"
+number_word (Some n) = decimal n
+
+-- `NAME CASE HOW DEBUG`; no debug file is used
+unfoldable pub used_line : List NumberedName → BuildValue → List ℕ
+used_line cases v = shown v.name ++ (32 ∷ [] ++ (number_word (case_used cases v.chosen) ++ (32 ∷ [] ++ (how_word v.chosen ++ 32 ∷ 45 ∷ 10 ∷ []))))
+
+-- a build that is wanted, by the name of a mapped file of it and by its ID
+abbrev pub NamedBuild : Type 0
+NamedBuild = List ℕ × List ℕ
+
+abbrev pub id_in : NamedBuild → List ℕ
+id_in w = w.1
+
+-- the build that the core tells for a file, if an executable can be stored by it, and none is used for the file
+abbrev pub wanted_id : Chosen → Option (List ℕ) → Option (List ℕ)
+wanted_id k None = None
+wanted_id k (Some id) = if has_name id && is_none (used_executable k) then Some id else None
+
+abbrev pub wanted_of : BuildValue → Option NamedBuild
+wanted_of v = option_map (λ id. (v.name, id)) (wanted_id v.chosen v.core)
+
+-- each of the builds once, with the first file that wants it
+unfoldable pub each_build : List NamedBuild → List NamedBuild
+each_build [] = []
+each_build (w ∷ ws) = w ∷ filter (λ other. not (bytes_eq w.1 other.1)) (each_build ws)
+
+abbrev pub wants_of : List BuildValue → List NamedBuild
+wants_of values = each_build (filter_map wanted_of values)
+
+-- `NAME ID`
+unfoldable pub wants_line : NamedBuild → List ℕ
+wants_line w = shown w.0 ++ (32 ∷ [] ++ (hex_of w.1 ++ 10 ∷ []))
+
+-- what a line asks of a core's mapped files: their build IDs; which of these cases are used; the builds that are wanted
+pub data BuildsAsking : Type 0 where
+  compares : BuildsAsking
+  uses : List NumberedName → BuildsAsking
+  wants : BuildsAsking
+
+-- a line for each
+abbrev pub lines_for : BuildsAsking → List BuildValue → List ℕ
+lines_for compares values = flat_map build_line values
+lines_for (uses cases) values = flat_map (used_line cases) values
+lines_for wants values = flat_map wants_line (wants_of values)
+
+-- of those of a core, if it has an NT_FILE
+abbrev pub printed : BuildsAsking → Option (List BuildValue) → Result (List ℕ) (List ℕ)
+printed asking None = Err (codes "Missing")
+printed asking (Some values) = Ok (lines_for asking values)
+
+-- `builds`, `used`, `wants`
+unfoldable pub builds_answer : BuildsAsking → List ℕ → List ExecutableView → Result (List ℕ) (List ℕ)
+builds_answer asking b stored = printed asking (builds_of b stored)

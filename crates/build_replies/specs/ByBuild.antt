@@ -1,6 +1,7 @@
 -- What a mapped file has of the executables that are stored: the one that is stored under the name of its build, else the one under its
 -- path; never a file of another build, nor a debug file (GDB, "Debugging Information in Separate Files").
-use Rattle.std.specs.Prelude.{ℕ, ◌&&◌, not, if◌then◌else◌, Bool, true, false, List, [], ◌∷◌, find, is_none, Option, None, Some}
+use Rattle.std.specs.Prelude.{ℕ, ◌&&◌, not, if◌then◌else◌, Bool, true, false, List, [], ◌∷◌, find, is_none, Option, None, Some, codes}
+use Rattle.std.specs.Option.{option_and_then}
 use Rattle.std.specs.Str.{bytes_eq}
 use Rattle.elf_view.specs.Sound.{first_fault}
 use Rattle.elf_view.specs.declared.faults.Want.TheVariants.{Exec}
@@ -62,12 +63,30 @@ build_first (Some x) c = by_build x
 unfoldable pub chosen : List ExecutableView → Option (List ℕ) → List ℕ → Chosen
 chosen stored id path = build_first (build_stored stored id) (by_its_path id (stored_as stored path))
 
+-- the executable, whether it is used or not
+abbrev pub executable_of : Chosen → Option ExecutableView
+executable_of (by_build x) = Some x
+executable_of (by_path x) = Some x
+executable_of (other x) = Some x
+executable_of none = None
+
 -- its build ID
 abbrev pub chosen_id : Chosen → Option (List ℕ)
-chosen_id (by_build x) = build_id_of x.image
-chosen_id (by_path x) = build_id_of x.image
-chosen_id (other x) = build_id_of x.image
-chosen_id none = None
+chosen_id k = option_and_then (λ (x : ExecutableView). build_id_of x.image) (executable_of k)
+
+-- the executable, if it is used
+abbrev pub used_executable : Chosen → Option ExecutableView
+used_executable (by_build x) = Some x
+used_executable (by_path x) = Some x
+used_executable (other x) = None
+used_executable none = None
+
+-- by what it is chosen
+abbrev pub how_word : Chosen → List ℕ
+how_word (by_build x) = codes "build"
+how_word (by_path x) = codes "path"
+how_word (other x) = codes "other"
+how_word none = codes "none"
 
 -- an executable under the name of a mapped file
 abbrev pub as_file : List ℕ → ExecutableView → ExecutableView

@@ -9,3 +9,4 @@ pub mod ToldLaws
 pub mod Choosing
 pub mod ChoosingWords
 pub mod ChoosingLaws
+pub mod BuildsWords

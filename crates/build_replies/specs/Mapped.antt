@@ -1,6 +1,5 @@
 -- The mapped files of a core of which not all bytes are at hand, and the build IDs that it tells for them.
 use Rattle.std.specs.Prelude.{◌≡◌, ℕ, List, [], map, Option, None, Some, Vec}
-use Rattle.std.specs.Borrow.{Bor}
 use Rattle.std.specs.Global.{Global}
 use Rattle.std.specs.Option.{option_map}
 use Rattle.elf_view.specs.Field.{part}
@@ -12,6 +11,7 @@ use Rattle.address_space.specs.Whole.{IsFrontOf, space_in}
 use Rattle.build_ids.specs.BuildId.{build_id_of}
 use Rattle.memory_replies.specs.Memory.{memory_of}
 use Rattle.build_replies.specs.Builds.{BuildValue, NamedId, fronts_of, id_named, name_of, once, told_as}
+use Rattle.build_replies.specs.ChoosingWords.{chosen_view}
 use Rattle.build_replies.specs.PlacesWords.{fronts_in}
 use Rattle.build_replies.specs.TableWords.{path_of, table_rows}
 use Rattle.build_replies.specs.declared.answers.BuildAnswer.{BuildAnswer}
@@ -47,7 +47,11 @@ abbrev pub told_view : Option (Vec FrontId Global) → Option (List NamedId)
 told_view o = option_map (λ (v : Vec FrontId Global). map id_view v.items) o
 
 abbrev pub build_view : BuildAnswer → BuildValue
-build_view r = record { name = r.front.name.now; core = option_map (λ (v : Vec ℕ Global). v.items) r.front.id; stored = option_map (λ (id : Bor (List ℕ)). id.now) r.stored }
+build_view r = record { name = r.front.name.now; core = option_map (λ (v : Vec ℕ Global). v.items) r.front.id; chosen = chosen_view r.chosen }
+
+-- those of a core, if it has an NT_FILE
+abbrev pub answers_view : Option (Vec BuildAnswer Global) → Option (List BuildValue)
+answers_view rows = option_map (λ (v : Vec BuildAnswer Global). map build_view v.items) rows
 
 -- the IDs of these names, if the core has that image
 abbrev pub AreIdsFor : List ℕ → MappedFiles → List (List ℕ) → List FrontId → Type 0

@@ -1,8 +1,9 @@
 // The build IDs of a core's mapped files, next to those of the executables that are stored for them.
 ghost use Rattle.std.specs.Prelude.{◌≡◌, IfOk, map};
+ghost use Rattle.std.specs.Option.{option_map};
 ghost use Rattle.address_space.specs.SpaceWords.{attached_view};
 ghost use Rattle.build_replies.specs.Builds.{build_value, values_of};
-ghost use Rattle.build_replies.specs.Mapped.{build_view, id_view};
+ghost use Rattle.build_replies.specs.Mapped.{answers_view, build_view, id_view, told_view};
 ghost use Rattle.build_replies.specs.TableWords.{table_rows};
 
 use crate::choosing::ChosenFile;
@@ -11,14 +12,13 @@ use crate::table::Table;
 use address_space::Attached;
 use std::alloc::{AllocError, Global};
 
-/// A mapped file, with the build ID of its front, and that of the executable that is stored for it.
+/// A mapped file, with the build ID of its front, and what it has of the executables that are stored.
 #[derive(Drop)]
 pub struct BuildAnswer<'a> {
     /// Its name, and the build ID of its front, as far as the core has it.
     pub front: FrontId<'a>,
-    /// That of the executable that is stored under the name of its build or under its path, whether it is used or not. `None` if there is
-    /// none, or it has no build ID.
-    pub stored: Option<&'a [u8]>,
+    /// The executable that is stored under the name of its build or under its path, whether it is used or not.
+    pub chosen: ChosenFile<'a>,
 }
 
 /// What is told of a mapped file. The error is that there is no memory.
@@ -31,12 +31,12 @@ fn answer<'a>(
 {
     Ok(BuildAnswer {
         front: FrontId::new(alloc, file.name, file.id())?,
-        stored: ChosenFile::for_file(table, file).id(),
+        chosen: ChosenFile::for_file(table, file),
     })
 }
 
 /// What is told of these mapped files, with the executables that are stored. The error is that there is no memory.
-pub fn build_answers<'a>(
+fn answers_of<'a>(
     alloc: Global,
     files: &[FrontId<'a>],
     stored: &[Attached<'a>],
@@ -49,4 +49,19 @@ pub fn build_answers<'a>(
         rows.push(answer(alloc, &table, file)?)?;
     }
     Ok(rows)
+}
+
+/// What is told of the mapped files of a core, with the executables that are stored. `None` is a core without NT_FILE. The error is that
+/// there is no memory.
+pub fn build_answers<'a>(
+    alloc: Global,
+    told: &Option<Vec<FrontId<'a>>>,
+    stored: &[Attached<'a>],
+) -> Result<Option<Vec<BuildAnswer<'a>>>, AllocError>
+    ensures { IfOk result (λ rows. answers_view rows ≡ option_map (values_of (map attached_view stored.now)) (told_view told.now)) }
+{
+    match told {
+        Some(files) => Ok(Some(answers_of(alloc, files, stored)?)),
+        None => Ok(None),
+    }
 }

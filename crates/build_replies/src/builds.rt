@@ -1,4 +1,4 @@
-// The reply to `builds`.
+// The replies to `builds`, `used` and `wants`.
 ghost use Rattle.std.specs.Prelude.{◌≡◌, ℕ, List, Some, map};
 ghost use Rattle.std.specs.List.{flat_map};
 ghost use Rattle.std.specs.Option.{option_map};
@@ -9,15 +9,33 @@ ghost use Rattle.image_replies.specs.CoreWords.{core_bytes};
 ghost use Rattle.memory_replies.specs.Answers.{AnswersWith};
 ghost use Rattle.build_replies.specs.Builds as spec;
 ghost use Rattle.build_replies.specs.Builds.{told_of};
-ghost use Rattle.build_replies.specs.Mapped.{build_view, id_view, told_view};
+ghost use Rattle.build_replies.specs.BuildsWords.{asking_view, numbered_view, wanted_view};
+ghost use Rattle.build_replies.specs.Mapped.{build_view, told_view};
 
 use crate::answers::{BuildAnswer, build_answers};
 use crate::ids::{FrontId, told_ids};
+use crate::used::{NumberedCase, tell_used};
+use crate::wanted::{WantedBuild, wanted_builds};
 use address_space::Attached;
 use image_replies::CoreImage;
 use memory_replies::Outcome;
 use script_streams::{Output, Reply, tell_no, tell_ok};
 use std::alloc::Global;
+
+/// What a line asks of a core's mapped files.
+#[derive(Clone, Copy, Debug)]
+pub enum BuildsAsked<'c> {
+    /// `NAME CORE STORED VERDICT` for each. CORE is the build ID of the front of the file, as far as the core has it. STORED is that of the
+    /// executable that is stored for the file, whether it is used or not. Each is `-` if there is none. VERDICT is `unknown` if one is
+    /// missing, else `same` or `differs`.
+    Compared,
+    /// `NAME CASE HOW DEBUG` for each. CASE is the number of the case whose executable is used for the file, among these, or `-`. HOW is
+    /// `build`, `path`, `other` or `none`. DEBUG is `-`.
+    Used(&'c [NumberedCase<'c>]),
+    /// `NAME ID` for each build that is wanted: the core tells its ID for a file, an executable can be stored by it, and none is used for
+    /// the file. Of several files of one build the first is told.
+    Wanted,
+}
 
 /// Tells an ID, or `-` where there is none.
 fn tell_id<O: Output>(reply: &mut Reply<'_, O>, id: Option<&[u8]>)
@@ -59,7 +77,7 @@ fn tell_line<O: Output>(reply: &mut Reply<'_, O>, row: &BuildAnswer<'_>)
 {
     reply.tell_text(row.front.name);
     reply.tell(b" ");
-    tell_ids(reply, row.front.id(), row.stored);
+    tell_ids(reply, row.front.id(), row.chosen.id());
     reply.tell(b"\n");
 }
 
@@ -72,54 +90,85 @@ fn tell_lines<O: Output>(reply: &mut Reply<'_, O>, rows: &[BuildAnswer<'_>])
     }
 }
 
-/// Tells the reply to `builds` of a core, by what is told of its mapped files. Says what became of it.
-fn tell_compared<O: Output>(reply: &mut Reply<'_, O>, rows: &[BuildAnswer<'_>]) -> Outcome
-    ensures { (image : List ℕ) (xs : List ExecutableView) → spec.builds_of image xs ≡ Some (map build_view rows.now)
-        → TellsReply (telling O.Output reply.old reply.new) (AnswersWith result (spec.builds_answer image xs)) }
+/// Tells the line of a build that is wanted.
+#[tactic(auto, unfolding(crate::specs::Builds::wants_line))]
+fn tell_wanted<O: Output>(reply: &mut Reply<'_, O>, wanted: &WantedBuild<'_>)
+    ensures { TellsText (telling O.Output reply.old reply.new) (spec.wants_line (wanted_view wanted.now)) }
 {
-    tell_lines(reply, rows);
-    tell_ok(reply);
-    Outcome::Done
+    reply.tell_text(wanted.name);
+    reply.tell(b" ");
+    reply.tell_hex(wanted.id);
+    reply.tell(b"\n");
 }
 
-/// Tells the reply for these mapped files, which a core has, with the executables that are stored.
-fn tell_files<O: Output>(
-    alloc: Global,
-    reply: &mut Reply<'_, O>,
-    files: &[FrontId<'_>],
-    stored: &[Attached<'_>],
-) -> Outcome
-    ensures { (image : List ℕ) → told_of image ≡ Some (map id_view files.now)
-        → TellsReply (telling O.Output reply.old reply.new) (AnswersWith result (spec.builds_answer image (map attached_view stored.now))) }
+/// Tells a line for each of them.
+fn tell_each<O: Output>(reply: &mut Reply<'_, O>, wanted: &[WantedBuild<'_>])
+    ensures { TellsText (telling O.Output reply.old reply.new) (flat_map spec.wants_line (map wanted_view wanted.now)) }
 {
-    match build_answers(alloc, files, stored) {
-        Ok(rows) => tell_compared(reply, &rows),
-        Err(_) => {
-            tell_no(reply, b"OutOfMemory");
-            Outcome::OutOfMemory
-        }
+    for build in wanted {
+        tell_wanted(reply, build);
     }
 }
 
-/// Tells the reply of a core that tells these mapped files, with the executables that are stored: `NAME CORE STORED VERDICT` for each name
-/// of NT_FILE, at its first place. CORE is the build ID of the front of the file, as far as the core has it. STORED is that of the
-/// executable that is stored for the file, whether it is used or not. Each is `-` if there is none. VERDICT is `unknown` if one is missing,
-/// else `same` or `differs`. A core without NT_FILE is answered by `no Missing`. Says what became of it.
+/// Tells that there is no memory for the answer.
+fn tell_no_memory<O: Output>(reply: &mut Reply<'_, O>) -> Outcome
+    ensures { (answer : _) → TellsReply (telling O.Output reply.old reply.new) (AnswersWith result answer) }
+{
+    tell_no(reply, b"OutOfMemory");
+    Outcome::OutOfMemory
+}
+
+/// Tells the reply of a core, by what is told of its mapped files. Says what became of it.
+fn tell_rows<O: Output>(
+    alloc: Global,
+    reply: &mut Reply<'_, O>,
+    rows: &[BuildAnswer<'_>],
+    asked: BuildsAsked<'_>,
+) -> Outcome
+    ensures { (image : List ℕ) (xs : List ExecutableView) → spec.builds_of image xs ≡ Some (map build_view rows.now)
+        → TellsReply (telling O.Output reply.old reply.new) (AnswersWith result (spec.builds_answer (asking_view asked.entry) image xs)) }
+{
+    match asked {
+        BuildsAsked::Compared => {
+            tell_lines(reply, rows);
+            tell_ok(reply);
+            Outcome::Done
+        }
+        BuildsAsked::Used(cases) => {
+            tell_used(reply, cases, rows);
+            tell_ok(reply);
+            Outcome::Done
+        }
+        BuildsAsked::Wanted => match wanted_builds(alloc, rows) {
+            Ok(wanted) => {
+                tell_each(reply, &wanted);
+                tell_ok(reply);
+                Outcome::Done
+            }
+            Err(_) => tell_no_memory(reply),
+        },
+    }
+}
+
+/// Tells what is asked of a core that tells these mapped files, with the executables that are stored: a line for each name of NT_FILE, at
+/// its first place. A core without NT_FILE is answered by `no Missing`. Says what became of it.
 pub fn tell_told<O: Output>(
     alloc: Global,
     reply: &mut Reply<'_, O>,
     told: &Option<Vec<FrontId<'_>>>,
     stored: &[Attached<'_>],
+    asked: BuildsAsked<'_>,
 ) -> Outcome
     ensures { (image : List ℕ) → told_of image ≡ told_view told.now
-        → TellsReply (telling O.Output reply.old reply.new) (AnswersWith result (spec.builds_answer image (map attached_view stored.now))) }
+        → TellsReply (telling O.Output reply.old reply.new) (AnswersWith result (spec.builds_answer (asking_view asked.entry) image (map attached_view stored.now))) }
 {
-    match told {
-        Some(files) => tell_files(alloc, reply, files, stored),
-        None => {
+    match build_answers(alloc, told, stored) {
+        Ok(Some(rows)) => tell_rows(alloc, reply, &rows, asked),
+        Ok(None) => {
             tell_no(reply, b"Missing");
             Outcome::Refused
         }
+        Err(_) => tell_no_memory(reply),
     }
 }
 
@@ -129,15 +178,13 @@ pub fn tell_builds<O: Output>(
     reply: &mut Reply<'_, O>,
     core: &CoreImage<'_>,
     stored: &[Attached<'_>],
+    asked: BuildsAsked<'_>,
 ) -> Outcome
     ensures { TellsReply (telling O.Output reply.old reply.new)
-        (AnswersWith result (spec.builds_answer (core_bytes core.now) (map attached_view stored.now))) }
+        (AnswersWith result (spec.builds_answer (asking_view asked.entry) (core_bytes core.now) (map attached_view stored.now))) }
 {
     match told_ids(alloc, core) {
-        Ok(told) => tell_told(alloc, reply, &told, stored),
-        Err(_) => {
-            tell_no(reply, b"OutOfMemory");
-            Outcome::OutOfMemory
-        }
+        Ok(told) => tell_told(alloc, reply, &told, stored, asked),
+        Err(_) => tell_no_memory(reply),
     }
 }

@@ -17,7 +17,7 @@ use std::alloc::{AllocError, Global};
 
 /// What a mapped file has of the executables that are stored.
 #[derive(Clone, Copy, Debug)]
-pub(crate) enum ChosenFile<'a> {
+pub enum ChosenFile<'a> {
     /// The one that is stored under the name of its build.
     ByBuild(Attached<'a>),
     /// The one under its path, which is of its build, or may be.
@@ -95,15 +95,46 @@ impl<'a> ChosenFile<'a> {
         }
     }
 
-    /// Its build ID.
-    pub(crate) fn id(self) -> Option<&'a [u8]>
-        ensures { option_map (λ id. id.now) result ≡ spec.chosen_id (chosen_view self.entry) }
+    /// The executable, whether it is used or not.
+    pub fn executable(self) -> Option<Attached<'a>>
+        ensures { option_map attached_view result ≡ spec.executable_of (chosen_view self.entry) }
     {
         match self {
-            ChosenFile::ByBuild(executable) => build_id(executable.image),
-            ChosenFile::ByPath(executable) => build_id(executable.image),
-            ChosenFile::Other(executable) => build_id(executable.image),
+            ChosenFile::ByBuild(executable) => Some(executable),
+            ChosenFile::ByPath(executable) => Some(executable),
+            ChosenFile::Other(executable) => Some(executable),
             ChosenFile::Nothing => None,
+        }
+    }
+
+    /// The build ID of the executable.
+    pub fn id(self) -> Option<&'a [u8]>
+        ensures { option_map (λ id. id.now) result ≡ spec.chosen_id (chosen_view self.entry) }
+    {
+        build_id(self.executable()?.image)
+    }
+
+    /// The executable, if it is used.
+    pub fn used(self) -> Option<Attached<'a>>
+        ensures { option_map attached_view result ≡ spec.used_executable (chosen_view self.entry) }
+    {
+        match self {
+            ChosenFile::ByBuild(executable) => Some(executable),
+            ChosenFile::ByPath(executable) => Some(executable),
+            ChosenFile::Other(_) => None,
+            ChosenFile::Nothing => None,
+        }
+    }
+
+    /// By what it is chosen: `build`, `path`, `other` or `none`.
+    pub fn how(self) -> &'static [u8]
+        ensures { result.now ≡ spec.how_word (chosen_view self.entry) }
+    {
+        match self {
+            ChosenFile::ByBuild(_) => b"build",
+            ChosenFile::ByPath(_) => b"path",
+            ChosenFile::Other(_) => b"other",
+            ChosenFile::Nothing => b"none",
         }
     }
 }

@@ -1,4 +1,4 @@
-//! The answer to the line of a script that asks for the build IDs of a core's mapped files: slices in, text out.
+//! The answers to the lines of a script that ask for the builds of a core's mapped files: slices in, text out.
 //!
 //! A core is a [`image_replies::CoreImage`]. The executables that are stored, under the names of its mapped files or of their builds, are handed over
 //! as [`address_space::Attached`] images.
@@ -13,11 +13,15 @@ mod names;
 mod places;
 mod stored_names;
 mod table;
+mod used;
+mod wanted;
 
 pub use answers::{BuildAnswer, build_answers};
-pub use builds::{tell_builds, tell_told, verdict};
-pub use choosing::ChosenExecutables;
+pub use builds::{BuildsAsked, tell_builds, tell_told, verdict};
+pub use choosing::{ChosenExecutables, ChosenFile};
 pub use ids::{FrontId, listed, told_ids};
 pub use mapped::MappedFiles;
 pub use places::{FrontPlace, FrontPlaces};
 pub use stored_names::{StoredNames, build_names};
+pub use used::NumberedCase;
+pub use wanted::{WantedBuild, wanted_builds};

@@ -26,11 +26,13 @@ use Rattle.memory_replies.specs.Memory.{mapped_files}
 use Rattle.script_streams.specs.Replies.{no_reply}
 use Rattle.case_queries.specs.Collecting.{Collects, CollectsAll, Wanted, wanted_for, wanted_of}
 use Rattle.case_queries.specs.CollectingWords.{executable_view}
-use Rattle.case_queries.specs.Asking.{Asking, asking_answer, asking_query, for_aim, for_builds, for_frames}
+use Rattle.case_queries.specs.Asking.{Asking, asking_answer, asking_query, files_asked, files_asking, for_aim, for_builds, for_frames}
 use Rattle.case_queries.specs.Finding.{AsksFront, IsFrontOfCase, ShowsFound}
 use Rattle.case_queries.specs.Fronts.{HasSize, IsEnough, IsSoundFront, ReadsFront}
 use Rattle.case_queries.specs.LeaveLaws.{Leaves, looks_leaves, own_still}
 use Rattle.case_queries.specs.Windows.{IsSeenBy}
+use Rattle.case_queries.specs.declared.asked.AskedFiles.{AskedFiles}
+use Rattle.case_queries.specs.declared.asked.AskedFiles.TheVariants as files
 use Rattle.case_queries.specs.declared.collect_executables.StoredExecutable.{StoredExecutable}
 use Rattle.case_queries.specs.declared.walk.CaseImage.{CaseImage}
 use Rattle.case_queries.proofs.AgainLemmas.{seen_again}
@@ -51,12 +53,14 @@ aim_wanted (for_bytes needle) b cases = refl
 aim_wanted (for_texts least) b cases = refl
 
 -- what is answered to the line that asks it
-pub answer_is : (kind : Kind) (asking : Asking) (image : List ℕ) (xs : List ExecutableView) → asking_answer asking image xs ≡ answer_of kind (asking_query asking) image xs
-answer_is kind (for_aim (for_bytes needle)) image xs = refl
-answer_is kind (for_aim (for_texts least)) image xs = refl
-answer_is kind (for_frames thread None) image xs = refl
-answer_is kind (for_frames thread (Some frame)) image xs = refl
-answer_is kind for_builds image xs = refl
+pub aim_answered : (kind : Kind) (aim : Aim) (image : List ℕ) (cases : List Wanted) (xs : List ExecutableView) → asking_answer (for_aim aim) image xs ≡ answer_of kind (asking_query (for_aim aim)) image cases xs
+aim_answered kind (for_bytes needle) image cases xs = refl
+aim_answered kind (for_texts least) image cases xs = refl
+
+pub files_answered : (kind : Kind) (a : AskedFiles) (image : List ℕ) (cases : List Wanted) (xs : List ExecutableView) → asking_answer (files_asking a cases) image xs ≡ answer_of kind (asking_query (files_asked a)) image cases xs
+files_answered kind (files.Frames thread None) image cases xs = refl
+files_answered kind (files.Frames thread (Some frame)) image cases xs = refl
+files_answered kind (files.Builds query) image cases xs = refl
 
 -- such a line reads executables
 shows_by : {D : Type 0} (g : disk.Ghosts D) (mid : Parts D) (kind : Kind) (asking : Asking) (image text : List ℕ) (new : Parts D) → ShowsWithExecutables g mid kind (asking_query asking) image (core_fault_of image) text new → Shows g mid kind (asking_query asking) image text new
@@ -64,7 +68,7 @@ shows_by g mid kind (for_aim (for_bytes needle)) image text new shows = shows
 shows_by g mid kind (for_aim (for_texts least)) image text new shows = shows
 shows_by g mid kind (for_frames thread None) image text new shows = shows
 shows_by g mid kind (for_frames thread (Some frame)) image text new shows = shows
-shows_by g mid kind for_builds image text new shows = shows
+shows_by g mid kind (for_builds query cases) image text new shows = shows
 
 module _ {D : Type 0} (g : disk.Ghosts D) where
   -- what was read of the case is read again with no byte
@@ -89,7 +93,7 @@ module _ {D : Type 0} (g : disk.Ghosts D) where
         λ kind. (
           Ok (map executable_view xs.items),
           inr (subst (λ (ws : List Wanted). Collects g new ws (Ok (map executable_view xs.items)) new) (wanted_front law o image sound told.0 (state_of new).cases ∙ aim_wanted aim image (state_of new).cases) stay),
-          subst (λ a. Answers a text) (answer_is kind (for_aim aim) image (map executable_view xs.items)) told.1,
+          subst (λ a. Answers a text) (aim_answered kind aim image (wanted_for (asking_query (for_aim aim)) image (state_of new).cases) (map executable_view xs.items)) told.1,
         ),
       ),
     )
@@ -129,7 +133,7 @@ whole_seen (Strings least) image = refl
 whole_seen (Backtrace thread) image = (inl refl, record { begins = (refl, sym (take_all (length image) image (omega arith))); frames = λ less. absurd (omega (arith, less)) })
 whole_seen (Unwind thread) image = refl
 whole_seen (Frame thread frame) image = refl
-whole_seen Builds image = refl
+whole_seen (Builds query) image = refl
 
 -- as many bytes as the image has are all of it
 pub enough_whole : (front image : List ℕ) → IsEnough Core front image → length front ≡ length image → front ≡ image

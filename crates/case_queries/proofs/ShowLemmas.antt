@@ -51,7 +51,7 @@ outcome_with OutOfMemory answer text told = (codes "OutOfMemory", told)
 
 module _ {D : Type 0} (g : disk.Ghosts D) (a : Parts D) (kind : Kind) (b : List ℕ) where
   -- what the image alone answers
-  pub image_shown : (q : ImageQuery) → Shows g a kind (image_query q) b (reply_of (answer_of kind (image_query q) b [])) a
+  pub image_shown : (q : ImageQuery) → Shows g a kind (image_query q) b (reply_of (answer_of kind (image_query q) b [] [])) a
   image_shown Header = (refl, refl)
   image_shown Notes = (refl, refl)
   image_shown Threads = (refl, refl)
@@ -69,7 +69,7 @@ module _ {D : Type 0} (g : disk.Ghosts D) (a : Parts D) (kind : Kind) (b : List 
   with_executables_shown (Backtrace thread) reply new shows = shows
   with_executables_shown (Unwind thread) reply new shows = shows
   with_executables_shown (Frame thread frame) reply new shows = shows
-  with_executables_shown Builds reply new shows = shows
+  with_executables_shown (Builds query) reply new shows = shows
 
   -- a core that has a fault
   pub fault_shown : (q : MemoryQuery) (fault : CoreFault) → Some fault ≡ core_fault_of b → Shows g a kind (memory_query q) b (no_reply (core_reason fault)) a
@@ -94,7 +94,7 @@ seen_enough (Strings least) front size at bytes image by = inl by
 seen_enough (Backtrace thread) front size at bytes image by = by.0
 seen_enough (Unwind thread) front size at bytes image by = inl by
 seen_enough (Frame thread frame) front size at bytes image by = inl by
-seen_enough Builds front size at bytes image by = inl by
+seen_enough (Builds query) front size at bytes image by = inl by
 
 -- what enough bytes show, where sound first bytes show it
 pub enough_shows : {A : Type 0} (of : List ℕ → A) → ((b : List ℕ) (n : ℕ) → IsHeaderWhole (take n b) → IsSound Core (take n b) → of (take n b) ≡ of b) → (front image : List ℕ) → IsEnough Core front image → of front ≡ of image
@@ -121,4 +121,4 @@ wanted_same law (Strings least) front size at bytes image by cases = wanted_enou
 wanted_same law (Backtrace thread) front size at bytes image by cases = wanted_enough law front image by.0 cases
 wanted_same law (Unwind thread) front size at bytes image by cases = ap (λ b. wanted_for (memory_query (Unwind thread)) b cases) by
 wanted_same law (Frame thread frame) front size at bytes image by cases = ap (λ b. wanted_for (memory_query (Frame thread frame)) b cases) by
-wanted_same law Builds front size at bytes image by cases = ap (λ b. wanted_for (memory_query Builds) b cases) by
+wanted_same law (Builds query) front size at bytes image by cases = ap (λ b. wanted_for (memory_query (Builds query)) b cases) by

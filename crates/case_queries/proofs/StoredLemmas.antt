@@ -22,7 +22,7 @@ use Rattle.journal_layout.specs.Case.{Case}
 use Rattle.journal_layout.specs.declared.entry.Kind.{Kind}
 use Rattle.script_lines.specs.Queries.{QuerySaid, ask_symbol}
 use Rattle.script_streams.specs.Replies.{no_reply, reply_of}
-use Rattle.memory_replies.specs.Answers.{memory_reply}
+use Rattle.memory_replies.specs.Answers.{Answers, memory_reply}
 use Rattle.case_queries.specs.Collecting.{Collects, Wanted, is_for, is_wanted, wanted_case, wanted_for}
 use Rattle.build_replies.specs.Choosing.{told_files}
 use Rattle.script_lines.specs.Queries.{ask_header, ask_notes, ask_threads, ask_registers, ask_process, ask_signal, ask_auxiliary_vector, ask_files, ask_maps, ask_dump, ask_find, ask_strings, ask_backtrace, ask_unwind, ask_frame, ask_builds, ask_symbol}
@@ -83,7 +83,7 @@ wanted_there (ask_strings n) b cases = picked_there (is_wanted b) cases
 wanted_there (ask_backtrace t) b cases = picked_there (is_wanted b) cases
 wanted_there (ask_unwind t) b cases = picked_there (is_for (told_files b)) cases
 wanted_there (ask_frame t i) b cases = picked_there (is_for (told_files b)) cases
-wanted_there ask_builds b cases = picked_there (is_for (told_files b)) cases
+wanted_there (ask_builds query) b cases = picked_there (is_for (told_files b)) cases
 wanted_there (ask_symbol x) b cases = picked_there (is_wanted b) cases
 
 -- a count that rose since a moment rose since each moment before
@@ -161,7 +161,7 @@ module _ {D : Type 0} (g : disk.Ghosts D) where
       ⊎_elim (λ short. inl (told ∙ ap (λ (x : ArchiveFault). no_reply (reason_of x)) short))
       (λ failed. inr (told ∙ ap (λ (x : ArchiveFault). no_reply (reason_of x)) failed.0, failed.1)) h
 
-  told_of : (kind : Kind) (q : QuerySaid) (b reply : List ℕ) → Told kind q b reply → (reply ≡ reply_of (answer_of kind q b [])) ⊎ (reply ≡ memory_reply)
+  told_of : (kind : Kind) (q : QuerySaid) (b reply : List ℕ) → Told kind q b reply → (reply ≡ reply_of (answer_of kind q b [] [])) ⊎ (reply ≡ memory_reply)
   told_of kind (ask_symbol address) b reply told = ⊎_elim (λ is. inl is) (λ short. inr short.0) told
   told_of kind _ b reply told = inl told
 
@@ -177,7 +177,8 @@ module _ {D : Type 0} (g : disk.Ghosts D) where
     by_core reads sound (Ok xs, inr all, told) =
         let are = subst (λ (s : ArchiveState). AreStored g.seen a (wanted_for q image s.cases) xs) sees.state
         (all_stored a mid new (wanted_for q image (state_of mid).cases) xs (sees_as a a mid seq image (record { honest = honest; state = refl; contents = refl }) sees) all) in
-        ⊎_elim (λ is. inl (of_core image here reads sound xs are is)) (λ short. inr (inl short)) told
+        let answers = subst (λ (s : ArchiveState). Answers (answer_of kind q image (wanted_for q image s.cases) xs) reply) sees.state told in
+        ⊎_elim (λ is. inl (of_core image here reads sound xs are is)) (λ short. inr (inl short)) answers
     by_core reads sound (Err f, inl short, told) = inr (hindered a new f reply (inl cc) told)
     by_core reads sound (Err f, inr all, told) =
         inr (hindered a new f reply (hinders_since a mid new f sees.stays.later
@@ -222,7 +223,7 @@ module _ {D : Type 0} (g : disk.Ghosts D) where
 
   pub one : WhatIsStoredHasOneAnswer g
   one a seq q kind reply reply' (of_image i x off told) (of_image j y off' told') =
-      told' ∙ ap (λ (b : List ℕ). reply_of (answer_of kind q b [])) (one_image a seq i j x y) ∙ sym told
+      told' ∙ ap (λ (b : List ℕ). reply_of (answer_of kind q b [] [])) (one_image a seq i j x y) ∙ sym told
   one a seq q kind reply reply' (of_image i x off told) (of_fault j y on fault is told') = absurd (false≢true (sym off ∙ on))
   one a seq q kind reply reply' (of_image i x off told) (of_core j y on sound xs are told') = absurd (false≢true (sym off ∙ on))
   one a seq q kind reply reply' (of_fault i x on fault is told) (of_image j y off told') = absurd (false≢true (sym off ∙ on))
@@ -238,4 +239,4 @@ module _ {D : Type 0} (g : disk.Ghosts D) where
   one a seq q kind reply reply' (of_core i x on sound xs are told) (of_core j y on' sound' ys are' told') =
       let image = one_image a seq i j x y in
       let list = one_list a (wanted_for q i (state_of a).cases) xs ys are (subst (λ (b : List ℕ). AreStored g.seen a (wanted_for q b (state_of a).cases) ys) image are') in
-      told' ∙ ap (λ (b : List ℕ). reply_of (answer_of kind q b ys)) image ∙ ap (λ (zs : List ExecutableView). reply_of (answer_of kind q i zs)) list ∙ sym told
+      told' ∙ ap (λ (b : List ℕ). reply_of (answer_of kind q b (wanted_for q b (state_of a).cases) ys)) image ∙ ap (λ (zs : List ExecutableView). reply_of (answer_of kind q i (wanted_for q i (state_of a).cases) zs)) list ∙ sym told

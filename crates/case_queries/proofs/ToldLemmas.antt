@@ -12,9 +12,10 @@ use Rattle.intake.specs.declared.faults.ArchiveFault.TheVariants as faults
 use Rattle.journal_layout.specs.Case.{Case}
 use Rattle.memory_replies.specs.Answers.{Answers}
 use Rattle.script_streams.specs.Replies.{no_reply}
-use Rattle.case_queries.specs.Asking.{Asking, asking_query, files_asking}
+use Rattle.case_queries.specs.Asking.{Asking, asking_query, files_asked, files_asking}
 use Rattle.case_queries.specs.Collecting.{Collects, CollectsAll, Wanted, wanted_by, wanted_for}
 use Rattle.case_queries.specs.Finding.{AsksFront, found_reply}
+use Rattle.case_queries.specs.Inspecting.{answer_of}
 use Rattle.case_queries.specs.LeaveLaws.{Leaves, looks_leaves, own_still}
 use Rattle.case_queries.specs.Pieces.{SeesPieces}
 use Rattle.case_queries.specs.ToldWords.{ArePiecesOfCase, IsToldBy, SeesTold, ShowsTold}
@@ -26,20 +27,20 @@ use Rattle.case_queries.specs.declared.walk.WalkFault.{WalkFault}
 use Rattle.case_queries.specs.declared.walk.WalkFault.TheVariants.{OutOfMemory, Unread}
 use Rattle.case_queries.specs.declared.window.Part.{Part}
 use Rattle.case_queries.proofs.AgainLemmas.{seen_again}
-use Rattle.case_queries.proofs.FindAskLemmas.{answer_is}
+use Rattle.case_queries.proofs.FindAskLemmas.{files_answered}
 
 -- the files that are told
 abbrev pub files_told : ToldFiles → List NamedId
 files_told t = told_or_none (told_view t.files)
 
 -- such a line reads what is stored for the files that the core tells
-files_wanted : (a : AskedFiles) (t : ToldFiles) (b : List ℕ) (cases : List Case) → told_of b ≡ told_view t.files → wanted_by (files_told t) cases ≡ wanted_for (asking_query (files_asking a)) b cases
+files_wanted : (a : AskedFiles) (t : ToldFiles) (b : List ℕ) (cases : List Case) → told_of b ≡ told_view t.files → wanted_by (files_told t) cases ≡ wanted_for (asking_query (files_asked a)) b cases
 files_wanted (asked.Frames thread frame) t b cases is = by frame
   where
-    by : (o : Option ℕ) → wanted_by (files_told t) cases ≡ wanted_for (asking_query (files_asking (asked.Frames thread o))) b cases
+    by : (o : Option ℕ) → wanted_by (files_told t) cases ≡ wanted_for (asking_query (files_asked (asked.Frames thread o))) b cases
     by None = ap (λ (ts : List NamedId). wanted_by ts cases) (sym (told_all b ∙ ap told_or_none is))
     by (Some n) = ap (λ (ts : List NamedId). wanted_by ts cases) (sym (told_all b ∙ ap told_or_none is))
-files_wanted asked.Builds t b cases is = ap (λ (ts : List NamedId). wanted_by ts cases) (sym (told_all b ∙ ap told_or_none is))
+files_wanted (asked.Builds query) t b cases is = ap (λ (ts : List NamedId). wanted_by ts cases) (sym (told_all b ∙ ap told_or_none is))
 
 module _ {D : Type 0} (g : disk.Ghosts D) (o : CaseImage) where
   pub told_leaves : (old new : Parts D) (ps : List Part) (xs : List ExecutableView) (asking : Asking) (text : List ℕ) → ShowsTold g old o ps xs asking text new → Leaves g old new
@@ -70,7 +71,7 @@ module _ {D : Type 0} (g : disk.Ghosts D) (o : CaseImage) where
 
   module _ (a : AskedFiles) (t : ToldFiles) (is : IsToldBy o t) where
     -- the answer is told
-    pub told_asked : (before new : Parts D) (xs : List ExecutableView) (text : List ℕ) → Collects g new (wanted_by (files_told t) (state_of new).cases) (Ok xs) new → ShowsTold g before o t.pieces.items xs (files_asking a) text new → AsksFront g before o (files_asking a) text new
+    pub told_asked : (before new : Parts D) (xs : List ExecutableView) (text : List ℕ) → Collects g new (wanted_by (files_told t) (state_of new).cases) (Ok xs) new → ShowsTold g before o t.pieces.items xs (files_asking a (wanted_by (files_told t) (state_of new).cases)) text new → AsksFront g before o (files_asked a) text new
     told_asked before new xs text collects (Ok image, looks, (front, inl (are, answers))) = (
       Ok image,
       new,
@@ -80,7 +81,8 @@ module _ {D : Type 0} (g : disk.Ghosts D) (o : CaseImage) where
         λ kind. (
           Ok xs,
           inr (subst (λ (ws : List Wanted). Collects g new ws (Ok xs) new) (files_wanted a t image (state_of new).cases (is.told image (front, are))) collects),
-          subst (λ answer. Answers answer text) (answer_is kind (files_asking a) image xs) answers,
+          subst (λ (ws : List Wanted). Answers (answer_of kind (asking_query (files_asked a)) image ws xs) text) (files_wanted a t image (state_of new).cases (is.told image (front, are)))
+              (subst (λ answer. Answers answer text) (files_answered kind a image (wanted_by (files_told t) (state_of new).cases) xs) answers),
         ),
       ),
     )
@@ -88,7 +90,7 @@ module _ {D : Type 0} (g : disk.Ghosts D) (o : CaseImage) where
     told_asked before new xs text collects (Err f, looks, told) = (Err f, new, looks, (told, refl))
 
     -- an executable can't be read
-    pub told_unread : (before mid new : Parts D) (f : ArchiveFault) → SeesPieces g before o t.pieces.items mid → CollectsAll g mid (wanted_by (files_told t) (state_of mid).cases) (Err f) new → AsksFront g before o (files_asking a) (no_reply (reason_of f)) new
+    pub told_unread : (before mid new : Parts D) (f : ArchiveFault) → SeesPieces g before o t.pieces.items mid → CollectsAll g mid (wanted_by (files_told t) (state_of mid).cases) (Err f) new → AsksFront g before o (files_asked a) (no_reply (reason_of f)) new
     told_unread before mid new f (image, looks, begins) collects = (
       Ok image,
       mid,

@@ -271,7 +271,7 @@ module _ {D : Type 0} (g : disk.Ghosts D) where
   all_seen old new seq (Strings least) s image sees is size at bytes = (image, sees, is)
   all_seen old new seq (Unwind thread) s image sees is size at bytes = (image, sees, is)
   all_seen old new seq (Frame thread frame) s image sees is size at bytes = (image, sees, is)
-  all_seen old new seq Builds s image sees is size at bytes = (image, sees, is)
+  all_seen old new seq (Builds query) s image sees is size at bytes = (image, sees, is)
   all_seen old new seq (Backtrace thread) s image sees is size at bytes =
       let frames : HasFrames image (length image) image thread image = record {
         begins = (refl, sym (take_all (length image) image (omega arith)));

@@ -1,37 +1,45 @@
 -- What a line asks of a core that is read piece by piece.
-use Rattle.std.specs.Prelude.{⊤, ℕ, List, Option, None, Some, Result}
+use Rattle.std.specs.Prelude.{⊤, ℕ, List, [], Option, None, Some, Result}
 use Rattle.address_space.specs.Source.{ExecutableView}
 use Rattle.build_replies.specs.Builds.{builds_answer}
 use Rattle.frame_replies.specs.FrameLines.{unwind_answer}
 use Rattle.frame_replies.specs.FrameRegisters.{frame_answer}
 use Rattle.memory_replies.specs.Find.{find_answer}
 use Rattle.memory_replies.specs.Texts.{strings_answer}
+use Rattle.script_lines.specs.declared.query.BuildQuery.{BuildQuery}
 use Rattle.script_lines.specs.Queries.{QuerySaid, ask_builds, ask_find, ask_frame, ask_strings, ask_unwind}
 use Rattle.windowed_search.specs.ScanWords.{Aim, IsAim, aim_of, for_bytes, for_texts}
+use Rattle.case_queries.specs.Collecting.{Wanted}
+use Rattle.case_queries.specs.Inspecting.{asking_by}
 use Rattle.case_queries.specs.declared.asked.Asked.{Asked}
 use Rattle.case_queries.specs.declared.asked.Asked.TheVariants as asked
 use Rattle.case_queries.specs.declared.asked.AskedFiles.{AskedFiles}
 use Rattle.case_queries.specs.declared.asked.AskedFiles.TheVariants as files
 
--- what is sought in all of its memory; the frames of a thread, or the registers of one of them; the build IDs of its mapped files
+-- what is sought in all of its memory; the frames of a thread, or the registers of one of them; the builds of its mapped files, for which
+-- the executables of these cases are read
 pub data Asking : Type 0 where
   for_aim : Aim → Asking
   for_frames : ℕ → Option ℕ → Asking
-  for_builds : Asking
+  for_builds : BuildQuery → List Wanted → Asking
 
-abbrev pub files_asking : AskedFiles → Asking
-files_asking (files.Frames thread frame) = for_frames thread frame
-files_asking files.Builds = for_builds
+abbrev pub files_asking : AskedFiles → List Wanted → Asking
+files_asking (files.Frames thread frame) cases = for_frames thread frame
+files_asking (files.Builds query) cases = for_builds query cases
+
+-- before the cases are known: the line is the same
+abbrev pub files_asked : AskedFiles → Asking
+files_asked a = files_asking a []
 
 abbrev pub asking_of : Asked → Asking
 asking_of (asked.Sought s) = for_aim (aim_of s)
-asking_of (asked.Files a) = files_asking a
+asking_of (asked.Files a) = files_asked a
 
 -- nothing that is empty is sought
 abbrev pub IsAsking : Asking → Type 0
 IsAsking (for_aim aim) = IsAim aim
 IsAsking (for_frames thread frame) = ⊤
-IsAsking for_builds = ⊤
+IsAsking (for_builds query cases) = ⊤
 
 -- the line that asks it, and what it answers
 abbrev pub aim_query : Aim → QuerySaid
@@ -45,7 +53,7 @@ frames_query thread (Some frame) = ask_frame thread frame
 abbrev pub asking_query : Asking → QuerySaid
 asking_query (for_aim aim) = aim_query aim
 asking_query (for_frames thread frame) = frames_query thread frame
-asking_query for_builds = ask_builds
+asking_query (for_builds query cases) = ask_builds query
 
 abbrev pub aim_answer : Aim → List ℕ → List ExecutableView → Result (List ℕ) (List ℕ)
 aim_answer (for_bytes needle) image xs = find_answer image xs needle
@@ -58,4 +66,4 @@ frames_answer image xs thread (Some frame) = frame_answer image xs thread frame
 abbrev pub asking_answer : Asking → List ℕ → List ExecutableView → Result (List ℕ) (List ℕ)
 asking_answer (for_aim aim) image xs = aim_answer aim image xs
 asking_answer (for_frames thread frame) image xs = frames_answer image xs thread frame
-asking_answer for_builds image xs = builds_answer image xs
+asking_answer (for_builds query cases) image xs = builds_answer (asking_by query cases) image xs

@@ -46,7 +46,7 @@ wanted_by told cases = map wanted_case (filter (is_for told) cases)
 abbrev pub wanted_for : QuerySaid → List ℕ → List Case → List Wanted
 wanted_for (ask_unwind thread) b cases = wanted_by (told_files b) cases
 wanted_for (ask_frame thread frame) b cases = wanted_by (told_files b) cases
-wanted_for ask_builds b cases = wanted_by (told_files b) cases
+wanted_for (ask_builds query) b cases = wanted_by (told_files b) cases
 wanted_for q b cases = wanted_of b cases
 
 -- an executable, and those after it

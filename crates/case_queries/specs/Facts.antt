@@ -1,22 +1,16 @@
 -- What a screen shows of a core beside its notes, as values.
-use Rattle.std.specs.Prelude.{◌≡◌, ⊤, ℕ, suc, List, [], ◌∷◌, length, map, Option, Vec}
-use Rattle.std.specs.Global.{Global}
+use Rattle.std.specs.Prelude.{◌≡◌, ⊤, ℕ, suc, List, [], ◌∷◌, length, Option}
 use Rattle.std.specs.Option.{option_map}
 use Rattle.address_space.specs.Source.{ExecutableView}
 use Rattle.address_space.specs.Whole.{IsFrontOf}
-use Rattle.build_replies.specs.Builds.{BuildValue, NamedId, builds_of, told_of}
-use Rattle.build_replies.specs.Mapped.{build_view}
-use Rattle.build_replies.specs.declared.answers.BuildAnswer.{BuildAnswer}
+use Rattle.build_replies.specs.Builds.{NamedId, builds_of, told_of}
+use Rattle.build_replies.specs.Mapped.{answers_view}
 use Rattle.disk_model.specs.declared.disk.Disk as disk
 use Rattle.frame_replies.specs.FrameValues.{frames_of, frames_view}
 use Rattle.frame_replies.specs.declared.values.FramesAnswer.{FramesAnswer}
 use Rattle.intake.specs.Parts.{Parts}
 use Rattle.case_queries.specs.Seeing.{AreOfCase, SeesImage}
 use Rattle.case_queries.specs.declared.facts.CoreFacts.{CoreFacts}
-
--- what is told, as values
-abbrev pub builds_view : Option (Vec BuildAnswer Global) → Option (List BuildValue)
-builds_view rows = option_map (λ (v : Vec BuildAnswer Global). map build_view v.items) rows
 
 -- These are the frames of a thread of the case's image, which begins so, has that size, and tells these mapped files.
 abbrev pub AreOfThread : {D : Type 0} → disk.Ghosts D → Parts D → ℕ → List ℕ → ℕ → Option (List NamedId) → List ExecutableView → ℕ → Option FramesAnswer → Type 0
@@ -37,4 +31,4 @@ pub record SaysFacts {D : Type 0} (g : disk.Ghosts D) (old : Parts D) (seq : ℕ
   pub seen : SeesImage g old seq image new
   pub begins : IsFrontOf front size image
   pub tells : told_of image ≡ told
-  pub builds : builds_of image xs ≡ builds_view f.builds
+  pub builds : builds_of image xs ≡ answers_view f.builds

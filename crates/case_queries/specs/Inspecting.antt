@@ -4,7 +4,7 @@ use Rattle.address_space.specs.Source.{ExecutableView}
 use Rattle.disk_model.specs.declared.disk.Disk as disk
 use Rattle.elf_view.specs.declared.faults.Want.{Want}
 use Rattle.elf_view.specs.declared.faults.Want.TheVariants as want
-use Rattle.build_replies.specs.Builds.{builds_answer}
+use Rattle.build_replies.specs.Builds.{BuildsAsking, builds_answer, compares, uses, wants}
 use Rattle.frame_replies.specs.FrameLines.{unwind_answer}
 use Rattle.frame_replies.specs.FrameRegisters.{frame_answer}
 use Rattle.image_replies.specs.Header.{header_answer}
@@ -32,9 +32,11 @@ use Rattle.memory_replies.specs.Find.{find_answer}
 use Rattle.memory_replies.specs.Maps.{maps_answer}
 use Rattle.memory_replies.specs.Texts.{strings_answer}
 use Rattle.memory_replies.specs.Symbol.{symbol_answer, executable_fault}
+use Rattle.script_lines.specs.declared.query.BuildQuery.{BuildQuery}
+use Rattle.script_lines.specs.declared.query.BuildQuery.TheVariants as builds
 use Rattle.script_lines.specs.Queries.{QuerySaid, ask_header, ask_notes, ask_threads, ask_registers, ask_process, ask_signal, ask_auxiliary_vector, ask_files, ask_maps, ask_dump, ask_find, ask_strings, ask_backtrace, ask_unwind, ask_frame, ask_builds, ask_symbol}
 use Rattle.script_streams.specs.Replies.{no_reply, reply_of}
-use Rattle.case_queries.specs.Collecting.{CollectsAll, wanted_for}
+use Rattle.case_queries.specs.Collecting.{CollectsAll, Wanted, wanted_for}
 use Rattle.archive_replies.specs.Reasons.{reason_of}
 use Rattle.case_queries.specs.Seeing.{LooksAt}
 
@@ -52,26 +54,32 @@ abbrev pub want_of : Kind → Want
 want_of Core = want.Core
 want_of Exec = want.Exec
 
--- what a query's answer shows of the bytes of an image, and of the executables attached for a core's mapped files; or why it
--- shows nothing
-abbrev pub answer_of : Kind → QuerySaid → List ℕ → List ExecutableView → Result (List ℕ) (List ℕ)
-answer_of kind ask_header b xs = header_answer (want_of kind) b
-answer_of kind ask_notes b xs = notes_answer b
-answer_of kind ask_threads b xs = threads_answer b
-answer_of kind (ask_registers thread) b xs = regs_answer b thread
-answer_of kind ask_process b xs = process_answer b
-answer_of kind ask_signal b xs = signal_answer b
-answer_of kind ask_auxiliary_vector b xs = auxv_answer b
-answer_of kind ask_files b xs = files_answer b
-answer_of kind ask_maps b xs = in_core b (λ notes. maps_answer b)
-answer_of kind (ask_dump first length) b xs = dump_answer b xs first length
-answer_of kind (ask_find needle) b xs = find_answer b xs needle
-answer_of kind (ask_strings least) b xs = strings_answer b xs least
-answer_of kind (ask_backtrace thread) b xs = bt_answer b xs thread
-answer_of kind (ask_unwind thread) b xs = unwind_answer b xs thread
-answer_of kind (ask_frame thread frame) b xs = frame_answer b xs thread frame
-answer_of kind ask_builds b xs = builds_answer b xs
-answer_of kind (ask_symbol address) b xs = symbol_answer b address
+-- what a line over builds asks, where the executables of these cases are read
+abbrev pub asking_by : BuildQuery → List Wanted → BuildsAsking
+asking_by builds.Compared cases = compares
+asking_by builds.Used cases = uses cases
+asking_by builds.Wanted cases = wants
+
+-- what a query's answer shows of the bytes of an image, and of the executables of these cases, which are read for a core's mapped files;
+-- or why it shows nothing
+abbrev pub answer_of : Kind → QuerySaid → List ℕ → List Wanted → List ExecutableView → Result (List ℕ) (List ℕ)
+answer_of kind ask_header b cases xs = header_answer (want_of kind) b
+answer_of kind ask_notes b cases xs = notes_answer b
+answer_of kind ask_threads b cases xs = threads_answer b
+answer_of kind (ask_registers thread) b cases xs = regs_answer b thread
+answer_of kind ask_process b cases xs = process_answer b
+answer_of kind ask_signal b cases xs = signal_answer b
+answer_of kind ask_auxiliary_vector b cases xs = auxv_answer b
+answer_of kind ask_files b cases xs = files_answer b
+answer_of kind ask_maps b cases xs = in_core b (λ notes. maps_answer b)
+answer_of kind (ask_dump first length) b cases xs = dump_answer b xs first length
+answer_of kind (ask_find needle) b cases xs = find_answer b xs needle
+answer_of kind (ask_strings least) b cases xs = strings_answer b xs least
+answer_of kind (ask_backtrace thread) b cases xs = bt_answer b xs thread
+answer_of kind (ask_unwind thread) b cases xs = unwind_answer b xs thread
+answer_of kind (ask_frame thread frame) b cases xs = frame_answer b xs thread frame
+answer_of kind (ask_builds query) b cases xs = builds_answer (asking_by query cases) b xs
+answer_of kind (ask_symbol address) b cases xs = symbol_answer b address
 
 -- the lines that read the executables whose names the core's NT_FILE has
 abbrev pub reads_executables : QuerySaid → Bool
@@ -81,13 +89,13 @@ reads_executables (ask_strings least) = true
 reads_executables (ask_backtrace thread) = true
 reads_executables (ask_unwind thread) = true
 reads_executables (ask_frame thread frame) = true
-reads_executables ask_builds = true
+reads_executables (ask_builds query) = true
 reads_executables _ = false
 
 -- The reply where no executable is read: that of the answer. The table of an executable's symbols takes memory.
 abbrev pub Told : Kind → QuerySaid → List ℕ → List ℕ → Type 0
 Told kind (ask_symbol address) b reply = (reply ≡ reply_of (symbol_answer b address)) ⊎ ((reply ≡ memory_reply) × (executable_fault b ≡ None))
-Told kind q b reply = reply ≡ reply_of (answer_of kind q b [])
+Told kind q b reply = reply ≡ reply_of (answer_of kind q b [] [])
 
 -- The line may ask the case of this number, as one of this kind: the archive is not stopped and has the case.
 pub record MayAsk (s : ArchiveState) (seq : ℕ) (q : QuerySaid) (kind : Kind) : Type 0 where
@@ -118,7 +126,7 @@ pub data Inspects {D : Type 0} (g : disk.Ghosts D) (old : Parts D) (seq : ℕ) (
   -- the answer is shown, of the image and of the executables
   shown_with_executables : (kind : Kind) → MayAsk (state_of old) seq q kind → (image : List ℕ) → (mid : Parts D) → LooksAt g old seq (Ok image) mid
       → reads_executables q ≡ true → core_fault_of image ≡ None → (xs : List ExecutableView) → CollectsAll g mid (wanted_for q image (state_of mid).cases) (Ok xs) new
-      → Answers (answer_of kind q image xs) reply → Inspects g old seq q reply new
+      → Answers (answer_of kind q image (wanted_for q image (state_of mid).cases) xs) reply → Inspects g old seq q reply new
   -- the answer is shown, of the image alone
   shown : (kind : Kind) → MayAsk (state_of old) seq q kind → (image : List ℕ) → LooksAt g old seq (Ok image) new → reads_executables q ≡ false → Told kind q image reply
       → Inspects g old seq q reply new

@@ -35,13 +35,13 @@ AreStored seen a (w ∷ ws) (x ∷ xs) = (x.path ≡ w.1) × IsStored seen a w.0
 -- The reply is the answer of the image as it is stored, and of the executables as they are stored, if the line reads any.
 pub data IsAnsweredOfTheCase {D : Type 0} (seen : D → List ℕ) (a : Parts D) (seq : ℕ) (q : QuerySaid) (kind : Kind) (reply : List ℕ) : Type 0 where
   -- of the image alone
-  of_image : (image : List ℕ) → IsStored seen a seq image → reads_executables q ≡ false → reply ≡ reply_of (answer_of kind q image []) → IsAnsweredOfTheCase seen a seq q kind reply
+  of_image : (image : List ℕ) → IsStored seen a seq image → reads_executables q ≡ false → reply ≡ reply_of (answer_of kind q image [] []) → IsAnsweredOfTheCase seen a seq q kind reply
   -- why the core is not shown
   of_fault : (image : List ℕ) → IsStored seen a seq image → reads_executables q ≡ true → (fault : CoreFault) → core_fault_of image ≡ Some fault → reply ≡ no_reply (core_reason fault)
       → IsAnsweredOfTheCase seen a seq q kind reply
   -- of the core, and of the executables whose names its NT_FILE has
   of_core : (image : List ℕ) → IsStored seen a seq image → reads_executables q ≡ true → core_fault_of image ≡ None
-      → (xs : List ExecutableView) → AreStored seen a (wanted_for q image (state_of a).cases) xs → reply ≡ reply_of (answer_of kind q image xs)
+      → (xs : List ExecutableView) → AreStored seen a (wanted_for q image (state_of a).cases) xs → reply ≡ reply_of (answer_of kind q image (wanted_for q image (state_of a).cases) xs)
       → IsAnsweredOfTheCase seen a seq q kind reply
 
 -- There was no memory; or the disk failed, which its count of failures shows.

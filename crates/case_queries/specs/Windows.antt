@@ -35,7 +35,7 @@ most_for (Strings least) = 0
 most_for (Backtrace thread) = 1048576
 most_for (Unwind thread) = 0
 most_for (Frame thread frame) = 0
-most_for Builds = 0
+most_for (Builds query) = 0
 
 -- These are as much of an image as a line wants: all of it; or bytes that are enough for its headers and notes, and a window of it,
 -- for a dump with what the range shows, for the frames of a thread with its stack.
@@ -46,7 +46,7 @@ IsSeenBy (Strings least) front size at bytes image = front ≡ image
 IsSeenBy (Backtrace thread) front size at bytes image = IsEnough Core front image × HasFrames front size bytes thread image
 IsSeenBy (Unwind thread) front size at bytes image = front ≡ image
 IsSeenBy (Frame thread frame) front size at bytes image = front ≡ image
-IsSeenBy Builds front size at bytes image = front ≡ image
+IsSeenBy (Builds query) front size at bytes image = front ≡ image
 
 -- the image of a case is seen by so much of it, or why it can't be read
 abbrev pub SeesFor : {D : Type 0} → disk.Ghosts D → Parts D → ℕ → MemoryQuery → Result Seen ArchiveFault → Parts D → Type 0

@@ -1,5 +1,10 @@
 // What a line asks of a core that is read piece by piece.
+ghost use Rattle.std.specs.Prelude.{◌≡◌, map};
+ghost use Rattle.build_replies.specs.BuildsWords.{asking_view, numbered_view};
+ghost use Rattle.case_queries.specs.Inspecting.{asking_by};
 
+use build_replies::{BuildsAsked, NumberedCase};
+use script_lines::BuildQuery;
 use windowed_search::Sought;
 
 // What a line asks of a core that is read piece by piece.
@@ -16,6 +21,17 @@ pub(crate) enum Asked<'n> {
 pub(crate) enum AskedFiles {
     // The frames of a thread, or the registers of the one of that number.
     Frames { thread: u64, frame: Option<u64> },
-    // The build IDs of its mapped files.
-    Builds,
+    // The builds of its mapped files.
+    Builds(BuildQuery),
+}
+
+// What a line over builds asks, where the executables of these cases are read.
+pub(crate) fn builds_asked<'c>(query: BuildQuery, cases: &'c [NumberedCase<'c>]) -> BuildsAsked<'c>
+    ensures { asking_view result ≡ asking_by query (map numbered_view cases.entry.now) }
+{
+    match query {
+        BuildQuery::Compared => BuildsAsked::Compared,
+        BuildQuery::Used => BuildsAsked::Used(cases),
+        BuildQuery::Wanted => BuildsAsked::Wanted,
+    }
 }

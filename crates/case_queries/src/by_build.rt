@@ -1,13 +1,14 @@
-// The answers to `unwind`, `frame` and `builds` of a core that is read piece by piece: by executables of the builds that were mapped.
+// The answers to `unwind`, `frame`, `builds`, `used` and `wants` of a core that is read piece by piece: by executables of the builds that were mapped.
 ghost use Rattle.std.specs.Prelude.{◌≡◌, ◌≤◌, false, length, map};
+ghost use Rattle.build_replies.specs.BuildsWords.{numbered_view};
 ghost use Rattle.elf_view.specs.declared.faults.Want.TheVariants.{Core};
 ghost use Rattle.image_replies.specs.CoreWords.{core_bytes};
 ghost use Rattle.intake.specs.Parts.{Parts, state_of};
 ghost use Rattle.memory_replies.specs.Answers.{is_done};
 ghost use Rattle.memory_replies.specs.Memory.{attached_view};
 ghost use Rattle.script_streams.specs.Replies.{TellsOutcome, telling};
-ghost use Rattle.case_queries.specs.Asking.{files_asking};
-ghost use Rattle.case_queries.specs.CollectingWords.{executable_view};
+ghost use Rattle.case_queries.specs.Asking.{files_asked, files_asking};
+ghost use Rattle.case_queries.specs.CollectingWords.{executable_view, read_as};
 ghost use Rattle.case_queries.specs.Finding.{AsksFront, IsFrontOfCase};
 ghost use Rattle.case_queries.specs.Fronts.{HasSize, IsSoundFront, ReadsFront};
 ghost use Rattle.case_queries.specs.Keeping.{StayCollected};
@@ -15,15 +16,16 @@ ghost use Rattle.case_queries.specs.LeaveLaws.{Leaves};
 ghost use Rattle.case_queries.specs.Pieces.{SeesPieces};
 ghost use Rattle.case_queries.specs.ToldWords.{ArePiecesOfCase, IsToldBy, ShowsTold};
 
-use crate::asked::AskedFiles;
-use crate::collect_executables::{StoredExecutable, collect, lent, wanted_by_build};
+use crate::asked::{AskedFiles, builds_asked};
+use crate::collect_executables::{
+    LentExecutables, StoredExecutable, collect, lent, wanted_by_build,
+};
 use crate::find::tell_no_memory;
 use crate::found::tell_found;
 use crate::frames::frames_in_core;
 use crate::memory::refused_by;
 use crate::told::{ToldFiles, told_files};
 use crate::walk::CaseImage;
-use address_space::Attached;
 use archive_replies::reason;
 use build_replies::{listed, tell_told};
 use disk_model::Disk;
@@ -39,7 +41,7 @@ fn tell_asked<'a, O: Output, D: Disk>(
     image: CaseImage<'_>,
     core: &CoreImage<'a>,
     told: ToldFiles<'a>,
-    attached: &[Attached<'a>],
+    lent: &LentExecutables<'a>,
     asked: AskedFiles,
     reply: &mut Reply<'_, O>,
     archive: &mut Archive<D>,
@@ -49,15 +51,29 @@ fn tell_asked<'a, O: Output, D: Disk>(
     requires sound { IsSoundFront Core image.front.now }
     requires told { IsToldBy image told }
     ensures { (before : Parts D) → SeesPieces D.Disk before image.entry told.entry.pieces.items archive.old
-        → TellsOutcome (telling O.Output reply.old reply.new) (λ text. ShowsTold D.Disk before image.entry told.entry.pieces.items (map attached_view attached.now) (files_asking asked) text archive.new) (is_done result) }
+        → TellsOutcome (telling O.Output reply.old reply.new) (λ text. ShowsTold D.Disk before image.entry told.entry.pieces.items (map attached_view lent.now.attached.items) (files_asking asked (map numbered_view lent.now.cases.items)) text archive.new) (is_done result) }
 {
     match asked {
         AskedFiles::Frames { thread, frame } => {
             frames_in_core(
-                alloc, image, core, told, attached, thread, frame, reply, archive,
+                alloc,
+                image,
+                core,
+                told,
+                &lent.attached,
+                thread,
+                frame,
+                reply,
+                archive,
             )
         }
-        AskedFiles::Builds => tell_told(alloc, reply, &told.files, attached),
+        AskedFiles::Builds(query) => tell_told(
+            alloc,
+            reply,
+            &told.files,
+            &lent.attached,
+            builds_asked(query, &lent.cases),
+        ),
     }
 }
 
@@ -77,10 +93,10 @@ fn tell_with<O: Output, D: Disk>(
     requires sound { IsSoundFront Core image.front.now }
     requires told { IsToldBy image told }
     ensures { (before : Parts D) → SeesPieces D.Disk before image.entry told.entry.pieces.items archive.old
-        → TellsOutcome (telling O.Output reply.old reply.new) (λ text. ShowsTold D.Disk before image.entry told.entry.pieces.items (map executable_view executables.now) (files_asking asked) text archive.new) (is_done result) }
+        → TellsOutcome (telling O.Output reply.old reply.new) (λ text. ShowsTold D.Disk before image.entry told.entry.pieces.items (map executable_view executables.now) (files_asking asked (map read_as executables.now)) text archive.new) (is_done result) }
 {
     match lent(alloc, executables) {
-        Ok(attached) => tell_asked(alloc, image, core, told, &attached, asked, reply, archive),
+        Ok(lent) => tell_asked(alloc, image, core, told, &lent, asked, reply, archive),
         Err(_) => tell_no_memory(reply),
     }
 }
@@ -104,7 +120,7 @@ fn tell_collected<O: Output, D: Disk>(
     requires own { ArePiecesOfCase D.Disk archive.old image told.pieces.items }
     requires kept { StayCollected D.Disk archive.old kept.old }
     ensures answers { (before : Parts D) → SeesPieces D.Disk before image.entry told.entry.pieces.items archive.old
-        → TellsOutcome (telling O.Output reply.old reply.new) (λ text. AsksFront D.Disk before image.entry (files_asking asked) text archive.new) (is_done result) }
+        → TellsOutcome (telling O.Output reply.old reply.new) (λ text. AsksFront D.Disk before image.entry (files_asked asked) text archive.new) (is_done result) }
     ensures kept { StayCollected D.Disk archive.new kept.new }
     ensures leaves { Leaves D.Disk archive.old archive.new }
 {
@@ -150,7 +166,7 @@ pub(crate) fn answer_by_build<O: Output, D: Disk>(
     requires own { IsFrontOfCase D.Disk archive.old image }
     requires kept { StayCollected D.Disk archive.old kept.old }
     ensures answers { (before : Parts D) → ReadsFront D.Disk before image.entry.seq image.entry.front.now archive.old
-        → TellsOutcome (telling O.Output reply.old reply.new) (λ text. AsksFront D.Disk before image.entry (files_asking asked) text archive.new) (is_done result) }
+        → TellsOutcome (telling O.Output reply.old reply.new) (λ text. AsksFront D.Disk before image.entry (files_asked asked) text archive.new) (is_done result) }
     ensures kept { StayCollected D.Disk archive.new kept.new }
     ensures leaves { Leaves D.Disk archive.old archive.new }
 {

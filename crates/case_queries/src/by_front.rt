@@ -49,7 +49,7 @@ fn front_want(kind: Kind, query: &ImageQuery) -> Want
 // A sound front of an image answers as the whole image does. It does nothing.
 fn a_front_answers()
     ensures { (kind : Kind) (query : ImageQuery) (b : List ℕ) (n : ℕ) → IsSoundFront (front_want kind query) (take n b)
-        → answer_of kind (image_query query) (take n b) [] ≡ answer_of kind (image_query query) b [] }
+        → answer_of kind (image_query query) (take n b) [] [] ≡ answer_of kind (image_query query) b [] [] }
 {
     a_sound_front_answers();
     a_sound_front_shows_the_mappings();
@@ -94,9 +94,9 @@ fn tell_front<O: Output>(
     reply: &mut Reply<'_, O>,
 ) -> bool
     ensures tells { (image : List ℕ) → IsEnough (front_want kind query.now) front.now image
-        → TellsText (telling O.Output reply.old reply.new) (reply_of (answer_of kind (image_query query.now) image [])) }
+        → TellsText (telling O.Output reply.old reply.new) (reply_of (answer_of kind (image_query query.now) image [] [])) }
     ensures done { (image : List ℕ) → IsEnough (front_want kind query.now) front.now image
-        → result ≡ is_ok (answer_of kind (image_query query.now) image []) }
+        → result ≡ is_ok (answer_of kind (image_query query.now) image [] []) }
 {
     a_front_answers();
     tell_image(alloc, kind, query, front, reply)
@@ -110,8 +110,8 @@ pub(crate) fn tell_image<O: Output>(
     image: &[u8],
     reply: &mut Reply<'_, O>,
 ) -> bool
-    ensures tells { TellsText (telling O.Output reply.old reply.new) (reply_of (answer_of kind (image_query query.now) image.now [])) }
-    ensures done { result ≡ is_ok (answer_of kind (image_query query.now) image.now []) }
+    ensures tells { TellsText (telling O.Output reply.old reply.new) (reply_of (answer_of kind (image_query query.now) image.now [] [])) }
+    ensures done { result ≡ is_ok (answer_of kind (image_query query.now) image.now [] []) }
 {
     match query {
         ImageQuery::Header => tell_header(reply, image, want_of(kind)),
@@ -128,8 +128,8 @@ pub(crate) fn tell_image<O: Output>(
 
 // Tells the mappings of a core. Says whether they are told; if not, the reply is `no REASON`.
 fn tell_mappings<O: Output>(alloc: Global, image: &[u8], reply: &mut Reply<'_, O>) -> bool
-    ensures tells { (kind : Kind) → TellsText (telling O.Output reply.old reply.new) (reply_of (answer_of kind ask_maps image.now [])) }
-    ensures done { (kind : Kind) → result ≡ is_ok (answer_of kind ask_maps image.now []) }
+    ensures tells { (kind : Kind) → TellsText (telling O.Output reply.old reply.new) (reply_of (answer_of kind ask_maps image.now [] [])) }
+    ensures done { (kind : Kind) → result ≡ is_ok (answer_of kind ask_maps image.now [] []) }
 {
     match CoreImage::read(image) {
         Ok(core) => {

@@ -6,6 +6,7 @@ ghost use Rattle.journal_layout.specs.Case.{case_of};
 ghost use Rattle.memory_replies.specs.FileNameWords.{AreNamesOf};
 ghost use Rattle.memory_replies.specs.Memory.{attached_view};
 ghost use Rattle.build_replies.specs.Builds.{NamedId, told_or_none};
+ghost use Rattle.build_replies.specs.BuildsWords.{numbered_view};
 ghost use Rattle.build_replies.specs.Mapped.{id_view, told_view};
 ghost use Rattle.build_replies.specs.NameWords.{names_in, stored_names};
 ghost use Rattle.case_queries.specs.Collecting.{Collects, CollectsAll, Wanted, is_for, is_wanted, wanted_by, wanted_of};
@@ -15,7 +16,7 @@ ghost use Rattle.case_queries.specs.Keeping.{StayCollected};
 use crate::kept_image::see_image;
 use crate::told::ToldFiles;
 use address_space::Attached;
-use build_replies::{FrontId, StoredNames, build_names, listed};
+use build_replies::{FrontId, NumberedCase, StoredNames, build_names, listed};
 use disk_model::Disk;
 use image_replies::CoreImage;
 use intake::{Archive, ArchiveFault};
@@ -264,19 +265,33 @@ fn add_read(
     Ok(())
 }
 
-// The same, lent. The error is that there is no memory for the list of them.
+// Executables, lent, and the cases that they are stored as.
+#[derive(Drop)]
+pub(crate) struct LentExecutables<'e> {
+    pub(crate) attached: Vec<Attached<'e>>,
+    pub(crate) cases: Vec<NumberedCase<'e>>,
+}
+
+// The same, lent. The error is that there is no memory for the lists of them.
 pub(crate) fn lent<'a>(
     alloc: Global,
     executables: &'a [StoredExecutable],
-) -> Result<Vec<Attached<'a>>, AllocError>
-    ensures { IfOk result (λ v. map attached_view v.items ≡ map executable_view executables.now) }
+) -> Result<LentExecutables<'a>, AllocError>
+    ensures attached { IfOk result (λ l. map attached_view l.attached.items ≡ map executable_view executables.now) }
+    ensures cases { IfOk result (λ l. map numbered_view l.cases.items ≡ map read_as executables.now) }
 {
-    let mut all = Vec::with_capacity(alloc, executables.len())?;
+    let mut attached = Vec::with_capacity(alloc, executables.len())?;
+    let mut cases = Vec::with_capacity(alloc, executables.len())?;
     for executable in executables {
-        all.push(Attached {
-            path: executable.path.as_slice(),
+        let path = executable.path.as_slice();
+        attached.push(Attached {
+            path,
             image: &executable.image,
         })?;
+        cases.push(NumberedCase {
+            number: executable.seq,
+            name: path,
+        })?;
     }
-    Ok(all)
+    Ok(LentExecutables { attached, cases })
 }

@@ -2,7 +2,7 @@
 ghost use Rattle.std.specs.Prelude.{◌≡◌, ◌≤◌, ℕ, List, IfOk, OnOk, Option, length, map};
 ghost use Rattle.address_space.specs.Source.{ExecutableView};
 ghost use Rattle.address_space.specs.SpaceWords.{core_of};
-ghost use Rattle.build_replies.specs.Builds.{NamedId, told_of, values_of};
+ghost use Rattle.build_replies.specs.Builds.{NamedId, told_of};
 ghost use Rattle.build_replies.specs.Mapped.{told_view};
 ghost use Rattle.elf_view.specs.declared.faults.Want.TheVariants.{Core};
 ghost use Rattle.frame_replies.specs.FrameValues.{frames_of, frames_view};
@@ -11,7 +11,7 @@ ghost use Rattle.intake.specs.Parts.{Parts, state_of};
 ghost use Rattle.memory_replies.specs.Memory.{attached_view};
 ghost use Rattle.std.specs.Option.{option_map};
 ghost use Rattle.case_queries.specs.CollectingWords.{executable_view};
-ghost use Rattle.case_queries.specs.Facts.{AreFramesOf, AreOfThread, SaysFacts, builds_view};
+ghost use Rattle.case_queries.specs.Facts.{AreFramesOf, AreOfThread, SaysFacts};
 ghost use Rattle.case_queries.specs.Fronts.{HasSize, IsSoundFront};
 ghost use Rattle.case_queries.specs.Pieces.{BeginsWith, SeesPieces};
 ghost use Rattle.case_queries.specs.ToldWords.{IsToldBy};
@@ -22,13 +22,13 @@ use crate::frames::{UnwoundCore, process_in_core, walk_thread};
 use crate::told::ToldFiles;
 use crate::walk::{CaseImage, WalkFault};
 use address_space::Attached;
-use build_replies::{BuildAnswer, FrontId, build_answers};
+use build_replies::{BuildAnswer, build_answers};
 use disk_model::Disk;
 use elf_view::a_sound_front_is_enough;
 use frame_replies::{FramesAnswer, Walk};
 use image_replies::CoreImage;
 use intake::Archive;
-use std::alloc::{AllocError, Global};
+use std::alloc::Global;
 
 /// The frames of threads of a core, and the build IDs of its mapped files.
 #[derive(Drop)]
@@ -110,20 +110,6 @@ fn unwind_threads<'a, D: Disk>(
     Ok(all)
 }
 
-// The build IDs of the mapped files, next to those of the executables that are stored for them. The error is that there is no memory.
-fn told_builds<'a>(
-    alloc: Global,
-    told: &Option<Vec<FrontId<'a>>>,
-    stored: &[Attached<'a>],
-) -> Result<Option<Vec<BuildAnswer<'a>>>, AllocError>
-    ensures { IfOk result (λ rows. builds_view rows ≡ option_map (values_of (map attached_view stored.now)) (told_view told.now)) }
-{
-    match told {
-        Some(files) => Ok(Some(build_answers(alloc, files, stored)?)),
-        None => Ok(None),
-    }
-}
-
 /// Finds the frames of the first threads of a core, and the build IDs of its mapped files, with the executables that are stored for
 /// them. The core may be the first bytes alone of the case's image. Of the rest it reads what tells the frames.
 ///
@@ -147,13 +133,13 @@ pub fn core_facts<'a, D: Disk>(
     ensures { IfOk result (λ facts. (before : Parts D) → SeesPieces D.Disk before image.entry told.entry.pieces.items archive.old
         → SaysFacts D.Disk before image.entry.seq image.entry.front.now image.entry.size (told_view told.entry.files) (map executable_view executables.now) threads facts archive.new) }
 {
-    let Ok(attached) = lent(alloc, executables) else {
+    let Ok(lent) = lent(alloc, executables) else {
         return Err(WalkFault::OutOfMemory);
     };
-    let Ok(builds) = told_builds(alloc, &told.files, &attached) else {
+    let Ok(builds) = build_answers(alloc, &told.files, &lent.attached) else {
         return Err(WalkFault::OutOfMemory);
     };
-    match unwind_threads(alloc, image, core, told, &attached, threads, archive) {
+    match unwind_threads(alloc, image, core, told, &lent.attached, threads, archive) {
         Ok(unwound) => Ok(CoreFacts { unwound, builds }),
         Err(fault) => Err(fault),
     }

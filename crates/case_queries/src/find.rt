@@ -192,7 +192,7 @@ fn find_with<O: Output, D: Disk>(
         → TellsOutcome (telling O.Output reply.old reply.new) (λ text. ShowsFound D.Disk before image.entry (map executable_view executables.now) (for_aim (aim_of sought.entry)) text archive.new) (is_done result) }
 {
     match lent(alloc, executables) {
-        Ok(attached) => find_in_core(alloc, image, core, &attached, sought, reply, archive),
+        Ok(lent) => find_in_core(alloc, image, core, &lent.attached, sought, reply, archive),
         Err(_) => tell_no_memory(reply),
     }
 }
@@ -348,7 +348,7 @@ fn find_seen<O: Output, D: Disk>(
     find_front(alloc, image, asked, &mut kept.executables, reply, archive)
 }
 
-// Answers `find`, `strings`, `unwind`, `frame` or `builds` of a case of this kind and size. Says whether it was done; if not, it was refused.
+// Answers `find`, `strings`, `unwind`, `frame`, `builds`, `used` or `wants` of a case of this kind and size. Says whether it was done; if not, it was refused.
 pub(crate) fn answer_find<O: Output, D: Disk>(
     seq: u32,
     kind: Kind,

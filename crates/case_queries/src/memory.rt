@@ -6,9 +6,10 @@ ghost use Rattle.script_streams.specs.Replies.{TellsOutcome, TellsReply, telling
 ghost use Rattle.memory_replies.specs.Answers.{AnswersWith, is_done};
 ghost use Rattle.memory_replies.specs.Memory.{attached_view};
 ghost use Rattle.intake.specs.Parts.{state_of};
+ghost use Rattle.build_replies.specs.BuildsWords.{numbered_view};
 ghost use Rattle.build_replies.specs.Choosing.{told_files};
 ghost use Rattle.case_queries.specs.Collecting.{CollectsAll, wanted_by, wanted_for};
-ghost use Rattle.case_queries.specs.CollectingWords.{executable_view, collected_view, wanted_view};
+ghost use Rattle.case_queries.specs.CollectingWords.{collected_view, executable_view, read_as, wanted_view};
 ghost use Rattle.case_queries.specs.Asking.{IsAsking, asking_of, asking_query};
 ghost use Rattle.case_queries.specs.Inspecting.{answer_of};
 ghost use Rattle.case_queries.specs.Steps.{Asks, Shows, ShowsCore};
@@ -16,15 +17,14 @@ ghost use Rattle.case_queries.specs.Keeping.{AreKept, StayCollected};
 ghost use Rattle.case_queries.specs.Seeing.{IsKept};
 ghost use Rattle.case_queries.specs.Windows.{IsSeenBy};
 
-use crate::asked::{Asked, AskedFiles};
+use crate::asked::{Asked, AskedFiles, builds_asked};
 use crate::collect_executables::{
-    StoredExecutable, WantedCase, collect, lent, wanted_by_build, wanted_by_path,
+    LentExecutables, StoredExecutable, WantedCase, collect, lent, wanted_by_build, wanted_by_path,
 };
 use crate::find::answer_find;
 use crate::front::size_of;
 use crate::kept_image::{Images, kept_if};
 use crate::window::{lent_window, see_memory};
-use address_space::Attached;
 use archive_replies::reason;
 use build_replies::{listed, tell_builds, told_ids};
 use disk_model::Disk;
@@ -95,7 +95,7 @@ fn asked_in(query: &MemoryQuery, size: usize) -> Option<Asked<'_>>
             thread: *thread,
             frame: Some(*frame),
         })),
-        MemoryQuery::Builds => Some(Asked::Files(AskedFiles::Builds)),
+        MemoryQuery::Builds(query) => Some(Asked::Files(AskedFiles::Builds(*query))),
         _ => None,
     }
 }
@@ -229,7 +229,7 @@ fn wanted_for<D: Disk>(
     match query {
         MemoryQuery::Unwind { .. } => wanted_for_builds(alloc, core, archive),
         MemoryQuery::Frame { .. } => wanted_for_builds(alloc, core, archive),
-        MemoryQuery::Builds => wanted_for_builds(alloc, core, archive),
+        MemoryQuery::Builds(_) => wanted_for_builds(alloc, core, archive),
         MemoryQuery::Dump { .. } => wanted_by_path(alloc, core, archive),
         MemoryQuery::Find { .. } => wanted_by_path(alloc, core, archive),
         MemoryQuery::Strings { .. } => wanted_by_path(alloc, core, archive),
@@ -261,6 +261,7 @@ fn collected<D: Disk>(
     requires runs { archive.old.stopped ≡ false }
     requires kept { StayCollected D.Disk archive.old kept }
     ensures collected { CollectsAll D.Disk archive.old (wanted_for (memory_query query.now) (core_bytes core.now) (state_of archive.old).cases) (collected_view result) archive.new }
+    ensures are { IfOk result (λ v. map read_as v.items ≡ wanted_for (memory_query query.now) (core_bytes core.now) (state_of archive.old).cases) }
     ensures kept { IfOk result (λ v. StayCollected D.Disk archive.new (Some v)) }
 {
     let wanted = wanted_for(alloc, query, core, archive);
@@ -278,10 +279,10 @@ fn tell_with_executables<O: Output>(
     reply: &mut Reply<'_, O>,
 ) -> Outcome
     ensures { (image : List ℕ) → IsSeenBy query.now (core_bytes core.now) window.entry.size window.entry.at window.entry.bytes.now image
-        → TellsReply (telling O.Output reply.old reply.new) (AnswersWith result (answer_of kind (memory_query query.now) image (map executable_view executables.now))) }
+        → TellsReply (telling O.Output reply.old reply.new) (AnswersWith result (answer_of kind (memory_query query.now) image (map read_as executables.now) (map executable_view executables.now))) }
 {
     match lent(alloc, executables) {
-        Ok(attached) => tell_memory(alloc, kind, query, core, window, &attached, reply),
+        Ok(lent) => tell_memory(alloc, kind, query, core, window, &lent, reply),
         Err(_) => {
             tell_no(reply, b"OutOfMemory");
             Outcome::OutOfMemory
@@ -295,12 +296,13 @@ fn tell_memory<O: Output>(
     query: &MemoryQuery,
     core: &CoreImage<'_>,
     window: Window<'_>,
-    attached: &[Attached<'_>],
+    lent: &LentExecutables<'_>,
     reply: &mut Reply<'_, O>,
 ) -> Outcome
     ensures { (image : List ℕ) → IsSeenBy query.now (core_bytes core.now) window.entry.size window.entry.at window.entry.bytes.now image
-        → TellsReply (telling O.Output reply.old reply.new) (AnswersWith result (answer_of kind (memory_query query.now) image (map attached_view attached.now))) }
+        → TellsReply (telling O.Output reply.old reply.new) (AnswersWith result (answer_of kind (memory_query query.now) image (map numbered_view lent.now.cases.items) (map attached_view lent.now.attached.items))) }
 {
+    let attached = lent.attached.as_slice();
     match query {
         MemoryQuery::Dump { first, length } => {
             tell_dump(alloc, reply, core, window, attached, *first, *length)
@@ -316,6 +318,12 @@ fn tell_memory<O: Output>(
         MemoryQuery::Frame { thread, frame } => {
             tell_frame(alloc, reply, core, attached, *thread, *frame)
         }
-        MemoryQuery::Builds => tell_builds(alloc, reply, core, attached),
+        MemoryQuery::Builds(query) => tell_builds(
+            alloc,
+            reply,
+            core,
+            attached,
+            builds_asked(*query, &lent.cases),
+        ),
     }
 }

@@ -273,7 +273,7 @@ fn see_more<D: Disk>(
         MemoryQuery::Backtrace { thread } => see_stack(seq, size, *thread, front, buffer, archive),
         MemoryQuery::Unwind { .. } => read_rest(seq, size, front, archive),
         MemoryQuery::Frame { .. } => read_rest(seq, size, front, archive),
-        MemoryQuery::Builds => read_rest(seq, size, front, archive),
+        MemoryQuery::Builds(_) => read_rest(seq, size, front, archive),
     }
 }
 
@@ -288,7 +288,7 @@ fn most_for(query: &MemoryQuery) -> usize
         MemoryQuery::Backtrace { .. } => STACK,
         MemoryQuery::Unwind { .. } => 0,
         MemoryQuery::Frame { .. } => 0,
-        MemoryQuery::Builds => 0,
+        MemoryQuery::Builds(_) => 0,
     }
 }
 
@@ -336,7 +336,7 @@ fn reads_all(seq: u32, query: &MemoryQuery, kept: &Option<KeptImage>) -> bool {
         MemoryQuery::Backtrace { .. } => false,
         MemoryQuery::Unwind { .. } => !keeps_front(seq, kept),
         MemoryQuery::Frame { .. } => !keeps_front(seq, kept),
-        MemoryQuery::Builds => !keeps_front(seq, kept),
+        MemoryQuery::Builds(_) => !keeps_front(seq, kept),
     }
 }
 

@@ -9,7 +9,7 @@ use Rattle.std.specs.Prelude.{nat_lt, codes}
 use Rattle.script_streams.specs.TellLaws.{tells_then, tells_as, tells_nothing}
 use Rattle.script_streams.specs.Telling.{Sink, Tells}
 use Rattle.script_words.specs.Printing.{escape, prints_itself, shown, shown_byte}
-use Rattle.case_screens.specs.Files.{store_text}
+use Rattle.case_screens.specs.Files.{exec_text}
 use Rattle.case_screens.specs.Quotes.{quoted}
 use Rattle.case_screens.specs.Texts.{more_words, name_text}
 
@@ -92,5 +92,5 @@ store_here true t e few = let many = ltb-true 128 (length t) e in absurd (omega 
 store_here false t e few = refl
 
 -- the command that stores a file whose name a case can have
-pub store_some : (t : List ℕ) → length t ≤ 128 → store_text t ≡ codes "not stored: corekeep store ARCHIVE FILE --exec " ++ quoted (shown t)
+pub store_some : (t : List ℕ) → length t ≤ 128 → exec_text t ≡ codes "not stored: corekeep store ARCHIVE FILE --exec " ++ quoted (shown t)
 store_some t few = store_here (nat_lt 128 (length t)) t refl few

@@ -1,7 +1,8 @@
 -- The files that a core had mapped, and which of them are stored.
-use Rattle.std.specs.Prelude.{ℕ, nat_lt, if◌then◌else◌, List, [], ◌∷◌, ◌++◌, length, take, find, Option, None, Some, Result, Ok, Err, codes, decimal}
-use Rattle.std.specs.Str.{bytes_eq}
+use Rattle.std.specs.Prelude.{ℕ, nat_lt, if◌then◌else◌, Bool, false, List, [], ◌∷◌, ◌++◌, length, take, find, Option, None, Some, Result, Ok, Err, codes, decimal}
+use Rattle.build_ids.specs.BuildName as build
 use Rattle.build_replies.specs.Builds.{BuildValue}
+use Rattle.build_replies.specs.ByBuild.{Chosen, by_build, by_path, none, other}
 use Rattle.build_replies.specs.Mapped.{build_view}
 use Rattle.build_replies.specs.declared.answers.BuildAnswer.{BuildAnswer}
 use Rattle.elf_view.specs.NoteList.{NoteView}
@@ -26,24 +27,46 @@ exec_number (Some c) = if is_same_kind Exec c.origin.kind then Some c.seq else N
 abbrev pub stored_number : List Case → List ℕ → Option ℕ
 stored_number cases name = exec_number (find (has_name name) cases)
 
--- whether the build IDs say that another file ran: such a file is not used
-abbrev pub build_text : Option (List ℕ) → Option (List ℕ) → List ℕ
-build_text (Some core) (Some stored) = if bytes_eq core stored then [] else codes ", another build"
-build_text (Some core) None = codes ", no build ID"
-build_text None stored = []
+-- a build that a case can be named by
+abbrev pub has_build : Option (List ℕ) → Bool
+has_build None = false
+has_build (Some id) = build.has_name id
 
 -- the command that stores a file, with its name whole; no case has a name of over 128 bytes
-abbrev pub store_text : List ℕ → List ℕ
-store_text name = if nat_lt 128 (length name) then codes "not stored: its name has over 128 bytes" else codes "not stored: corekeep store ARCHIVE FILE --exec " ++ quoted (shown name)
+abbrev pub exec_text : List ℕ → List ℕ
+exec_text name = if nat_lt 128 (length name) then codes "not stored: its name has over 128 bytes" else codes "not stored: corekeep store ARCHIVE FILE --exec " ++ quoted (shown name)
 
-abbrev pub stored_text : Option ℕ → BuildValue → List ℕ
-stored_text (Some seq) v = codes "stored as case " ++ (decimal seq ++ build_text v.core v.stored)
-stored_text None v = store_text v.name
+-- that which stores it by its build, if the core tells one; else that
+abbrev pub store_text : Bool → List ℕ → List ℕ
+store_text told name = if told then codes "not stored: corekeep store ARCHIVE FILE --build" else exec_text name
+
+-- the number of a case, if it is there
+abbrev pub number_text : Option ℕ → List ℕ
+number_text None = codes "?"
+number_text (Some seq) = decimal seq
+
+-- the executable of this case is used
+abbrev pub used_text : Option ℕ → List ℕ
+used_text number = codes "stored as case " ++ number_text number
+
+-- that of this case is not
+abbrev pub other_text : Option ℕ → List ℕ
+other_text number = codes "not stored, case " ++ (number_text number ++ codes " is of another build: corekeep store ARCHIVE FILE --build")
+
+abbrev pub chosen_text : List Case → List ℕ → Option (List ℕ) → Chosen → List ℕ
+chosen_text cases name core (by_build x) = used_text (stored_number cases x.path)
+chosen_text cases name core (by_path x) = used_text (stored_number cases x.path)
+chosen_text cases name core (other x) = other_text (stored_number cases x.path)
+chosen_text cases name core none = store_text (has_build core) name
+
+-- what a mapped file has of what is stored
+abbrev pub stored_text : List Case → BuildValue → List ℕ
+stored_text cases v = chosen_text cases v.name v.core v.chosen
 
 -- a mapped file
 abbrev pub file_row : List Case → ℕ → BuildAnswer → List ℕ
 file_row cases k r =
-    label_at (codes "files     ") k ++ (left_text 34 (name_text r.front.name.now) ++ (stored_text (stored_number cases r.front.name.now) (build_view r) ++ 10 ∷ []))
+    label_at (codes "files     ") k ++ (left_text 34 (name_text r.front.name.now) ++ (stored_text cases (build_view r) ++ 10 ∷ []))
 
 -- those of a core, at most 256, or why they are not shown
 abbrev pub files_text : List Case → Result (List NoteView) CoreFault → Option (List BuildAnswer) → List ℕ

@@ -5,13 +5,14 @@ ghost use Rattle.image_replies.specs.Lines.{numbered_lines};
 ghost use Rattle.journal_layout.specs.Case.{case_of};
 ghost use Rattle.script_streams.specs.Replies.{TellsText, telling};
 ghost use Rattle.case_screens.specs.Core.{notes_read};
-ghost use Rattle.case_screens.specs.Files.{build_text, store_text, exec_number, file_row, files_text, stored_number, stored_text};
+ghost use Rattle.case_screens.specs.Files.{exec_number, exec_text, file_row, files_text, has_build, number_text, other_text, store_text, stored_number, stored_text, used_text};
 ghost use Rattle.case_screens.specs.Texts.{margin, rest_after};
 
 use crate::quotes::tell_quoted;
 use crate::reason::{core_reason, missing};
 use crate::texts::{MARGIN, room_after, tell_label, tell_name, tell_refused, tell_rest_after};
-use build_replies::BuildAnswer;
+use build_ids::has_name;
+use build_replies::{BuildAnswer, ChosenFile};
 use case_tables::{case_of_name, tell_spaces};
 use image_replies::{CoreFault, CoreImage};
 use journal_layout::{Entry, Kind};
@@ -68,44 +69,87 @@ fn tell_row<O: Output>(
     tell_name(reply, name);
     tell_spaces(reply, room_after(34, name, 0));
     reply.tell(b"  ");
-    tell_stored(reply, stored_number(cases, name), file);
+    tell_stored(reply, cases, file);
     reply.tell(b"\n");
 }
 
-fn tell_stored<O: Output>(reply: &mut Reply<'_, O>, number: Option<u32>, file: &BuildAnswer<'_>)
-    ensures { TellsText (telling O.Output reply.old reply.new) (stored_text number (build_view file.now)) }
+// Tells what a file has of what is stored.
+fn tell_stored<O: Output>(reply: &mut Reply<'_, O>, cases: &[Entry], file: &BuildAnswer<'_>)
+    ensures { TellsText (telling O.Output reply.old reply.new) (stored_text (map case_of cases.now) (build_view file.now)) }
+{
+    match file.chosen {
+        ChosenFile::ByBuild(executable) => {
+            tell_used(reply, stored_number(cases, executable.path));
+        }
+        ChosenFile::ByPath(executable) => {
+            tell_used(reply, stored_number(cases, executable.path));
+        }
+        ChosenFile::Other(executable) => {
+            tell_other(reply, stored_number(cases, executable.path));
+        }
+        ChosenFile::Nothing => {
+            tell_store_text(reply, has_build(file.front.id()), file.front.name);
+        }
+    }
+}
+
+// Tells the number of a case, if it is there.
+fn tell_number<O: Output>(reply: &mut Reply<'_, O>, number: Option<u32>)
+    ensures { TellsText (telling O.Output reply.old reply.new) (number_text number) }
 {
     match number {
-        Some(number) => {
-            reply.tell(b"stored as case ");
-            reply.tell_decimal(u128::from(number));
-            reply.tell(build_words(file.front.id(), file.stored));
-        }
-        None => tell_store_text(reply, file.front.name),
+        Some(number) => reply.tell_decimal(u128::from(number)),
+        None => reply.tell(b"?"),
+    }
+}
+
+// Tells the case whose executable is used.
+fn tell_used<O: Output>(reply: &mut Reply<'_, O>, number: Option<u32>)
+    ensures { TellsText (telling O.Output reply.old reply.new) (used_text number) }
+{
+    reply.tell(b"stored as case ");
+    tell_number(reply, number);
+}
+
+// Tells the case whose executable is not used, since it is of another build.
+fn tell_other<O: Output>(reply: &mut Reply<'_, O>, number: Option<u32>)
+    ensures { TellsText (telling O.Output reply.old reply.new) (other_text number) }
+{
+    reply.tell(b"not stored, case ");
+    tell_number(reply, number);
+    reply.tell(b" is of another build: corekeep store ARCHIVE FILE --build");
+}
+
+// Whether a case can be named by the build that a core tells for a file.
+fn has_build(core: Option<&[u8]>) -> bool
+    ensures { result ≡ has_build (option_map (λ id. id.now) core.entry) }
+{
+    match core {
+        Some(id) => has_name(id),
+        None => false,
+    }
+}
+
+// Tells the command that stores a file: by its build, if it can be named so, or under its name.
+fn tell_store_text<O: Output>(reply: &mut Reply<'_, O>, has_id: bool, name: &[u8])
+    ensures { TellsText (telling O.Output reply.old reply.new) (store_text has_id name.now) }
+{
+    if has_id {
+        reply.tell(b"not stored: corekeep store ARCHIVE FILE --build");
+    } else {
+        tell_exec_text(reply, name);
     }
 }
 
 // Tells the command that stores a file under its name, if a case can have that name.
-fn tell_store_text<O: Output>(reply: &mut Reply<'_, O>, name: &[u8])
-    ensures { TellsText (telling O.Output reply.old reply.new) (store_text name.now) }
+fn tell_exec_text<O: Output>(reply: &mut Reply<'_, O>, name: &[u8])
+    ensures { TellsText (telling O.Output reply.old reply.new) (exec_text name.now) }
 {
     if name.len() > CASE_NAME {
         reply.tell(b"not stored: its name has over 128 bytes");
     } else {
         reply.tell(b"not stored: corekeep store ARCHIVE FILE --exec ");
         tell_quoted(reply, name);
-    }
-}
-
-// What is told if the build IDs say that another file ran: such a file is not used.
-fn build_words(core: Option<&[u8]>, stored: Option<&[u8]>) -> &'static [u8]
-    ensures { result.now ≡ build_text (option_map (λ id. id.now) core.entry) (option_map (λ id. id.now) stored.entry) }
-{
-    match (core, stored) {
-        (Some(core), Some(stored)) if core == stored => b"",
-        (Some(_), Some(_)) => b", another build",
-        (Some(_), None) => b", no build ID",
-        _ => b"",
     }
 }
 

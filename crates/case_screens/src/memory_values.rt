@@ -123,17 +123,27 @@ fn put_file(
     cases: &[Entry],
     row: &BuildAnswer<'_>,
 ) -> Result<(), AllocError> {
-    let (name, core) = (row.front.name, row.front.id());
+    let (name, core, stored) = (row.front.name, row.front.id(), row.chosen.id());
     put_text(alloc, map, "name", name)?;
     put(map, alloc, "core", digits_value(alloc, core)?)?;
-    put(map, alloc, "stored", digits_value(alloc, row.stored)?)?;
-    let verdict = string_value(alloc, verdict(core, row.stored))?;
+    put(map, alloc, "stored", digits_value(alloc, stored)?)?;
+    let verdict = string_value(alloc, verdict(core, stored))?;
     put(map, alloc, "verdict", verdict)?;
-    let number = match stored_number(cases, name) {
+    let how = string_value(alloc, row.chosen.how())?;
+    put(map, alloc, "how", how)?;
+    put(map, alloc, "debug", Value::Null)?;
+    put(map, alloc, "case", used_value(cases, row))
+}
+
+// The number of the case whose executable is used, or null.
+fn used_value(cases: &[Entry], row: &BuildAnswer<'_>) -> Value {
+    let Some(executable) = row.chosen.used() else {
+        return Value::Null;
+    };
+    match stored_number(cases, executable.path) {
         Some(number) => Value::from(number),
         None => Value::Null,
-    };
-    put(map, alloc, "case", number)
+    }
 }
 
 // Hexadecimal digits, or null.

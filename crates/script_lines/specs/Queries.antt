@@ -8,6 +8,8 @@ use Rattle.script_lines.specs.declared.query.Query.{Query}
 use Rattle.script_lines.specs.declared.query.Query.TheVariants.{Image, Memory, Symbol}
 use Rattle.script_lines.specs.declared.query.ImageQuery.{ImageQuery}
 use Rattle.script_lines.specs.declared.query.ImageQuery.TheVariants.{Header, Notes, Threads, Registers, Process, Signal, AuxiliaryVector, Files, Maps}
+use Rattle.script_lines.specs.declared.query.BuildQuery.{BuildQuery}
+use Rattle.script_lines.specs.declared.query.BuildQuery.TheVariants.{Compared, Used, Wanted}
 use Rattle.script_lines.specs.declared.query.MemoryQuery.{MemoryQuery}
 use Rattle.script_lines.specs.declared.query.MemoryQuery.TheVariants.{Dump, Find, Strings, Backtrace, Unwind, Frame, Builds}
 
@@ -43,8 +45,9 @@ pub data QuerySaid : Type 0 where
   ask_unwind : ℕ → QuerySaid
   -- the registers of the frame at this place among them, from 0 on, of the thread at that place
   ask_frame : ℕ → ℕ → QuerySaid
-  -- the build IDs of the files that were mapped into its memory, and of the executables
-  ask_builds : QuerySaid
+  -- the builds of the files that were mapped into its memory: the build IDs, next to those of the executables; the cases whose
+  -- executables are used; or those that no executable is used for
+  ask_builds : BuildQuery → QuerySaid
   -- the function of an executable that covers this address
   ask_symbol : ℕ → QuerySaid
 
@@ -87,6 +90,15 @@ ranged query (first ∷ []) = None
 ranged query (first ∷ length ∷ []) = asks_both query (number_of first) (number_of length)
 ranged query (first ∷ length ∷ more ∷ words) = None
 
+-- the lines that inspect builds and symbols, as below
+abbrev pub build_rows : List (List ℕ × (List (List ℕ) → Option QuerySaid))
+build_rows =
+    (codes "builds", alone (ask_builds Compared))
+    ∷ (codes "used", alone (ask_builds Used))
+    ∷ (codes "wants", alone (ask_builds Wanted))
+    ∷ (codes "symbol", numbered ask_symbol)
+    ∷ []
+
 -- the lines that inspect memory, frames and symbols, as below
 abbrev pub memory_rows : List (List ℕ × (List (List ℕ) → Option QuerySaid))
 memory_rows =
@@ -97,9 +109,7 @@ memory_rows =
     ∷ (codes "bt", numbered ask_backtrace)
     ∷ (codes "unwind", numbered ask_unwind)
     ∷ (codes "frame", ranged ask_frame)
-    ∷ (codes "builds", alone ask_builds)
-    ∷ (codes "symbol", numbered ask_symbol)
-    ∷ []
+    ∷ build_rows
 
 -- the lines that inspect: the command of each, and what may follow the number of the case
 abbrev pub query_rows : List (List ℕ × (List (List ℕ) → Option QuerySaid))
@@ -142,7 +152,7 @@ memory_query (Strings least) = ask_strings least
 memory_query (Backtrace thread) = ask_backtrace thread
 memory_query (Unwind thread) = ask_unwind thread
 memory_query (Frame thread frame) = ask_frame thread frame
-memory_query Builds = ask_builds
+memory_query (Builds asked) = ask_builds asked
 
 abbrev pub query_of : Query → QuerySaid
 query_of (Image query) = image_query query

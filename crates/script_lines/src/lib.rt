@@ -13,5 +13,5 @@ pub use command::{Command, Request, parse_line, parse_question, parse_text};
 pub use laws::every_query_can_be_said;
 pub use names::{NameWord, Needle};
 pub use process::{Process, ProcessWords};
-pub use query::{ImageQuery, MemoryQuery, Query};
+pub use query::{BuildQuery, ImageQuery, MemoryQuery, Query};
 pub use question::{Call, Question};

@@ -3,7 +3,7 @@ ghost use Rattle.std.specs.Prelude.{◌≡◌, option_map};
 ghost use Rattle.script_words.specs.WordsLeft.{words_left};
 ghost use Rattle.script_words.specs.Hex.{needle_of};
 ghost use Rattle.script_words.specs.Number.{number_of, number_within};
-ghost use Rattle.script_lines.specs.Queries.{ask_dump, ask_frame, query_rows, memory_rows, query_in, query_of, needle_bytes, alone, one_word, ranged};
+ghost use Rattle.script_lines.specs.Queries.{ask_dump, ask_frame, query_rows, memory_rows, build_rows, query_in, query_of, needle_bytes, alone, one_word, ranged};
 
 use crate::names::Needle;
 use script_words::{Words, decode_hex, parse_number, parse_number_within};
@@ -85,8 +85,19 @@ pub enum MemoryQuery {
         /// The place of the frame among the thread's frames, from 0 on.
         frame: u64,
     },
-    /// The build IDs of the files that were mapped into it, and of the executables.
-    Builds,
+    /// The builds of the files that were mapped into it.
+    Builds(BuildQuery),
+}
+
+/// What is asked of the builds of the files that were mapped into a core's memory.
+#[derive(Clone, Copy, Debug)]
+pub enum BuildQuery {
+    /// The build ID of each, and that of the executable that is stored for it.
+    Compared,
+    /// The case whose executable is used for each.
+    Used,
+    /// Those that no executable is used for, by their build IDs.
+    Wanted,
 }
 
 // The table of the lines that inspect: the command of each, and what may follow the number of the case.
@@ -142,8 +153,27 @@ fn parse_memory_query(command: &[u8], words: Words<'_>) -> Option<Query>
         }))
     } else if command == b"frame".as_slice() {
         parse_frame(words)
-    } else if command == b"builds".as_slice() {
-        alone(words, Query::Memory(MemoryQuery::Builds))
+    } else {
+        parse_build_query(command, words)
+    }
+}
+
+// The rows of the table that ask of builds and symbols.
+fn parse_build_query(command: &[u8], words: Words<'_>) -> Option<Query>
+    ensures { option_map query_of result ≡ query_in build_rows command.now (words_left words.entry) }
+{
+    if command == b"builds".as_slice() {
+        alone(
+            words,
+            Query::Memory(MemoryQuery::Builds(BuildQuery::Compared)),
+        )
+    } else if command == b"used".as_slice() {
+        alone(words, Query::Memory(MemoryQuery::Builds(BuildQuery::Used)))
+    } else if command == b"wants".as_slice() {
+        alone(
+            words,
+            Query::Memory(MemoryQuery::Builds(BuildQuery::Wanted)),
+        )
     } else if command == b"symbol".as_slice() {
         Some(Query::Symbol {
             address: parse_number_alone(words)?,

@@ -1,14 +1,21 @@
-use Rattle.std.proofs.Common.{List, Option, map, sym, ap, ◌∙◌}
+use Rattle.std.proofs.Common.{List, Some, map, sym, ap, ◌∙◌}
 use Rattle.std.specs.Option.{option_map}
 use Rattle.address_space.specs.SpaceWords.{attached_view}
-use Rattle.build_replies.specs.Builds.{NamedId, builds_answer, printed, values_of}
-use Rattle.build_replies.specs.Mapped.{told_view}
+use Rattle.build_replies.specs.Builds.{builds_answer, printed, values_of}
+use Rattle.build_replies.specs.BuildsWords.{asking_view}
+use Rattle.build_replies.specs.Mapped.{answers_view, build_view}
+use Rattle.build_replies.specs.declared.answers.BuildAnswer.{BuildAnswer}
 use Rattle.build_replies.proofs.AnswerLemmas.{refused}
 use Rattle.build_replies.proofs.builds.tell_told.Goals as goal
 
-pub returns-in-None : goal.returns-in-None
+pub returns-in-Ok-None : goal.returns-in-Ok-None
 unfolding builds_answer
-returns-in-None g c image told =
-    let xs = map attached_view c.args.stored.now in
-    let none = sym (told ∙ ap told_view c.in-None.is) in
-    (_, refused _ _ (ap (λ (o : Option (List NamedId)). printed (option_map (values_of xs) o)) none), c.tell_no.ensures)
+returns-in-Ok-None g c image told =
+    let none = ap (option_map (values_of (map attached_view c.args.stored.now))) told ∙ sym c.in-Ok-None.ensures ∙ ap answers_view c.in-Ok-None.field-0-is in
+    (_, refused _ _ (ap (printed (asking_view c.args.asked)) (sym none)), c.tell_no.ensures)
+
+pub returns-in-Ok-Some : goal.returns-in-Ok-Some
+returns-in-Ok-Some g c image told =
+    c.tell_rows.ensures image (map attached_view c.args.stored.now)
+    (ap (option_map (values_of (map attached_view c.args.stored.now))) told ∙ sym c.in-Ok-Some.ensures ∙ ap answers_view c.in-Ok-Some.field-0-is
+    ∙ ap (λ (rows : List BuildAnswer). Some (map build_view rows)) (sym c.deref.ensures.value))

@@ -1,6 +1,6 @@
 use Rattle.std.proofs.Common.{Err, ap, ◌∙◌}
 use Rattle.intake.specs.State.{ArchiveState}
-use Rattle.case_queries.specs.Asking.{files_asking}
+use Rattle.case_queries.specs.Asking.{files_asked}
 use Rattle.case_queries.specs.LeaveLaws.{leaves_then}
 use Rattle.case_queries.proofs.AgainLemmas.{stay_after}
 use Rattle.case_queries.proofs.FindAskLemmas.{reads_again}
@@ -39,7 +39,7 @@ returns-in-Ok-clause-leaves g c =
 
 pub returns-in-Err-clause-answers : goal.returns-in-Err-clause-answers
 returns-in-Err-clause-answers g c before reads =
-    (_, not_told g.D.Disk c.args.image before c.told_files.new.archive (files_asking c.args.asked) c.in-Err.fault (c.in-Err.ensures.sees before reads), found_outcome (Err c.in-Err.fault) _ c.tell_found.ensures.done, c.tell_found.ensures.tells)
+    (_, not_told g.D.Disk c.args.image before c.told_files.new.archive (files_asked c.args.asked) c.in-Err.fault (c.in-Err.ensures.sees before reads), found_outcome (Err c.in-Err.fault) _ c.tell_found.ensures.done, c.tell_found.ensures.tells)
 
 pub returns-in-Err-clause-kept : goal.returns-in-Err-clause-kept
 returns-in-Err-clause-kept g c =

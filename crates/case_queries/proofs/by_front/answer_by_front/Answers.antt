@@ -11,7 +11,7 @@ returns-in-Ok-clause-answers g c =
     let seen = rw c.front_want-want.ensures at c.in-Ok.ensures.seen in
     let told = rw c.deref.ensures.value at c.tell_front-is_done.ensures.tells in
     let done = rw c.deref.ensures.value at c.tell_front-is_done.ensures.done in (
-      reply_of (answer_of c.args.kind (image_query c.args.query.now) seen.0 []),
+      reply_of (answer_of c.args.kind (image_query c.args.query.now) seen.0 [] []),
       (Ok seen.0, c.see_front.new.archive, seen.1, image_shown g.D.Disk c.see_front.new.archive c.args.kind seen.0 c.args.query.now),
       outcome_is _ _ (done seen.0 seen.2),
       told seen.0 seen.2,

@@ -10,12 +10,12 @@ use Rattle.case_queries.proofs.by_front.tell_front.Goals as goal
 
 -- bytes that are enough answer as the image does
 same : (kind : Kind) (query : ImageQuery) (front image : List ℕ)
-    → ((b : List ℕ) (n : ℕ) → IsSoundFront (front_want kind query) (take n b) → answer_of kind (image_query query) (take n b) [] ≡ answer_of kind (image_query query) b [])
-    → IsEnough (front_want kind query) front image → answer_of kind (image_query query) front [] ≡ answer_of kind (image_query query) image []
+    → ((b : List ℕ) (n : ℕ) → IsSoundFront (front_want kind query) (take n b) → answer_of kind (image_query query) (take n b) [] [] ≡ answer_of kind (image_query query) b [] [])
+    → IsEnough (front_want kind query) front image → answer_of kind (image_query query) front [] [] ≡ answer_of kind (image_query query) image [] []
 same kind query front image law enough =
     ⊎_elim
-    (λ is. ap (λ b. answer_of kind (image_query query) b []) is)
-    (λ cut. ap (λ b. answer_of kind (image_query query) b []) cut.0 ∙ law image (length front) (subst (IsSoundFront (front_want kind query)) cut.0 cut.1))
+    (λ is. ap (λ b. answer_of kind (image_query query) b [] []) is)
+    (λ cut. ap (λ b. answer_of kind (image_query query) b [] []) cut.0 ∙ law image (length front) (subst (IsSoundFront (front_want kind query)) cut.0 cut.1))
     enough
 
 pub returns-clause-tells : goal.returns-clause-tells

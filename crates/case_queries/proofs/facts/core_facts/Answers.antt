@@ -16,8 +16,8 @@ returns-in-Ok-unwind_threads g c = λ before sees.
     let found = c.in-Ok-unwind_threads.ensures in
     let seen = found.sees before sees in
     let tells = c.requires.told.told seen.0 seen.2 in
-    let first = ap (map attached_view) c.deref.ensures.value ∙ c.in-Ok.ensures in
-    let second = ap (map attached_view) c.deref-2.ensures.value ∙ c.in-Ok.ensures in
+    let first = ap (map attached_view) c.deref.ensures.value ∙ c.in-Ok.ensures.attached in
+    let second = ap (map attached_view) c.deref-2.ensures.value ∙ c.in-Ok.ensures.attached in
     record {
       count = found.count;
       frames = subst (λ (ys : List ExecutableView). AreFramesOf g.D.Disk before o.seq o.front.now o.size told ys 0 c.in-Ok-unwind_threads.unwound.items) second (found.told before sees);
@@ -25,5 +25,5 @@ returns-in-Ok-unwind_threads g c = λ before sees.
       seen = seen.1;
       begins = seen.2.0;
       tells = tells;
-      builds = ap (λ (t : Option (List NamedId)). option_map (values_of views) t) tells ∙ ap (λ (ys : List ExecutableView). option_map (values_of ys) told) (sym first) ∙ sym c.in-Ok-told_builds.ensures;
+      builds = ap (λ (t : Option (List NamedId)). option_map (values_of views) t) tells ∙ ap (λ (ys : List ExecutableView). option_map (values_of ys) told) (sym first) ∙ sym c.in-Ok-build_answers.ensures;
     }

@@ -1,8 +1,6 @@
 use Rattle.std.proofs.Common.{◌≡◌, ◌-◌, length, ap, arith}
 use Rattle.script_streams.specs.TellLaws.{tells_then, tells_as}
-use Rattle.build_replies.specs.Mapped.{build_view}
 use Rattle.case_tables.specs.Table.{spaces}
-use Rattle.case_screens.specs.Files.{stored_text}
 use Rattle.case_screens.specs.Texts.{name_text}
 use Rattle.case_screens.proofs.files.tell_row.Goals as goal
 
@@ -11,4 +9,4 @@ returns g c =
     let room : c.room_after.result ≡ 34 - length (name_text c.args.file.now.front.name.now) = omega (arith, c.room_after.ensures) in
     tells_then c.tell_label.ensures
     (tells_then (tells_then c.tell_name.ensures (tells_then (tells_as (ap spaces room) c.tell_spaces.ensures) c.tell.ensures))
-    (tells_then (tells_as (ap (λ n. stored_text n (build_view c.args.file.now)) c.stored_number.ensures) c.tell_stored.ensures) c.tell-2.ensures))
+    (tells_then c.tell_stored.ensures c.tell-2.ensures))

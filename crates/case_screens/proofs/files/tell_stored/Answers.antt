@@ -1,18 +1,30 @@
-use Rattle.std.proofs.Common.{Bor, List, ap, sym, ◌∙◌, ℕ}
-use Rattle.std.specs.Option.{option_map}
-use Rattle.std.specs.Prelude.{decimal}
-use Rattle.script_streams.specs.TellLaws.{tells_then, tells_as}
+use Rattle.std.proofs.Common.{List, ap, map, sym, ◌∙◌, ℕ}
+use Rattle.build_replies.specs.Builds.{BuildValue}
+use Rattle.build_replies.specs.ByBuild.{Chosen}
+use Rattle.build_replies.specs.ChoosingWords.{chosen_view}
 use Rattle.build_replies.specs.Mapped.{build_view}
-use Rattle.case_screens.specs.Files.{build_text, stored_text}
+use Rattle.build_replies.specs.declared.choosing.ChosenFile.{ChosenFile}
+use Rattle.journal_layout.specs.Case.{case_of}
+use Rattle.script_streams.specs.TellLaws.{tells_as}
+use Rattle.case_screens.specs.Files.{chosen_text, has_build, other_text, store_text, used_text}
 use Rattle.case_screens.proofs.files.tell_stored.Goals as goal
 
-pub returns-in-Some : goal.returns-in-Some
-returns-in-Some g c =
-    let stored = option_map (λ (id : Bor (List ℕ)). id.now) c.args.file.now.stored in
-    tells_as (ap (λ o. stored_text o (build_view c.args.file.now)) (sym c.in-Some.is))
-    (tells_then c.tell.ensures (tells_then (tells_as (ap decimal c.from.ensures) c.tell_decimal.ensures)
-    (tells_as (c.build_words.ensures ∙ ap (λ core. build_text core stored) c.id.ensures) c.tell-in-Some.ensures)))
+pub returns-in-ByBuild : goal.returns-in-ByBuild
+returns-in-ByBuild g c =
+    let v = build_view c.args.file.now in
+    tells_as (ap used_text c.stored_number.ensures ∙ ap (λ (k : ChosenFile). chosen_text (map case_of c.args.cases.now) v.name v.core (chosen_view k)) (sym c.in-ByBuild.is)) c.tell_used.ensures
 
-pub returns-in-None : goal.returns-in-None
-returns-in-None g c =
-    tells_as (ap (λ o. stored_text o (build_view c.args.file.now)) (sym c.in-None.is)) c.tell_store_text.ensures
+pub returns-in-ByPath : goal.returns-in-ByPath
+returns-in-ByPath g c =
+    let v = build_view c.args.file.now in
+    tells_as (ap used_text c.stored_number-in-ByPath.ensures ∙ ap (λ (k : ChosenFile). chosen_text (map case_of c.args.cases.now) v.name v.core (chosen_view k)) (sym c.in-ByPath.is)) c.tell_used-in-ByPath.ensures
+
+pub returns-in-Other : goal.returns-in-Other
+returns-in-Other g c =
+    let v = build_view c.args.file.now in
+    tells_as (ap other_text c.stored_number-in-Other.ensures ∙ ap (λ (k : ChosenFile). chosen_text (map case_of c.args.cases.now) v.name v.core (chosen_view k)) (sym c.in-Other.is)) c.tell_other.ensures
+
+pub returns-in-Nothing : goal.returns-in-Nothing
+returns-in-Nothing g c =
+    let v = build_view c.args.file.now in
+    tells_as (ap (λ told. store_text told v.name) (c.has_build.ensures ∙ ap has_build c.id.ensures) ∙ ap (λ (k : ChosenFile). chosen_text (map case_of c.args.cases.now) v.name v.core (chosen_view k)) (sym c.in-Nothing.is)) c.tell_store_text.ensures

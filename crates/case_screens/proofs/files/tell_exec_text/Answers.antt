@@ -1,7 +1,7 @@
 use Rattle.std.proofs.Common.{sym, arith}
 use Rattle.script_streams.specs.TellLaws.{tells_then, tells_as}
 use Rattle.case_screens.proofs.TextLemmas.{store_some}
-use Rattle.case_screens.proofs.files.tell_store_text.Goals as goal
+use Rattle.case_screens.proofs.files.tell_exec_text.Goals as goal
 
 pub returns-else-name-gt-CASE_NAME : goal.returns-else-name-gt-CASE_NAME
 returns-else-name-gt-CASE_NAME g c =

@@ -1,0 +1,83 @@
+// Which cases are used for a core's mapped files.
+ghost use Rattle.std.specs.Prelude.{◌≡◌, find, map};
+ghost use Rattle.std.specs.List.{flat_map};
+ghost use Rattle.std.specs.Option.{option_map};
+ghost use Rattle.std.specs.Str.{bytes_eq};
+ghost use Rattle.script_streams.specs.Replies.{TellsText, telling};
+ghost use Rattle.build_replies.specs.Builds as spec;
+ghost use Rattle.build_replies.specs.BuildsWords.{numbered_view};
+ghost use Rattle.build_replies.specs.ChoosingWords.{chosen_view};
+ghost use Rattle.build_replies.specs.Mapped.{build_view};
+
+use crate::answers::BuildAnswer;
+use crate::choosing::ChosenFile;
+use script_streams::{Output, Reply};
+
+/// A case, by its number and its name.
+#[derive(Clone, Copy, Debug)]
+pub struct NumberedCase<'n> {
+    /// Its number.
+    pub number: u32,
+    /// Its name.
+    pub name: &'n [u8],
+}
+
+/// The case of that name.
+fn case_named<'c, 'n>(cases: &'c [NumberedCase<'n>], name: &[u8]) -> Option<&'c NumberedCase<'n>>
+    ensures { option_map (λ (c : _). c.now) result ≡ find (λ c. bytes_eq c.name.now name.now) cases.now }
+{
+    cases.iter().find(|case| case.name == name)
+}
+
+/// Its number.
+fn number_named(cases: &[NumberedCase<'_>], name: &[u8]) -> Option<u32>
+    ensures { result ≡ spec.number_named (map numbered_view cases.now) name.now }
+{
+    match case_named(cases, name) {
+        Some(case) => Some(case.number),
+        None => None,
+    }
+}
+
+/// The number of the case whose executable is used.
+fn case_used(cases: &[NumberedCase<'_>], chosen: ChosenFile<'_>) -> Option<u32>
+    ensures { result ≡ spec.case_used (map numbered_view cases.now) (chosen_view chosen.entry) }
+{
+    number_named(cases, chosen.used()?.path)
+}
+
+/// Tells a number, or `-`.
+fn tell_number<O: Output>(reply: &mut Reply<'_, O>, number: Option<u32>)
+    ensures { TellsText (telling O.Output reply.old reply.new) (spec.number_word number) }
+{
+    match number {
+        Some(number) => reply.tell_decimal(u128::from(number)),
+        None => reply.tell(b"-"),
+    }
+}
+
+/// Tells the line of a name.
+#[tactic(auto, unfolding(crate::specs::Builds::used_line))]
+fn tell_line<O: Output>(reply: &mut Reply<'_, O>, cases: &[NumberedCase<'_>], row: &BuildAnswer<'_>)
+    ensures { TellsText (telling O.Output reply.old reply.new) (spec.used_line (map numbered_view cases.now) (build_view row.now)) }
+{
+    reply.tell_text(row.front.name);
+    reply.tell(b" ");
+    tell_number(reply, case_used(cases, row.chosen));
+    reply.tell(b" ");
+    reply.tell(row.chosen.how());
+    reply.tell(b" -\n");
+}
+
+/// Tells a line for each name.
+pub(crate) fn tell_used<O: Output>(
+    reply: &mut Reply<'_, O>,
+    cases: &[NumberedCase<'_>],
+    rows: &[BuildAnswer<'_>],
+)
+    ensures { TellsText (telling O.Output reply.old reply.new) (flat_map (spec.used_line (map numbered_view cases.now)) (map build_view rows.now)) }
+{
+    for row in rows {
+        tell_line(reply, cases, row);
+    }
+}
