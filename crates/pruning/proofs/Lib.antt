@@ -1,0 +1,4 @@
+pub mod NumberLemmas
+pub mod BuildLemmas
+pub mod KeptLemmas
+pub mod CoreLemmas

@@ -1,0 +1,10 @@
+//! Which cases of an archive a prune drops: cores by a policy, and then the executables and debug files of builds that no core that
+//! stays needs.
+#![tactic(auto)]
+
+mod cases;
+mod dropping;
+mod kept;
+
+pub use cases::{Content, LiveCase, MappedFile};
+pub use dropping::{Pruning, prune};
