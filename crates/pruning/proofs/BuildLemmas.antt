@@ -4,7 +4,7 @@ use Rattle.std.proofs.lemmas.Bool.{false≢true}
 use Rattle.std.specs.Bool.{Decides}
 use Rattle.build_ids.specs.BuildName.{IsNameOf, build_name, debug_name}
 use Rattle.pruning.specs.Cases.{is_core, number}
-use Rattle.pruning.specs.Pruning.{ArePicked, Goes, IsOfBuild}
+use Rattle.pruning.specs.Pruning.{ArePicked, Goes}
 use Rattle.pruning.specs.declared.cases.LiveCase.{LiveCase}
 
 -- no name is of two builds

@@ -1,7 +1,7 @@
 -- What the cores that stay need, one core more.
-use Rattle.std.proofs.Common.{◌≡◌, ℕ, Bool, true, false, cond, ◌||◌, List, [], ◌∷◌, refl, sym, ap, ◌∙◌}
-use Rattle.std.specs.List.{filter, list_any}
-use Rattle.pruning.specs.Cases.{cores_that_stay, names, needs, stays}
+use Rattle.std.proofs.Common.{◌≡◌, ℕ, Bool, true, false, cond, ◌||◌, List, ◌∷◌, refl, sym, ap, ◌∙◌}
+use Rattle.std.specs.List.{list_any}
+use Rattle.pruning.specs.Cases.{cores_that_stay, stays}
 use Rattle.pruning.specs.declared.cases.LiveCase.{LiveCase}
 
 pub inserted : (t old : Bool) → cond t true old ≡ (old || t)

@@ -1,9 +1,9 @@
 -- Numbers that rise.
-use Rattle.std.proofs.Common.{◌≡◌, ◌<◌, ◌≤◌, ℕ, zero, suc, ◌+◌, Bool, true, false, not, cond, ◌||◌, ◌==◌, List, [], ◌∷◌, length, get_or, map, Option, Result, Ok, Err, MatchResult, refl, sym, ap, subst, ◌∙◌, arith, ⊎_elim}
+use Rattle.std.proofs.Common.{◌≡◌, ◌<◌, ◌≤◌, ℕ, zero, suc, ◌+◌, Bool, true, false, not, cond, ◌||◌, ◌==◌, List, [], ◌∷◌, length, get_or, map, Result, Ok, Err, MatchResult, refl, sym, ap, subst, ◌∙◌, arith, ⊎_elim}
 use Rattle.std.proofs.lemmas.Bool.{cases_lt, eq-eqb, ne_eqb}
 use Rattle.std.proofs.lemmas.List.Kept.{AllPairs-from_increasing}
 use Rattle.std.proofs.lemmas.List.Sorted.{searched}
-use Rattle.std.specs.List.{AllByRecursion, filter, list_any}
+use Rattle.std.specs.List.{AllByRecursion, filter}
 use Rattle.std.specs.List.Sorted.{IsStrictlyIncreasing, IsBinarySearchResult}
 use Rattle.std.specs.Ordering.{nat_cmp}
 use Rattle.std.specs.Result.{is_err}
@@ -57,7 +57,7 @@ kept_rises {X} f p (x ∷ xs) rise = by (p x) (kept_rises f p xs rise.1)
     by false rest = rest
 
 -- whether a number is among others
-or_true : (b : Bool) {c : Bool} → c ≡ true → (b || c) ≡ true
+pub or_true : (b : Bool) {c : Bool} → c ≡ true → (b || c) ≡ true
 or_true true e = refl
 or_true false e = e
 

@@ -1,3 +1,5 @@
 pub mod Cases
 pub mod KeptWords
+pub mod Lookups
 pub mod Pruning
+pub mod PruningLaws

@@ -1,5 +1,5 @@
 -- Which cases a prune drops.
-use Rattle.std.specs.Prelude.{◌≡◌, ◌⊎◌, ◌<◌, ℕ, Bool, true, false, List, [], ◌∷◌, ◌++◌, All}
+use Rattle.std.specs.Prelude.{◌≡◌, ◌⊎◌, ◌<◌, ℕ, Bool, false, List, [], ◌∷◌, ◌++◌, All}
 use Rattle.retention.specs.Rule.{IsDecision}
 use Rattle.retention.specs.declared.Policy.{Policy}
 use Rattle.build_ids.specs.BuildName.{IsNameOf}

@@ -5,6 +5,8 @@
 mod cases;
 mod dropping;
 mod kept;
+mod laws;
 
 pub use cases::{Content, LiveCase, MappedFile};
 pub use dropping::{Pruning, prune};
+pub use laws::{prune_changes_no_answer, prune_is_done, prunes_exactly, spares};

@@ -1,5 +1,5 @@
 use Rattle.std.proofs.Common.{◌&&◌, not, ap, sym, ◌∙◌}
-use Rattle.pruning.specs.Cases.{is_among, is_core, number}
+use Rattle.pruning.specs.Cases.{is_among, number}
 use Rattle.pruning.proofs.NumberLemmas.{not_found}
 use Rattle.pruning.proofs.kept.stays.Goals as goal
 

@@ -1,4 +1,4 @@
-use Rattle.std.proofs.Common.{true, cond, ◌||◌, ap, sym, ◌∙◌}
+use Rattle.std.proofs.Common.{true, cond, ◌||◌, ap, ◌∙◌}
 use Rattle.std.specs.Str.{bytes_eq}
 use Rattle.std.proofs.lemmas.Map.Text.{is_eq-slice_cmp}
 use Rattle.pruning.specs.KeptWords.{is_in}
