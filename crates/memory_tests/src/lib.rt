@@ -15,6 +15,8 @@ mod memory;
 #[cfg(test)]
 mod notes;
 #[cfg(test)]
+mod prunes;
+#[cfg(test)]
 mod registers;
 #[cfg(test)]
 mod shown;

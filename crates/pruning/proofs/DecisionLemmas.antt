@@ -1,5 +1,5 @@
 -- What the retention rule decides over the cores.
-use Rattle.std.proofs.Common.{◌≡◌, inl, inr, ◌<◌, ◌≤◌, ℕ, zero, suc, Bool, true, false, not, cond, ◌&&◌, ◌||◌, ◌==◌, List, [], ◌∷◌, drop, length, length-drop, map, sum_by, None, refl, sym, ap, ◌∙◌, arith, ⊎_elim}
+use Rattle.std.proofs.Common.{◌≡◌, inl, inr, ◌<◌, ◌≤◌, ℕ, zero, suc, Bool, true, false, not, cond, ◌&&◌, ◌||◌, ◌==◌, List, [], ◌∷◌, drop, length, length-drop, map, sum_by, None, refl, sym, ap, subst, ◌∙◌, arith, ⊎_elim}
 use Rattle.std.proofs.lemmas.Bool.{cases_Bool, cases_lt, eq-eqb, false≢true, ne_eqb}
 use Rattle.std.specs.List.{AllByRecursion, filter}
 use Rattle.retention.specs.Rule.{IsDecision, bytes_in, goes, holds_after, is_before, is_old, is_spare, is_within, meets, seq_of, spare_count, stays}
@@ -34,6 +34,33 @@ goes_from p (suc k) (b ∷ bs) n there = by (goes_from p (suc k) bs n) (goes_fro
     by rest fewer false true e f (inl is) = (b, inl refl, is, not_pinned b.pinned _ f)
     by rest fewer false true e f (inr too) = let r = fewer too in (r.0, inr r.1, r.2, r.3)
     by rest fewer false false e f too = let r = rest too in (r.0, inr r.1, r.2, r.3)
+
+-- the numbers that go rise, as those of all do
+all_above : (n : ℕ) (ms : List ℕ) → ((m : ℕ) → In m ms → n < m) → AllByRecursion (λ m. n < m) ms
+all_above n [] above = tt
+all_above n (m ∷ ms) above = (above m (inl refl), all_above n ms (λ k there. above k (inr there)))
+
+above_each : (n : ℕ) (b : Brief) (bs : List Brief) → AllByRecursion (λ m. n < m) (map seq_of bs) → In b bs → n < seq_of b
+above_each n b [] above there = absurd there
+above_each n b (d ∷ ds) above (inl is) = subst (λ (e : Brief). n < seq_of e) is above.0
+above_each n b (d ∷ ds) above (inr there) = above_each n b ds above.1 there
+
+gone_above : (p : Policy) (k n : ℕ) (bs : List Brief) → AllByRecursion (λ m. n < m) (map seq_of bs) → AllByRecursion (λ m. n < m) (map seq_of (goes p k bs))
+gone_above p k n bs above = all_above n (map seq_of (goes p k bs)) (λ m there. let from = goes_from p k bs m there in subst (λ (l : ℕ). n < l) from.2 (above_each n from.0 bs above from.1))
+
+pub gone_rises : (p : Policy) (k : ℕ) (bs : List Brief) → Rises (map seq_of bs) → Rises (map seq_of (goes p k bs))
+gone_rises p k [] rise = tt
+gone_rises p zero (b ∷ bs) rise = by (gone_rises p zero bs rise.1) (is_old p b)
+  where
+    by : Rises (map seq_of (goes p zero bs)) → (t : Bool) → Rises (map seq_of (cond t (b ∷ goes p zero bs) (goes p zero bs)))
+    by rest true = (gone_above p zero b.seq bs rise.0, rest)
+    by rest false = rest
+gone_rises p (suc k) (b ∷ bs) rise = by (gone_rises p (suc k) bs rise.1) (gone_rises p k bs rise.1) (is_old p b) (is_spare p b)
+  where
+    by : Rises (map seq_of (goes p (suc k) bs)) → Rises (map seq_of (goes p k bs)) → (t u : Bool) → Rises (map seq_of (cond t (b ∷ goes p (suc k) bs) (cond u (b ∷ goes p k bs) (goes p (suc k) bs))))
+    by rest fewer true u = (gone_above p (suc k) b.seq bs rise.0, rest)
+    by rest fewer false true = (gone_above p k b.seq bs rise.0, fewer)
+    by rest fewer false false = rest
 
 -- two decisions say the same of the limits
 is_met : (t : Bool) → false ≡ not t → t ≡ true
@@ -115,14 +142,11 @@ not_gone p k b bs above =
     ⊎_elim
     (λ (gone : is_among (map seq_of (goes p k bs)) b.seq ≡ true).
     let from = goes_from p k bs b.seq (among_in (map seq_of (goes p k bs)) b.seq gone) in
-    absurd (none_below b.seq from.0 bs above from.1 (sym from.2)))
+    let more = above_each b.seq from.0 bs above from.1 in
+    let same = from.2 in
+    absurd (omega (arith, more, same)))
     (λ stays. stays)
     (cases_Bool (is_among (map seq_of (goes p k bs)) b.seq))
-  where
-    none_below : (n : ℕ) (d : Brief) (ds : List Brief) → AllByRecursion (λ m. n < m) (map seq_of ds) → In d ds → n ≡ seq_of d → ⊥
-    none_below n d [] above there same = there
-    none_below n d (e ∷ es) above (inl is) same = let less = above.0 in let first = ap seq_of is in omega (arith, less, first, same)
-    none_below n d (e ∷ es) above (inr there) same = none_below n d es above.1 there same
 
 -- whether a case is kept where these numbers go
 abbrev kept : List ℕ → Brief → Bool

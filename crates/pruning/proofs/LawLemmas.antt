@@ -6,7 +6,6 @@ use Rattle.std.proofs.lemmas.List.Sums.{sum_by-append}
 use Rattle.std.specs.Bool.{Decides}
 use Rattle.std.specs.List.{count_by, filter}
 use Rattle.std.specs.List.Sorted.{IsStrictlyIncreasing}
-use Rattle.retention.proofs.RisingLemmas.{dropped_rise}
 use Rattle.retention.specs.Rule.{IsOneDecision, is_old, is_spare, seq_of, stays as stay_by_rule}
 use Rattle.retention.specs.declared.Brief.{Brief}
 use Rattle.retention.specs.declared.Policy.{Policy}
@@ -15,7 +14,7 @@ use Rattle.pruning.specs.Pruning.{ArePicked, GoesBy, IsPruning}
 use Rattle.pruning.specs.PruningLaws.{AreInOrder, PruneIsDone, PrunesExactly, Spares, left}
 use Rattle.pruning.specs.declared.cases.LiveCase.{LiveCase}
 use Rattle.pruning.proofs.CoreLemmas.{cores_in_order}
-use Rattle.pruning.proofs.DecisionLemmas.{goes_from, one_unmet, settled, stays_are, unlimited}
+use Rattle.pruning.proofs.DecisionLemmas.{goes_from, gone_rises, one_unmet, settled, stays_are, unlimited}
 use Rattle.pruning.proofs.MemberLemmas.{In, among_in, count_none, count_once, filter_twice, from_contains, in_among, in_append, in_filter, in_map, map_filter, none_there, one_case, picked_from, picked_has, picked_one, picked_rises, same_kept, to_contains}
 use Rattle.pruning.proofs.NumberLemmas.{Rises, increasing, rises}
 
@@ -90,8 +89,11 @@ module _ (policy : Policy) (cases : List LiveCase) (dropped : List ℕ) (unmet :
       let c = core_of n first in
       false≢true (sym b.3.executable ∙ ap is_core (one_case cases rise b.0 c.0 b.1 c.1 (b.2 ∙ sym c.3)) ∙ c.2)
 
-  pub cores_rise : IsStrictlyIncreasing p.cores
-  cores_rise = dropped_rise policy p.decided.count (core_briefs cases) p.cores p.decided.dropped_are (cores_in_order cases order)
+  cores_rise : Rises p.cores
+  cores_rise = subst Rises (sym p.decided.dropped_are) (gone_rises policy p.decided.count (core_briefs cases) (rises (map seq_of (core_briefs cases)) (cores_in_order cases order)))
+
+  pub cores_increase : IsStrictlyIncreasing p.cores
+  cores_increase = increasing p.cores cores_rise
 
   builds_rise : Rises p.builds
   builds_rise = picked_rises (GoesBy (cores_that_stay p.cores cases)) cases p.builds rise p.picked
@@ -102,7 +104,7 @@ module _ (policy : Policy) (cases : List LiveCase) (dropped : List ℕ) (unmet :
   pub once : (n : ℕ) → count_by (λ m. m == n) dropped ≤ 1
   once n =
       let all = ap (count_by (λ m. m == n)) p.dropped_are ∙ sum_by-append (λ m. cond (m == n) 1 0) p.cores p.builds in
-      let cores = count_once n p.cores (rises p.cores cores_rise) in
+      let cores = count_once n p.cores cores_rise in
       let builds = count_once n p.builds builds_rise in
       ⊎_elim
       (λ (there : is_among p.cores n ≡ true). let none = count_none n p.builds (apart n (among_in p.cores n there)) in omega (arith, all, cores, none))
@@ -138,7 +140,7 @@ exactly one policy cases dropped unmet order p = record {
       let builds = picked_one (GoesBy (cores_that_stay p.cores cases)) cases p.builds q.builds p.picked (subst (λ ns. ArePicked (GoesBy (cores_that_stay ns cases)) cases q.builds) (sym cores) q.picked) in
       (p.dropped_are ∙ ap (λ ns. ns ++ p.builds) cores ∙ ap (λ ns. q.cores ++ ns) builds ∙ sym q.dropped_are, one_unmet policy (core_briefs cases) p.cores q.cores unmet unmet' p.decided q.decided);
   once = once policy cases dropped unmet order p;
-  cores_rise = cores_rise policy cases dropped unmet order p;
+  cores_rise = cores_increase policy cases dropped unmet order p;
   builds_rise = builds_increase policy cases dropped unmet order p;
   cores = λ decided unmet' d c there core.
       core_among policy cases dropped unmet order p c (from_contains cases c there) core ∙ ap (λ ns. is_among ns (number c)) (one policy (core_briefs cases) p.cores decided unmet unmet' p.decided d);
