@@ -6,3 +6,4 @@ pub mod MemberLemmas
 pub mod DecisionLemmas
 pub mod LawLemmas
 pub mod LookupLemmas
+pub mod FileLemmas

@@ -1,11 +1,11 @@
 -- What holds of each prune.
 use Rattle.std.specs.Prelude.{◌≡◌, ◌⊎◌, ◌≤◌, ℕ, Bool, true, false, not, ◌==◌, List, [], None, map, count_by, Contains}
 use Rattle.std.specs.Bool.{Decides}
-use Rattle.std.specs.List.{filter}
+use Rattle.std.specs.List.{AllZip, filter}
 use Rattle.std.specs.List.Sorted.{IsStrictlyIncreasing}
 use Rattle.retention.specs.Rule.{IsDecision}
 use Rattle.retention.specs.declared.Policy.{Policy}
-use Rattle.pruning.specs.Cases.{core_briefs, cores_that_stay, is_among, is_core, mapped_by, number}
+use Rattle.pruning.specs.Cases.{core_briefs, cores_that_stay, is_among, is_core, mapped_by, names, needs, number}
 use Rattle.pruning.specs.Lookups.{IsLookedUp, chosen, debug_file, stored_as}
 use Rattle.pruning.specs.Pruning.{GoesBy, IsOfBuild, IsPruning}
 use Rattle.pruning.specs.declared.cases.LiveCase.{LiveCase}
@@ -68,3 +68,16 @@ pub record IsAsBefore (cases rest : List LiveCase) (c : LiveCase) : Type 0 where
 abbrev pub PruneChangesNoAnswer : Type 0
 PruneChangesNoAnswer = (policy : Policy) (cases : List LiveCase) (dropped : List ℕ) (unmet : Bool) → AreInOrder cases → IsPruning policy cases dropped unmet
     → (c : LiveCase) → Contains (left dropped cases) c → is_core c ≡ true → IsAsBefore cases (left dropped cases) c
+
+-- two views of one case: they are the same, but for the files of a core of these numbers
+pub record IsSameCase (gone : List ℕ) (c d : LiveCase) : Type 0 where
+  pub name : c.name.now ≡ d.name.now
+  pub brief : c.brief ≡ d.brief
+  pub kind : is_core c ≡ is_core d
+  pub needs : is_among gone (number c) ≡ false → (id : List ℕ) → needs id c ≡ needs id d
+  pub names : is_among gone (number c) ≡ false → (name : List ℕ) → names name c ≡ names name d
+
+-- What cores that go map does not count: a prune of some cases is one of the same cases in which they map other files.
+abbrev pub CoresThatGoNeedNoFiles : Type 0
+CoresThatGoNeedNoFiles = (policy : Policy) (cases : List LiveCase) (dropped : List ℕ) (unmet : Bool) → AreInOrder cases → IsPruning policy cases dropped unmet
+    → (others : List LiveCase) → AllZip (IsSameCase dropped) cases others → IsPruning policy others dropped unmet

@@ -1,5 +1,5 @@
 //! What holds of each prune. These functions do nothing.
-ghost use Rattle.pruning.specs.PruningLaws.{PruneChangesNoAnswer, PruneIsDone, PrunesExactly, Spares};
+ghost use Rattle.pruning.specs.PruningLaws.{CoresThatGoNeedNoFiles, PruneChangesNoAnswer, PruneIsDone, PrunesExactly, Spares};
 
 use build_ids::a_name_is_of_one_build;
 use retention::{a_decision_is_one, what_goes_and_what_stays};
@@ -33,3 +33,8 @@ pub fn prune_changes_no_answer()
 {
     a_name_is_of_one_build();
 }
+
+/// What the cores that go map does not count: the prune is the same whichever files they are said to map.
+pub fn cores_that_go_need_no_files()
+    ensures { CoresThatGoNeedNoFiles }
+{}

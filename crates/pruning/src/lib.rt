@@ -9,4 +9,6 @@ mod laws;
 
 pub use cases::{Content, LiveCase, MappedFile};
 pub use dropping::{Pruning, prune};
-pub use laws::{prune_changes_no_answer, prune_is_done, prunes_exactly, spares};
+pub use laws::{
+    cores_that_go_need_no_files, prune_changes_no_answer, prune_is_done, prunes_exactly, spares,
+};
