@@ -2,7 +2,7 @@
 use crate::line::LineHelp;
 
 /// The help of each line.
-pub static LINES: [LineHelp; 29] = [
+pub static LINES: [LineHelp; 31] = [
     LineHelp {
         name: "list",
         usage: "list",
@@ -193,6 +193,22 @@ pub static LINES: [LineHelp; 29] = [
         does: "whether the stored executables are those that were mapped, by their build IDs",
         reply: "NAME CORE STORED VERDICT for each mapped file",
         example: "builds 3",
+        reasons: "Stopped, NoCase, NotCore, OutOfMemory, Disk, a field of the headers, notes or typed notes, Missing",
+    },
+    LineHelp {
+        name: "used",
+        usage: "used N",
+        does: "which stored executable is used for each mapped file",
+        reply: "NAME CASE HOW DEBUG for each mapped file",
+        example: "used 3",
+        reasons: "Stopped, NoCase, NotCore, OutOfMemory, Disk, a field of the headers, notes or typed notes, Missing",
+    },
+    LineHelp {
+        name: "wants",
+        usage: "wants N",
+        does: "the builds to store: those of mapped files for which no executable is used",
+        reply: "NAME ID for each build",
+        example: "wants 3",
         reasons: "Stopped, NoCase, NotCore, OutOfMemory, Disk, a field of the headers, notes or typed notes, Missing",
     },
     LineHelp {

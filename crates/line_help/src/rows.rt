@@ -64,7 +64,7 @@ static IMAGE_ROWS: [LineRows; 9] = [
 ];
 
 /// The same of the lines that ask memory, frames and symbols.
-static MEMORY_ROWS: [LineRows; 8] = [
+static MEMORY_ROWS: [LineRows; 10] = [
     LineRows {
         name: "dump",
         rows: &[
@@ -107,6 +107,14 @@ static MEMORY_ROWS: [LineRows; 8] = [
     LineRows {
         name: "builds",
         rows: &["<name:text> <core:digits> <stored:digits> <verdict>"],
+    },
+    LineRows {
+        name: "used",
+        rows: &["<name:text> <case> <how> <debug>"],
+    },
+    LineRows {
+        name: "wants",
+        rows: &["<name:text> <id:digits>"],
     },
     LineRows {
         name: "symbol",

@@ -37,9 +37,11 @@ fn told(
     image[SECTION_SIZE] = size;
     image[ID_SIZE] = count;
     for (place, value) in changes {
-        image[*place] = *value;
+        if let Some(byte) = image.get_mut(*place) {
+            *byte = *value;
+        }
     }
-    image.extend_from_slice(&ID[..usize::from(count)])?;
+    image.extend_from_slice(&ID[..usize::from(count).min(ID.len())])?;
     let long = match told_name(debug, &image) {
         Some(name) => name.len(),
         None => 0,
