@@ -1,9 +1,12 @@
 -- What is listed of the cases of an archive.
-use Rattle.std.specs.Prelude.{◌≡◌, ◌==◌, ℕ, Bool, true, false, not, List, [], ◌∷◌, ◌++◌, length, Option, Some, Result, Ok, Err, IfOk}
+use Rattle.std.specs.Prelude.{◌≡◌, ◌==◌, ℕ, Bool, true, false, not, List, [], ◌∷◌, ◌++◌, length, Option, None, Some, Result, Ok, Err, IfOk}
 use Rattle.std.specs.Io.KnownBytes.{Appends}
+use Rattle.std.specs.Option.{option_copied}
 use Rattle.archive_files.specs.declared.failures.Failure.{Failure}
 use Rattle.archive_files.specs.declared.failures.Failure.TheVariants.{Refused}
 use Rattle.archive_files.specs.declared.failures.Refusal.TheVariants.{Open}
+use Rattle.case_listing.specs.declared.listing.ListWords.{ListWords}
+use Rattle.case_tables.specs.Filters.{SaysTime}
 use Rattle.case_tables.specs.Json.{cases_json}
 use Rattle.case_tables.specs.Table.{list_table}
 use Rattle.case_tables.specs.Wanted.{chosen}
@@ -34,3 +37,19 @@ ListsBy is_json wanted before after (Err (fault, d)) r = (r ≡ Err (Refused (Op
 abbrev pub ListsOn : {D : Type 0} → disk.Ghosts D → Bool → Wanted → Option (List ℕ) → Option (List ℕ) → D → Result Bool Failure → Type 0
 ListsOn {D} g is_json wanted before after before_disk r =
     (opened : Result (Parts D) (OpenFault × D)) × OpenCall g 0 before_disk opened × ListsBy is_json wanted before after opened r
+
+-- what the text of a filter says is a time, if there is one
+abbrev pub IsTimeSaid : Option ℕ → Option (List ℕ) → Option ℕ → Type 0
+IsTimeSaid now None time = time ≡ None
+IsTimeSaid now (Some text) None = ⊥
+IsTimeSaid now (Some text) (Some time) = SaysTime now text (Some time)
+
+-- a filter without its times
+abbrev pub untimed : Wanted → Wanted
+untimed w = record w { since = None; until = None }
+
+-- What `list` wants at this time: each of its times is that of its own text, and all else is as the words have it.
+pub record IsWantedAt (now : Option ℕ) (words : ListWords) (wanted : Wanted) : Type 0 where
+  pub since : IsTimeSaid now (option_copied words.since) wanted.since
+  pub until : IsTimeSaid now (option_copied words.until) wanted.until
+  pub others : untimed wanted ≡ untimed words.wanted

@@ -1,8 +1,8 @@
 // Cases as people name them, where a line of a script has their number.
-ghost use Rattle.std.specs.Prelude.{◌≡◌, false};
+ghost use Rattle.std.specs.Prelude.{◌≡◌, IfOk, false, map};
 ghost use Rattle.case_tables.specs.Named.{named_number};
 ghost use Rattle.intake.specs.Parts.{state_of};
-ghost use Rattle.case_listing.specs.Naming.{NamesOn, number_found};
+ghost use Rattle.case_listing.specs.Naming.{AsksWith, NamesCase, NamesOn, number_found};
 
 use archive_files::{ArchivePath, Failure, Refusal, ask, extract, take_look};
 use arrayvec::ArrayVec;
@@ -34,18 +34,30 @@ fn is_number(word: &str) -> bool {
 /// # Errors
 ///
 /// `AllocError` if there is no memory for the line.
-pub fn named_question(alloc: Global, words: &[&str]) -> Result<Option<Question>, AllocError> {
+pub fn named_question(alloc: Global, words: &[&str]) -> Result<Option<Question>, AllocError>
+    ensures named { IfOk result (NamesCase (map (λ word. word.now) words.now)) }
+{
     match words.get(1) {
         Some(word) if !is_number(word) => numbered(alloc, words, "1"),
         _ => Ok(None),
     }
 }
 
-// What the line of these words asks with this number for the case.
-fn numbered(alloc: Global, words: &[&str], number: &str) -> Result<Option<Question>, AllocError> {
+// What the line of these words asks with this number for the case, which is the second word. Other words stay, even if they have its text.
+fn numbered(alloc: Global, words: &[&str], number: &str) -> Result<Option<Question>, AllocError>
+    ensures with_second { IfOk result (AsksWith number.now (map (λ word. word.now) words.now)) }
+{
+    let Some((first, rest)) = words.split_first() else {
+        return Ok(None);
+    };
+    let Some((_, others)) = rest.split_first() else {
+        return Ok(None);
+    };
     let mut line = Vec::new(alloc);
-    for (index, word) in words.iter().enumerate() {
-        line.push(if index == 1 { number } else { *word })?;
+    line.push(*first)?;
+    line.push(number)?;
+    for word in others {
+        line.push(*word)?;
     }
     Ok(parse_question(&line_of(alloc, &line)?))
 }

@@ -1,11 +1,12 @@
 // `list`: the cases of an archive, for people or as JSON.
 ghost use Rattle.std.specs.Prelude.{◌≡◌, ◌==◌, ◌++◌, ◌∷◌, [], IfOk, OnOk, false, length, map, not, true};
 ghost use Rattle.std.specs.Io.KnownBytes.{Appends};
+ghost use Rattle.std.specs.Option.{option_copied};
 ghost use Rattle.case_tables.specs.Table.{list_table};
 ghost use Rattle.case_tables.specs.Wanted.{chosen};
 ghost use Rattle.intake.specs.Parts.{state_of};
 ghost use Rattle.journal_layout.specs.Case.{case_of};
-ghost use Rattle.case_listing.specs.Listing.{Lists, ListsOn, TellsCases};
+ghost use Rattle.case_listing.specs.Listing.{IsTimeSaid, IsWantedAt, Lists, ListsOn, TellsCases};
 
 use archive_files::{ArchivePath, Failure, Refusal, take_look};
 use case_tables::{Wanted, list_json, read_time, tell_list};
@@ -48,7 +49,9 @@ impl<'a> ListWords<'a> {
     }
 
     // What is wanted, at this time.
-    fn wanted_at(&self, now: Option<u64>) -> Result<Wanted<'a>, Refusal> {
+    fn wanted_at(&self, now: Option<u64>) -> Result<Wanted<'a>, Refusal>
+        ensures { IfOk result (IsWantedAt now self.now) }
+    {
         let mut wanted = self.wanted;
         wanted.since = time_said(self.since, now)?;
         wanted.until = time_said(self.until, now)?;
@@ -56,7 +59,9 @@ impl<'a> ListWords<'a> {
     }
 }
 
-fn time_said(text: Option<&str>, now: Option<u64>) -> Result<Option<u64>, Refusal> {
+fn time_said(text: Option<&str>, now: Option<u64>) -> Result<Option<u64>, Refusal>
+    ensures { IfOk result (IsTimeSaid now (option_copied text.entry)) }
+{
     let Some(text) = text else {
         return Ok(None);
     };
