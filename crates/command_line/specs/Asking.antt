@@ -7,6 +7,7 @@ use Rattle.archive_files.specs.declared.copies.CopyWords.{CopyWords}
 use Rattle.salvage.specs.declared.mending.ShapeWish.{ShapeWish}
 use Rattle.archive_files.specs.declared.failures.Refusal.{Refusal}
 use Rattle.case_listing.specs.Foreseeing.{IsPolicyOf}
+use Rattle.case_tables.specs.Filters.{SaysSignal}
 use Rattle.case_listing.specs.declared.listing.ListWords.{ListWords}
 use Rattle.archive_files.specs.declared.failures.Refusal.TheVariants.{LineTooLong, NoLine}
 use Rattle.command_words.specs.Lines.{joined}
@@ -130,11 +131,11 @@ IsKind (Some text) None = ⊥
 IsKind (Some text) (Some Core) = text ≡ codes "core"
 IsKind (Some text) (Some Exec) = text ≡ codes "exec"
 
--- `--signal`: there is a signal exactly if it is there. Which one is what the text says of it.
+-- `--signal`: there is a signal exactly if it is there, and it is the one that the text says.
 abbrev pub IsThereWith : Option (List ℕ) → Option ℕ → Type 0
 IsThereWith None signal = signal ≡ None
 IsThereWith (Some text) None = ⊥
-IsThereWith (Some text) (Some signal) = Unit {0}
+IsThereWith (Some text) (Some signal) = SaysSignal text (Some signal)
 
 -- Which cases `list` is to show, each fact under its own name. The times are read later, once the clock was asked.
 pub record IsListed (given : Given) (words : ListWords) : Type 0 where
