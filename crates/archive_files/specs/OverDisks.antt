@@ -97,6 +97,17 @@ sparing request = record request { policy = None; options = record request.optio
 abbrev pub is_too_long : ℕ → StoreRequest → Bool
 is_too_long size request = is_none request.options.cut && nat_lt request.limit size
 
+-- The request where so many bytes come first, or none that can be read: no case goes before a stream that can't be read, or is over the
+-- limit.
+abbrev pub fitted_by : Option ℕ → StoreRequest → StoreRequest
+fitted_by None request = record request { policy = None }
+fitted_by (Some size) request = if is_too_long size request then record request { policy = None } else request
+
+-- It is that by the bytes that the file begins with, unless no case goes anyway.
+abbrev pub IsFittedBy : (Option ℕ → Type 0) → StoreRequest → StoreRequest → Type 0
+IsFittedBy begins request fitted =
+    ((request.policy ≡ None) × (fitted ≡ request)) ⊎ ((first : Option ℕ) × begins first × (fitted ≡ fitted_by first request))
+
 -- so many bytes are more than a bound, if there is one
 abbrev pub exceeds : ℕ → Option ℕ → Bool
 exceeds size (Some most) = nat_lt most size

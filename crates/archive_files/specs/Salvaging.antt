@@ -1,18 +1,21 @@
 -- The cases of an archive whose opening is refused, copied onto a new disk, and how that is told.
-use Rattle.std.specs.Prelude.{◌≡◌, ◌⊎◌, ℕ, Bool, true, false, List, length, Some, Result, Ok, Err, IsTrue}
+use Rattle.std.specs.Prelude.{◌≡◌, ◌⊎◌, ℕ, Bool, true, false, List, length, Option, None, Some, Result, Ok, Err, IsTrue}
+use Rattle.std.specs.Option.{unwrap_or}
 use Rattle.archive_care.specs.declared.copying.CopyWish.{CopyWish}
 use Rattle.archive_care.specs.declared.faults.CopyFault.{CopyFault}
 use Rattle.disk_model.specs.declared.disk.Disk as disk
 use Rattle.salvage.specs.Copying.{CopiesAs, found_bytes}
 use Rattle.salvage.specs.Mending.{IsMend, IsSureMend, MendsArchive, restored}
-use Rattle.salvage.specs.Readings.{SeesCases}
+use Rattle.salvage.specs.Readings.{FindsCases, SeesCases, first_fault}
 use Rattle.salvage.specs.Told.{IsAll, TellsCases}
 use Rattle.salvage.specs.declared.cases_found.Found.{Found}
 use Rattle.salvage.specs.declared.mending.Mended.{Mended}
+use Rattle.salvage.specs.declared.mending.ShapeWish.{ShapeWish}
 use Rattle.salvage.specs.declared.source.Source as source
 use Rattle.inspector_cli.specs.declared.session.SessionFault.TheVariants.{WriteFailed}
+use Rattle.journal_layout.specs.declared.faults.OpenFault.{OpenFault}
 use Rattle.script_streams.specs.declared.streams.Output as output
-use Rattle.archive_files.specs.Copying.{copy_told}
+use Rattle.archive_files.specs.Copying.{copy_told, larger_wish}
 use Rattle.archive_files.specs.declared.failures.Failure.{Failure}
 use Rattle.archive_files.specs.declared.failures.Failure.TheVariants.{Refused, Faulted, Told}
 use Rattle.archive_files.specs.declared.failures.Refusal.{Refusal}
@@ -24,9 +27,38 @@ SalvagesOnto g h s found wish onto r onto' =
     × CopiesAs h (g.is_honest s) (found_bytes found (g.seen s)) wish onto onto' done
     × (r ≡ copy_told done)
 
--- The cases that were found are copied onto a new disk.
-abbrev pub IsSalvaged : {S N : Type 0} → source.Ghosts S → disk.Ghosts N → S → Found → Type 0
-IsSalvaged {N = N} g h s found = (wish : CopyWish) × (onto onto' : N) × SalvagesOnto g h s found wish onto (Ok tt) onto'
+-- The cases that were found are copied onto a new disk, as a wish says.
+abbrev pub IsSalvagedBy : {S N : Type 0} → source.Ghosts S → disk.Ghosts N → S → Found → CopyWish → Type 0
+IsSalvagedBy {N = N} g h s found wish = (onto onto' : N) × SalvagesOnto g h s found wish onto (Ok tt) onto'
+
+-- What the new archive is to be: of the shape that was found, but for what is asked for; of version 1.
+abbrev pub wish_for : Found → ShapeWish → CopyWish
+wish_for f asked = record {
+  shape = record {
+    half_blocks = unwrap_or asked.half_blocks f.first.standing.shape.half_blocks;
+    data_blocks = unwrap_or asked.data_blocks f.first.standing.shape.data_blocks;
+  };
+  keeps_labels = false;
+}
+
+-- It is that, or with halves of one block more.
+abbrev pub IsWishFor : Found → ShapeWish → CopyWish → Type 0
+IsWishFor f asked wish =
+    (wish ≡ wish_for f asked) ⊎ ((refusal : Refusal) × (larger_wish asked.half_blocks (wish_for f asked) refusal ≡ Some wish))
+
+-- The cases that were found are copied onto such a new disk.
+abbrev pub IsSalvaged : {S N : Type 0} → source.Ghosts S → disk.Ghosts N → S → Found → ShapeWish → Type 0
+IsSalvaged g h s found asked = (wish : CopyWish) × IsWishFor found asked wish × IsSalvagedBy g h s found wish
+
+-- the first fault of what was found; none, if nothing was
+abbrev pub fault_of : Result Found OpenFault → Option OpenFault
+fault_of (Ok f) = first_fault f
+fault_of (Err fault) = None
+
+-- The first fault is that of the cases that are found in an archive.
+abbrev pub IsFaultIn : {S : Type 0} → source.Ghosts S → S → Option OpenFault → Type 0
+IsFaultIn g s fault =
+    (found : Result Found OpenFault) × (IsTrue (g.is_honest s) → FindsCases (g.seen s) found) × (fault ≡ fault_of found)
 
 -- The cases of an archive are found: in its bytes, or in these with what was mended of them. What was mended says of what length the file
 -- is, and that it is the archive's without a doubt only if that is so.

@@ -3,7 +3,7 @@ ghost use Rattle.std.specs.Prelude.{◌≡◌, ◌⊎◌, ◌^◌, ◌<◌, [], 
 ghost use Rattle.disk_model.specs.Calls.{read};
 ghost use Rattle.std.proofs.lemmas.Bool.{false≢true};
 ghost use Rattle.salvage.specs.Readings.{FoundWithin};
-ghost use Rattle.archive_files.specs.Salvaging.{IsRefusedAside, IsSalvaged, Salvages, SalvagesOnto, TellsFound, TellsSalvage};
+ghost use Rattle.archive_files.specs.Salvaging.{IsFaultIn, IsRefusedAside, IsSalvaged, IsSalvagedBy, Salvages, SalvagesOnto, TellsFound, TellsSalvage};
 ghost use Rattle.whole_files.specs.Whole.{IsWhole};
 
 use crate::archive_path::ArchivePath;
@@ -183,8 +183,17 @@ pub fn fault_found<R: AllocGlobal + Files<File = File> + Clock, W: Onlooker>(
     onlooker: &mut W,
 ) -> Option<OpenFault> {
     let source = open_source(rt, place.at_once(), onlooker).ok()?;
-    let found = find_cases(rt.alloc(), &source).ok()?;
-    found.fault()
+    fault_in(rt.alloc(), &source)
+}
+
+// The same of the archive that a source gives.
+fn fault_in<S: Source>(alloc: Global, source: &S) -> Option<OpenFault>
+    ensures found { IsFaultIn S.Source source.now result }
+{
+    match find_cases(alloc, source) {
+        Ok(found) => found.fault(),
+        Err(_) => None,
+    }
 }
 
 fn open_source<R: AllocGlobal + Files<File = File> + Clock, W: Onlooker>(
@@ -208,7 +217,7 @@ fn put_cases<'a, R: Files<File = File>, S: Source, W: Onlooker>(
 ) -> Result<(), Refusal>
     requires { FoundWithin (S.size source.now) found.now }
     ensures whole { OnOk result (IsWhole false (⟦<PartFile<'a, R> as NewFile>⟧.facts file.new)) }
-    ensures salvaged { OnOk result (IsSalvaged S.Source ⟦<FileDisk as Disk>⟧ source.now found.now) }
+    ensures salvaged { OnOk result (IsSalvaged S.Source ⟦<FileDisk as Disk>⟧ source.now found.now asked) }
 {
     let wish = CopyWish {
         shape: Shape {
@@ -237,7 +246,7 @@ fn put_wished<'a, R: Files<File = File>, S: Source, W: Onlooker>(
 ) -> Result<(), Refusal>
     requires { FoundWithin (S.size source.now) found.now }
     ensures whole { OnOk result (IsWhole false (⟦<PartFile<'a, R> as NewFile>⟧.facts file.new)) }
-    ensures salvaged { OnOk result (IsSalvaged S.Source ⟦<FileDisk as Disk>⟧ source.now found.now) }
+    ensures salvaged { OnOk result (IsSalvagedBy S.Source ⟦<FileDisk as Disk>⟧ source.now found.now wish) }
 {
     clear(file).map_err(|fault| Refusal::File(FileWord::New, fault))?;
     let onto = make_file(alloc, file, wish.shape.length()?, false, onlooker)?;

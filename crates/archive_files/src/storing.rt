@@ -1,5 +1,5 @@
 // What `store` does over the archive on a disk.
-ghost use Rattle.std.specs.Prelude.{◌≡◌, None, false, is_some};
+ghost use Rattle.std.specs.Prelude.{◌≡◌, ℕ, List, None, Option, false, is_some};
 ghost use Rattle.std.specs.Option.{option_map};
 ghost use Rattle.std.specs.Io.KnownBytes.{Keeps};
 ghost use Rattle.script_lines.specs.Said.{said};
@@ -7,7 +7,7 @@ ghost use Rattle.stream_names.specs.Commands.{stream_found};
 ghost use Rattle.inspector_cli.specs.Session.{streams_of};
 ghost use Rattle.inspector_cli.specs.Storing.{line_stream, options_asked};
 ghost use Rattle.script_streams.specs.Replies.{TellsText, telling};
-ghost use Rattle.archive_files.specs.OverDisks.{StoresOnDisk, StoresFile, IsFitted, is_refused, is_too_long, name_found, reason_found, sparing, sparing_for, within_limit};
+ghost use Rattle.archive_files.specs.OverDisks.{StoresOnDisk, StoresFile, IsFitted, IsFittedBy, is_refused, is_too_long, name_found, reason_found, sparing, sparing_for, within_limit};
 ghost use Rattle.archive_files.specs.Telling.{IsKeptAs};
 
 use crate::collected::Collected;
@@ -164,14 +164,49 @@ impl StoreRequest {
     }
 
     // Nothing is retired where the first bytes of the file can't be read, or are more than an image may have and are not to be cut.
-    fn fitted<I: BufRead>(self, file: &mut I) -> Self
+    fn fitted<F: FirstBytes>(self, file: &mut F) -> Self
         ensures fitted { IsFitted self result }
-        ensures same { Keeps (I.remaining file.old) (I.remaining file.new) }
+        ensures by { IsFittedBy (F.FirstBytes.begins file.old) self result }
+        ensures same { Keeps (F.FirstBytes.left file.old) (F.FirstBytes.left file.new) }
     {
-        if self.policy.is_none() || begins_well(&self, file) {
-            self
-        } else {
+        if self.policy.is_none() {
+            return self;
+        }
+        let Some(size) = file.first() else {
+            return self.without_retiring();
+        };
+        if self.is_too_long(size) {
             self.without_retiring()
+        } else {
+            self
+        }
+    }
+}
+
+// A file whose first bytes are looked at. What looks at them is generic in it, so that it decides by nothing else, and its clauses say so.
+trait FirstBytes {
+    // Whether so many bytes may come first, or none that can be read.
+    ghost begins: { Self → Option ℕ → Type 0 };
+
+    // The bytes that are left, if they are known.
+    ghost left: { Self → Option (List ℕ) };
+
+    // How many bytes come first, if they can be read.
+    fn first(&mut self) -> Option<u64>
+        ensures begins { begins self.old result }
+        ensures same { Keeps (left self.old) (left self.new) };
+}
+
+// A reader may begin in any way.
+impl<I: BufRead> FirstBytes for I {
+    ghost begins = { λ file first. Unit {0} };
+
+    ghost left = { λ file. I.remaining file };
+
+    fn first(&mut self) -> Option<u64> {
+        match self.fill_buf() {
+            Ok(first) => Some(first.len() as u64),
+            Err(_) => None,
         }
     }
 }
@@ -188,16 +223,6 @@ fn within_limit(
     match (found, options.length) {
         (Ok(_), Some(length)) if options.cut.is_none() && length > limit => Err(b"TooLong"),
         (found, _) => found,
-    }
-}
-
-// Whether a reader's first bytes can be read, and are no more than an image may have, or may be cut.
-fn begins_well<I: BufRead>(request: &StoreRequest, input: &mut I) -> bool
-    ensures { Keeps (I.remaining input.old) (I.remaining input.new) }
-{
-    match input.fill_buf() {
-        Ok(first) => !request.is_too_long(first.len() as u64),
-        Err(_) => false,
     }
 }
 

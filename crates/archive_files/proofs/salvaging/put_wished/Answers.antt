@@ -6,4 +6,4 @@ pub returns-clause-salvaged : goal.returns-clause-salvaged
 returns-clause-salvaged g c =
     let salvaged = c.salvage_onto-onto.ensures in
     in_any_case c.map_err-2.result
-    (c.args.wish, c.in_ok-onto.onto, c.salvage_onto-onto.result.1, (salvaged.0, salvaged.1, sym c.in_ok-settle_made.ensures.done ∙ salvaged.2))
+    (c.in_ok-onto.onto, c.salvage_onto-onto.result.1, (salvaged.0, salvaged.1, sym c.in_ok-settle_made.ensures.done ∙ salvaged.2))
