@@ -1,6 +1,7 @@
 -- What a template of these bytes names.
 use Rattle.std.proofs.Common.{◌≡◌, Bool, false, List, ℕ, Option, None, Some, [], Result, Ok, Err, codes, refl, sym, ap, ◌∙◌, subst}
 use Rattle.std.specs.Option.{option_copied}
+use Rattle.std.specs.declared.time.Duration.{Duration}
 use Rattle.archive_files.specs.OverDisks.{reason_found}
 use Rattle.archive_files.specs.declared.storing.StoreRequest.{StoreRequest}
 use Rattle.handler_config.specs.declared.config.Config.{Config}
@@ -40,10 +41,10 @@ plain_if_refused (Ok stream) template reason e = absurd (is_none_of reason e)
 plain_if_refused (Err why) template reason e = refl
 
 -- a core whose stream is refused is named by the plain template
-pub plain_named : (config : Config) (begin : List ℕ) (length : Option ℕ) (template : List ℕ) (request : StoreRequest) (reason : List ℕ)
-    → template ≡ template_of (option_copied config.template) → AsksBy config begin length template request → Some reason ≡ reason_found (stream_found request.found)
+pub plain_named : {E : Type 0} (gives : Result Duration E → Type 0) (config : Config) (begin : List ℕ) (length : Option ℕ) (template : List ℕ) (request : StoreRequest) (reason : List ℕ)
+    → template ≡ template_of (option_copied config.template) → AsksBy gives config begin length template request → Some reason ≡ reason_found (stream_found request.found)
     → naming_template config (said begin) ≡ codes "core.%u.%p.%t"
-plain_named config begin length template request reason taken asked e =
+plain_named gives config begin length template request reason taken asked e =
     let by : List ℕ → Result StreamFacts (List ℕ) = λ t. line_stream (named_by t config.uses_pid) (said begin) in
     let found : stream_found request.found ≡ by (template_of (option_copied config.template)) = asked.3.found ∙ ap by taken in
     plain_if_refused (by (template_of (option_copied config.template))) (template_of (option_copied config.template)) reason (e ∙ ap reason_found found)

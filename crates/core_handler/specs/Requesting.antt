@@ -1,6 +1,8 @@
 -- What the kernel's handler asks for, by its configuration and by the words that the kernel gives it.
-use Rattle.std.specs.Prelude.{◌≡◌, ℕ, ◌-◌, ◌^◌, Bool, true, false, ◌&&◌, nat_lt, List, Option, None, Some, Result, Ok, Err, codes, if◌then◌else◌}
+use Rattle.std.specs.Prelude.{◌≡◌, ℕ, ◌-◌, ◌/◌, ◌^◌, Bool, true, false, ◌&&◌, nat_lt, List, Option, None, Some, Result, Ok, Err, codes, if◌then◌else◌}
+use Rattle.std.specs.Duration.{as_nanos}
 use Rattle.std.specs.Option.{option_copied, unwrap_or}
+use Rattle.std.specs.declared.time.Duration.{Duration}
 use Rattle.arrayvec.specs.ArrayVec.{ArrayVec}
 use Rattle.archive_files.specs.declared.storing.StoreRequest.{StoreRequest}
 use Rattle.handler_config.specs.declared.config.Config.{Config}
@@ -18,6 +20,16 @@ use Rattle.script_lines.specs.Said.{Said, said}
 use Rattle.stream_names.specs.Commands.{stream_found}
 use Rattle.core_handler.specs.Fronts.{named_by, program_front}
 use Rattle.core_handler.specs.declared.handling.HandleWords.{HandleWords}
+
+-- what a clock gave, in whole seconds since 1970
+abbrev pub IsTimeRead : {E : Type 0} → Result Duration E → Option ℕ → Type 0
+IsTimeRead (Ok time) now = now ≡ Some (as_nanos time / 1_000_000_000)
+IsTimeRead (Err fault) now = now ≡ None
+
+-- The time that a configuration with this age goes by: one that the clock gave. With no age it goes by none.
+abbrev pub IsTime : {E : Type 0} → (Result Duration E → Type 0) → Option ℕ → Option ℕ → Type 0
+IsTime gives None now = now ≡ None
+IsTime {E} gives (Some age) now = (read : Result Duration E) × gives read × IsTimeRead read now
 
 -- The time of this age, in seconds since 1970: never before 1970. None, if no age is said, or the time is not known.
 abbrev pub time_before : Option ℕ → Option ℕ → Option ℕ
@@ -92,14 +104,14 @@ pub record Asks (config : Config) (begin : List ℕ) (length : Option ℕ) (temp
   pub options : request.options ≡ options_of config begin length template label
   pub limit : request.limit ≡ limit_of config
 
--- The same at some time, and with a label only if the configuration has one.
-abbrev pub AsksBy : Config → List ℕ → Option ℕ → List ℕ → StoreRequest → Type 0
-AsksBy config begin length template request =
-    (now : Option ℕ) × (label : Option (ArrayVec ℕ)) × (option_copied config.label ≡ None → label ≡ None) × Asks config begin length template now label request
+-- The same at a time that a clock gave, and with a label only if the configuration has one.
+abbrev pub AsksBy : {E : Type 0} → (Result Duration E → Type 0) → Config → List ℕ → Option ℕ → List ℕ → StoreRequest → Type 0
+AsksBy gives config begin length template request =
+    (now : Option ℕ) × (label : Option (ArrayVec ℕ)) × (option_copied config.label ≡ None → label ≡ None) × Asks config begin length template now label request × IsTime gives config.before now
 
 -- What the handler asks for.
-abbrev pub IsRequested : Config → List ℕ → Option ℕ → StoreRequest → Type 0
-IsRequested config begin length request = AsksBy config begin length (naming_template config (said begin)) request
+abbrev pub IsRequested : {E : Type 0} → (Result Duration E → Type 0) → Config → List ℕ → Option ℕ → StoreRequest → Type 0
+IsRequested gives config begin length request = AsksBy gives config begin length (naming_template config (said begin)) request
 
 -- The core is lost for its process's own limit: the configuration obeys such limits, the pattern states it, and it is less than a page.
 abbrev pub is_limited : Config → Option ℕ → Bool
@@ -107,6 +119,6 @@ is_limited config None = false
 is_limited config (Some bytes) = config.obeys_limit && nat_lt bytes 4096
 
 -- What is stored of a core with these words: nothing exactly if it is lost for that limit, and else what the handler asks for.
-abbrev pub IsWanted : Config → HandleWords → Option StoreRequest → Type 0
-IsWanted config words None = is_limited config words.core_limit ≡ true
-IsWanted config words (Some request) = (is_limited config words.core_limit ≡ false) × IsRequested config words.begin.items words.length request
+abbrev pub IsWanted : {E : Type 0} → (Result Duration E → Type 0) → Config → HandleWords → Option StoreRequest → Type 0
+IsWanted gives config words None = is_limited config words.core_limit ≡ true
+IsWanted gives config words (Some request) = (is_limited config words.core_limit ≡ false) × IsRequested gives config words.begin.items words.length request

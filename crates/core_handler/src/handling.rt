@@ -5,7 +5,7 @@ ghost use Rattle.archive_files.specs.Telling.{IsToldAs};
 ghost use Rattle.archive_files.specs.declared.failures.Refusal.TheVariants.{OutOfMemory};
 ghost use Rattle.script_streams.specs.Replies.{no_reply};
 ghost use Rattle.name_template.specs.Template.{template_fault};
-ghost use Rattle.core_handler.specs.Requesting.{AsksBy, IsRequested, IsWanted, template_of};
+ghost use Rattle.core_handler.specs.Requesting.{AsksBy, IsRequested, IsTime, IsWanted, template_of};
 ghost use Rattle.core_handler.specs.Telling as spec;
 
 use crate::checking::check;
@@ -18,6 +18,7 @@ use crate::outcome_lines::{Place, lost_line, words_of};
 use crate::requesting::{is_limited, request_of, seconds_of};
 use crate::spool_store::{KeptWords, store_by_spool};
 use crate::teller::{Source, Spooling, Teller, store_told};
+use crate::time_source::TimeSource;
 use archive_files::{ArchivePath, Collected, Failure, FileWord, Refusal, StoreRequest};
 use arrayvec::ArrayVec;
 use diagnostics::Onlooker;
@@ -349,12 +350,12 @@ impl<'a> Handler<'a> {
     }
 
     // What is stored, and by what. Nothing if the core is lost for the limit of its process.
-    fn wanted<R: Files<File = File> + Clock>(
+    fn wanted<R: Files<File = File> + TimeSource>(
         &self,
         rt: &R,
         words: &HandleWords<'_>,
     ) -> Result<Option<StoreRequest>, Refusal>
-        ensures asked { IfOk result (IsWanted self.now.config words.now) }
+        ensures asked { IfOk result (IsWanted (R.TimeSource.gives rt.now) self.now.config words.now) }
         ensures refused { IfErr result (λ refusal. refusal ≡ OutOfMemory) }
     {
         if is_limited(&self.config, words.core_limit) {
@@ -364,12 +365,12 @@ impl<'a> Handler<'a> {
     }
 
     // What is stored, and by what. A template or a label that is faulty is told and left out, and so is a name.
-    fn request<R: Files<File = File> + Clock>(
+    fn request<R: Files<File = File> + TimeSource>(
         &self,
         rt: &R,
         words: &HandleWords<'_>,
     ) -> Result<StoreRequest, Refusal>
-        ensures asked { IfOk result (λ request. IsRequested self.now.config words.now.begin.items words.now.length request) }
+        ensures asked { IfOk result (λ request. IsRequested (R.TimeSource.gives rt.now) self.now.config words.now.begin.items words.now.length request) }
         ensures refused { IfErr result (λ refusal. refusal ≡ OutOfMemory) }
     {
         let request = self.named(rt, words, self.template(rt))?;
@@ -381,13 +382,13 @@ impl<'a> Handler<'a> {
     }
 
     // The same, named by this template.
-    fn named<R: Files<File = File> + Clock>(
+    fn named<R: Files<File = File> + TimeSource>(
         &self,
         rt: &R,
         words: &HandleWords<'_>,
         template: &str,
     ) -> Result<StoreRequest, Refusal>
-        ensures asked { IfOk result (λ request. AsksBy self.now.config words.now.begin.items words.now.length template.now request) }
+        ensures asked { IfOk result (λ request. AsksBy (R.TimeSource.gives rt.now) self.now.config words.now.begin.items words.now.length template.now request) }
         ensures refused { template_fault template.now ≡ None → IfErr result (λ refusal. refusal ≡ OutOfMemory) }
     {
         let now = self.time(rt);
@@ -445,9 +446,13 @@ impl<'a> Handler<'a> {
     }
 
     // The time in seconds since 1970, if the configuration says an age, and the clock tells.
-    fn time<R: Clock>(&self, rt: &R) -> Option<u64> {
-        self.config.before?;
-        seconds_of(rt.since_1970())
+    fn time<R: TimeSource>(&self, rt: &R) -> Option<u64>
+        ensures { IsTime (R.TimeSource.gives rt.now) self.now.config.before result }
+    {
+        let Some(_) = self.config.before else {
+            return None;
+        };
+        seconds_of(rt.moment())
     }
 
     // What is stored, and by what, under its name with this end.

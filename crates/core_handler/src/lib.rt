@@ -20,6 +20,7 @@ mod requesting;
 mod spool_paths;
 mod spool_store;
 mod teller;
+mod time_source;
 mod twin;
 
 pub use file_limit::write_trouble;

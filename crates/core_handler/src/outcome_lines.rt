@@ -1,9 +1,14 @@
 // What the replies of a store say of its outcome, for a log.
+ghost use Rattle.std.specs.Prelude.{◌≡◌, List, ℕ};
+ghost use Rattle.archive_files.specs.Telling.{IsKeptAs};
+ghost use Rattle.script_streams.specs.Replies.{TellsText, telling};
+ghost use Rattle.core_handler.specs.Telling as spec;
+
 use archive_files::{Collected, FileWord, Refusal};
 use command_words::{Context, tell_meaning};
 use diagnostics::Trouble;
 use disk_model::FileFault;
-use script_streams::Reply;
+use script_streams::{Output, Reply};
 use spool::{Outcome, outcome_of};
 use std::alloc::Global;
 use std::str;
@@ -130,8 +135,13 @@ pub(crate) fn lack_words(
 const SAFE_MODE: u64 = 2;
 
 // Adds to a line that the process had this dump mode, if that is told.
-fn tell_mode(reply: &mut Reply<'_, Collected>, mode: Option<u64>) {
-    if mode == Some(SAFE_MODE) {
+fn tell_mode<O: Output>(reply: &mut Reply<'_, O>, mode: Option<u64>)
+    ensures { TellsText (telling O.Output reply.old reply.new) (spec.mode_words mode) }
+{
+    let Some(mode) = mode else {
+        return;
+    };
+    if mode == SAFE_MODE {
         reply.tell(b", mode 2");
     }
 }
@@ -148,6 +158,15 @@ fn tell_dropped(reply: &mut Reply<'_, Collected>, replies: &[u8]) {
     }
 }
 
+// The same as a text.
+fn dropped_text(alloc: Global, replies: &[u8]) -> Collected {
+    let mut text = Collected::new(alloc);
+    let mut reply = Reply::new(&mut text);
+    tell_dropped(&mut reply, replies);
+    let _ = reply.finish();
+    text
+}
+
 // What is told of a core that is stored.
 pub(crate) fn stored_line(
     alloc: Global,
@@ -156,28 +175,55 @@ pub(crate) fn stored_line(
     details: &[u8],
     archive: &str,
     mode: Option<u64>,
-) -> Collected {
+) -> Collected
+    ensures { (name kept more : List ℕ) × IsKeptAs (⟦<Collected as Output>⟧.taken result) (⟦<Collected as Output>⟧.failures result) (spec.stored_words kept number.now name details.now archive.now mode more) }
+{
+    let outcome = replies_outcome(replies);
+    let cut = cut_text(alloc, outcome.name, outcome.cut);
+    let dropped = dropped_text(alloc, replies);
     let mut line = Collected::new(alloc);
     let mut reply = Reply::new(&mut line);
-    let outcome = replies_outcome(replies);
-    if let Some(kept) = outcome.cut {
+    reply.tell(cut.text());
+    tell_number(&mut reply, number, outcome.name);
+    tell_archive(&mut reply, details, archive);
+    tell_mode(&mut reply, mode);
+    reply.tell(dropped.text());
+    let _ = reply.finish();
+    line
+}
+
+// How many bytes are kept of a core of this name, if it was cut.
+fn cut_text(alloc: Global, name: &[u8], cut: Option<&[u8]>) -> Collected {
+    let mut text = Collected::new(alloc);
+    let mut reply = Reply::new(&mut text);
+    if let Some(kept) = cut {
         reply.tell(b"cut ");
-        reply.tell(outcome.name);
+        reply.tell(name);
         reply.tell(b" at ");
         reply.tell(kept);
         reply.tell(b": ");
     }
+    let _ = reply.finish();
+    text
+}
+
+// Tells that a core is stored as the case of this number.
+fn tell_number<O: Output>(reply: &mut Reply<'_, O>, number: &[u8], name: &[u8])
+    ensures { TellsText (telling O.Output reply.old reply.new) (spec.number_words number.now name.now) }
+{
     reply.tell(b"stored ");
     reply.tell(number);
     reply.tell(b" ");
-    reply.tell(outcome.name);
+    reply.tell(name);
+}
+
+// Adds what is known of a case, and its archive.
+fn tell_archive<O: Output>(reply: &mut Reply<'_, O>, details: &[u8], archive: &str)
+    ensures { TellsText (telling O.Output reply.old reply.new) (spec.archive_words details.now archive.now) }
+{
     reply.tell(details);
     reply.tell(b" in ");
     reply.tell_text(archive.as_bytes());
-    tell_mode(&mut reply, mode);
-    tell_dropped(&mut reply, replies);
-    let _ = reply.finish();
-    line
 }
 
 // What a refusal for this reason means, in words: of a file which one, and why it could not be opened; of a disk that failed which
@@ -241,25 +287,62 @@ pub(crate) fn lost_line(
     reason: &[u8],
     words: &[u8],
     mode: Option<u64>,
-) -> Collected {
+) -> Collected
+    ensures { (more : List ℕ) × IsKeptAs (⟦<Collected as Output>⟧.taken result) (⟦<Collected as Output>⟧.failures result) (spec.lost_words place.entry name.now reason.now words.now mode more) }
+{
+    let dropped = dropped_text(alloc, replies);
     let mut line = Collected::new(alloc);
     let mut reply = Reply::new(&mut line);
-    let (what, place) = match place {
-        Place::Lost(archive) => (b"lost ", archive),
-        Place::Kept(folder) => (b"kept ", folder),
-    };
+    tell_unstored(&mut reply, name, place);
+    tell_why(&mut reply, reason, words);
+    tell_mode(&mut reply, mode);
+    reply.tell(dropped.text());
+    let _ = reply.finish();
+    line
+}
+
+// Tells where a core is that is not stored.
+fn tell_unstored<O: Output>(reply: &mut Reply<'_, O>, name: &[u8], place: Place<'_>)
+    ensures { TellsText (telling O.Output reply.old reply.new) (spec.unstored_words place.entry name.now) }
+{
+    match place {
+        Place::Lost(archive) => tell_place(reply, b"lost ", name, archive),
+        Place::Kept(folder) => tell_place(reply, b"kept ", name, folder),
+    }
+}
+
+fn tell_place<O: Output>(reply: &mut Reply<'_, O>, what: &[u8], name: &[u8], path: &str)
+    ensures { TellsText (telling O.Output reply.old reply.new) (spec.place_words what.now name.now path.now) }
+{
     reply.tell(what);
-    reply.tell(if name.is_empty() { b"-" } else { name });
+    reply.tell(name_or_minus(name));
     reply.tell(b" in ");
-    reply.tell_text(place.as_bytes());
+    reply.tell_text(path.as_bytes());
+}
+
+fn name_or_minus(name: &[u8]) -> &[u8]
+    ensures { result.now ≡ spec.name_or_minus name.now }
+{
+    match name {
+        [] => b"-",
+        _ => name,
+    }
+}
+
+// Adds for which reason a core is not stored, and what that means.
+fn tell_why<O: Output>(reply: &mut Reply<'_, O>, reason: &[u8], words: &[u8])
+    ensures { TellsText (telling O.Output reply.old reply.new) (spec.why_words reason.now words.now) }
+{
     reply.tell(b": no ");
     reply.tell(reason);
+    tell_meant(reply, words);
+}
+
+fn tell_meant<O: Output>(reply: &mut Reply<'_, O>, words: &[u8])
+    ensures { TellsText (telling O.Output reply.old reply.new) (spec.meant_words words.now) }
+{
     if !words.is_empty() {
         reply.tell(b": ");
         reply.tell(words);
     }
-    tell_mode(&mut reply, mode);
-    tell_dropped(&mut reply, replies);
-    let _ = reply.finish();
-    line
 }

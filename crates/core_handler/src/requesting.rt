@@ -1,6 +1,5 @@
 // What the kernel's handler asks for, by its configuration and by the words that the kernel gives it.
-ghost use Rattle.std.specs.Prelude.{◌≡◌, ℕ, ◌+◌, ◌-◌, ◌/◌, ◌<◌, ◌↔◌, IfOk, IfErr, MatchResult, None, Some};
-ghost use Rattle.std.specs.Duration.{as_nanos};
+ghost use Rattle.std.specs.Prelude.{◌≡◌, ℕ, ◌+◌, ◌-◌, ◌<◌, ◌↔◌, IfOk, IfErr, None, Some};
 ghost use Rattle.name_template.specs.Template.{template_fault};
 ghost use Rattle.script_lines.specs.Said.{said};
 ghost use Rattle.core_handler.specs.Fronts as fronts;
@@ -143,7 +142,7 @@ fn earlier(now: u64, age: u64) -> u64
 
 // What a clock gave, in seconds since 1970.
 pub(crate) fn seconds_of(read: io::Result<Duration>) -> Option<u64>
-    ensures { MatchResult read (λ time. result ≡ Some (as_nanos time / 1_000_000_000)) (λ fault. result ≡ None) }
+    ensures { spec.IsTimeRead read result }
 {
     match read {
         Ok(time) => Some(time.as_secs()),

@@ -1,4 +1,7 @@
 // What becomes of a case that is stored, told to a log.
+ghost use Rattle.spool.specs.Spools.{spools};
+ghost use Rattle.core_handler.specs.Telling.{IsPlaced};
+
 use crate::examine::{Seen, look_at_case};
 use crate::file_limit::write_trouble;
 use crate::lock_watch::LockWatch;
@@ -202,6 +205,19 @@ impl<'a> Teller<'a> {
         }
     }
 
+    // Where a core is after an outcome that does not store it: in the spool, if it stays there, or lost by this archive.
+    fn place_after<'b>(&'b self, archive: &'b str, outcome: Outcome) -> Place<'b>
+        ensures { IsPlaced self.now.spooling archive.now (spools outcome) result }
+    {
+        let Some(spooling) = &self.spooling else {
+            return Place::Lost(archive);
+        };
+        match fate_of(outcome) {
+            Fate::Stay => Place::Kept(spooling.folder),
+            Fate::Go => Place::Lost(archive),
+        }
+    }
+
     // Tells that a case is lost, or kept in the spool, for this reason, which means this.
     pub(crate) fn tell_lost<R: Files<File = File>>(
         &self,
@@ -212,12 +228,7 @@ impl<'a> Teller<'a> {
         reason: &[u8],
         words: &[u8],
     ) {
-        let place = match &self.spooling {
-            Some(spooling) if fate_of(self.outcome_by(reason)) == Fate::Stay => {
-                Place::Kept(spooling.folder)
-            }
-            _ => Place::Lost(archive),
-        };
+        let place = self.place_after(archive, self.outcome_by(reason));
         let level = match place {
             Place::Kept(_) => Level::Warning,
             Place::Lost(_) => Level::Error,

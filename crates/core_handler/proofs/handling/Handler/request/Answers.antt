@@ -9,6 +9,7 @@ returns-clause-asked g c =
     let config = c.args.self.now.config in
     let begin = c.args.words.now.begin.items in
     let length = c.args.words.now.length in
-    let plain = plain_named config begin length c.template.result.now c.in_ok-request.request c.in-Some.reason.now c.template.ensures.taken c.in_ok-request.ensures.asked c.in-Some.ensures in
-    let P : List ℕ → Type 0 = λ template. IfOk c.named-2.result (λ request. AsksBy config begin length template request) in
+    let gives = g.R.TimeSource.gives c.args.rt.now in
+    let plain = plain_named gives config begin length c.template.result.now c.in_ok-request.request c.in-Some.reason.now c.template.ensures.taken c.in_ok-request.ensures.asked c.in-Some.ensures in
+    let P : List ℕ → Type 0 = λ template. IfOk c.named-2.result (λ request. AsksBy gives config begin length template request) in
     subst P (sym plain) c.named-2.ensures.asked
