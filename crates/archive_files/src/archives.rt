@@ -410,6 +410,7 @@ fn takes_archive(command: &str) -> bool {
             | "list"
             | "info"
             | "ask"
+            | "wants"
             | "look"
             | "check"
             | "copy"

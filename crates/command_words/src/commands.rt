@@ -5,16 +5,16 @@ ghost use Rattle.command_words.specs.Grammar.{grammar};
 
 use crate::ask_tables::ASK;
 use crate::care_tables::{CHECK, COPY, RESIZE, SALVAGE};
-use crate::info_tables::INFO;
+use crate::info_tables::{INFO, WANTS};
 use crate::list_tables::LIST;
 use crate::tables::{CommandWords, EXTRACT, FORMAT, HANDLE, LOOK, MEMORY, RUN, STORE};
 
 // All of them, in the order in which help shows them. What names a table is dear to prove: only this function does.
-pub(crate) fn commands() -> [&'static CommandWords; 14]
+pub(crate) fn commands() -> [&'static CommandWords; 15]
     ensures { is_simple (grammar (map (λ command. command.now) result)) ≡ true }
 {
     [
-        &FORMAT, &STORE, &LIST, &INFO, &ASK, &EXTRACT, &LOOK, &RUN, &CHECK, &COPY, &RESIZE,
+        &FORMAT, &STORE, &LIST, &INFO, &ASK, &WANTS, &EXTRACT, &LOOK, &RUN, &CHECK, &COPY, &RESIZE,
         &SALVAGE, &HANDLE, &MEMORY,
     ]
 }

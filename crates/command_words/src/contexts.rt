@@ -109,7 +109,7 @@ pub fn context_of(words: &[String], line: &LastLine) -> Context {
         "store" if line.is_first() => Context::Naming,
         "store" => Context::Storing,
         "list" => Context::Listing,
-        "info" | "look" | "extract" | "check" => Context::Looking,
+        "info" | "wants" | "look" | "extract" | "check" => Context::Looking,
         "copy" | "resize" => Context::Copying,
         _ => Context::Other,
     }

@@ -1,4 +1,4 @@
-// The words of `info`.
+// The words of `info` and of `wants`.
 use crate::list_tables::JSON;
 use crate::tables::{ARCHIVE, CommandWords, NO_WAIT, Takes, Word};
 
@@ -7,6 +7,37 @@ pub(crate) static INFO: CommandWords = CommandWords {
     about: "Show a crash on one screen, or the state of an archive",
     after_help: None,
     words: &[ARCHIVE, INFO_CASE, THREADS, JSON, NO_WAIT],
+};
+
+pub(crate) static WANTS: CommandWords = CommandWords {
+    name: "wants",
+    about: "Print which executables and libraries to store, by their build IDs",
+    after_help: Some(WANTS_NOTES),
+    words: &[ARCHIVE, WANTS_CASE, IDS, JSON, NO_WAIT],
+};
+
+// What help shows after the words of `wants`.
+const WANTS_NOTES: &str =
+    "Each line is NAME ID: a file that a process had mapped when it dumped core, and the build ID that its core has of it. No stored\n\
+     executable is of that build. Bring the file (file, or readelf -n, shows its build ID), and store it:\n\
+     \x20\x20corekeep store ARCHIVE FILE --build";
+
+// The core whose files they are.
+const WANTS_CASE: Word = Word {
+    id: "case",
+    shown: "CASE",
+    takes: Takes::NewPlace,
+    default: None,
+    help: "A core: its number, its name, or last; without it, all cores",
+};
+
+// Whether the IDs alone are told.
+const IDS: Word = Word {
+    id: "ids",
+    shown: "",
+    takes: Takes::Flag,
+    default: None,
+    help: "Print the build IDs alone, for programs, and then ok",
 };
 
 // The case that is shown.
