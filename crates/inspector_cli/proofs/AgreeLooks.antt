@@ -132,26 +132,28 @@ module _ {D E : Type 0} (g : disk.Ghosts D) (h : disk.Ghosts E) where
       ⊎_elim (λ a. ⊎_elim (λ a'. a' ∙ sym a) (λ m. absurd (bound' (inl m.0))) told') (λ m. absurd (bound (inl m.0))) told
   told_one kind _ b reply reply' told told' bound bound' = told' ∙ sym told
 
-  with_executables_decided : (kind : Kind) (q : QuerySaid) (b : List ℕ) (r : Result (List ExecutableView) ArchiveFault) (reply : List ℕ) → ToldWithExecutables kind q b r reply → (IsFree reply → ⊥) → IsDecided r
-  with_executables_decided kind q b (Ok xs) reply told bound = tt
-  with_executables_decided kind q b (Err f) reply told bound = decided_as (List ℕ) (List ExecutableView) f (told_decided f reply told bound)
+  with_executables_decided : (kind : Kind) (q : QuerySaid) (b : List ℕ) (ws : List Wanted) (r : Result (List ExecutableView) ArchiveFault) (reply : List ℕ) → ToldWithExecutables kind q b ws r reply → (IsFree reply → ⊥) → IsDecided r
+  with_executables_decided kind q b ws (Ok xs) reply told bound = tt
+  with_executables_decided kind q b ws (Err f) reply told bound = decided_as (List ℕ) (List ExecutableView) f (told_decided f reply told bound)
 
-  with_executables_one : (kind : Kind) (q : QuerySaid) (b : List ℕ) (r : Result (List ExecutableView) ArchiveFault) (reply reply' : List ℕ) → ToldWithExecutables kind q b r reply → ToldWithExecutables kind q b r reply' → (IsFree reply → ⊥) → (IsFree reply' → ⊥)
+  with_executables_one : (kind : Kind) (q : QuerySaid) (b : List ℕ) (ws : List Wanted) (r : Result (List ExecutableView) ArchiveFault) (reply reply' : List ℕ) → ToldWithExecutables kind q b ws r reply → ToldWithExecutables kind q b ws r reply' → (IsFree reply → ⊥) → (IsFree reply' → ⊥)
       → reply' ≡ reply
-  with_executables_one kind q b (Ok xs) reply reply' told told' bound bound' =
+  with_executables_one kind q b ws (Ok xs) reply reply' told told' bound bound' =
       ⊎_elim (λ a. ⊎_elim (λ a'. a' ∙ sym a) (λ m. absurd (bound' (inl m))) told') (λ m. absurd (bound (inl m))) told
-  with_executables_one kind q b (Err f) reply reply' told told' bound bound' = told' ∙ sym told
+  with_executables_one kind q b ws (Err f) reply reply' told told' bound bound' = told' ∙ sym told
 
   module _ (old new : Parts D) (old' new' : Parts E) (kind : Kind) (q : QuerySaid) (b reply reply' : List ℕ) (honest : IsTrue (g.is_honest old.disk)) (honest' : IsTrue (h.is_honest old'.disk)) (same : HoldSame g h old old') (runs : (state_of old).stopped ≡ false)
       (bound : IsFree reply → ⊥) (bound' : IsFree reply' → ⊥) where
     core_agrees : ShowsCore g old kind q b reply new → ShowsCore h old' kind q b reply' new' → (reply' ≡ reply) × HoldSame g h new new'
-    core_agrees (r, inl short, told) shows' = absurd (subst IsDecided short.0 (with_executables_decided kind q b r reply told bound))
-    core_agrees (r, inr all, told) (r', inl short, told') = absurd (subst IsDecided short.0 (with_executables_decided kind q b r' reply' told' bound'))
+    core_agrees (r, inl short, told) shows' = absurd (subst IsDecided short.0 (with_executables_decided kind q b (wanted_for q b (state_of old).cases) r reply told bound))
+    core_agrees (r, inr all, told) (r', inl short, told') = absurd (subst IsDecided short.0 (with_executables_decided kind q b (wanted_for q b (state_of old').cases) r' reply' told' bound'))
     core_agrees (r, inr all, told) (r', inr all', told') =
         let collected = collects_agree (wanted_for q b (state_of old).cases) old new old' new' r r' honest honest' same runs all
         (subst (λ (s : ArchiveState). Collects h old' (wanted_for q b s.cases) r' new') same.state all')
-        (with_executables_decided kind q b r reply told bound) (with_executables_decided kind q b r' reply' told' bound') in
-        (with_executables_one kind q b r reply reply' told (subst (λ (x : Result (List ExecutableView) ArchiveFault). ToldWithExecutables kind q b x reply') collected.0 told') bound bound', collected.1)
+        (with_executables_decided kind q b (wanted_for q b (state_of old).cases) r reply told bound) (with_executables_decided kind q b (wanted_for q b (state_of old').cases) r' reply' told' bound') in
+        let same_cases = subst (λ (s : ArchiveState). ToldWithExecutables kind q b (wanted_for q b s.cases) r' reply') same.state told' in
+        let same_images = subst (λ (x : Result (List ExecutableView) ArchiveFault). ToldWithExecutables kind q b (wanted_for q b (state_of old).cases) x reply') collected.0 same_cases in
+        (with_executables_one kind q b (wanted_for q b (state_of old).cases) r reply reply' told same_images bound bound', collected.1)
 
     with_executables_agrees : (o : Option CoreFault) → ShowsWithExecutables g old kind q b o reply new → ShowsWithExecutables h old' kind q b o reply' new' → (reply' ≡ reply) × HoldSame g h new new'
     with_executables_agrees (Some fault) shows shows' = (shows'.0 ∙ sym shows.0, held_still old new old' new' same shows.1 shows'.1)
