@@ -1,2 +1,4 @@
 pub mod FrontLemmas
+pub mod OnceLemmas
 pub mod ScreenLemmas
+pub mod WantLemmas

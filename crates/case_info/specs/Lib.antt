@@ -1,3 +1,4 @@
 pub mod Archives
 pub mod Fronts
 pub mod Screens
+pub mod Wants

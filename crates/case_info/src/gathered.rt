@@ -89,6 +89,29 @@ pub(crate) fn facts_of<'a, D: Disk>(
     }
 }
 
+// Finds the build IDs of the mapped files of a core, with these executables, and the frames of no thread.
+pub(crate) fn builds_of<'a, D: Disk>(
+    alloc: Global,
+    image: CaseImage<'_>,
+    core: &CoreImage<'a>,
+    told: ToldFiles<'a>,
+    executables: &'a [StoredExecutable],
+    archive: &mut Archive<D>,
+) -> Result<CoreFacts<'a>, Refusal>
+    requires has { HasSize (state_of archive.old) image.seq image.size }
+    requires short { length image.front.now ≤ image.size }
+    requires front { core_bytes core.now ≡ image.front.now }
+    requires sound { IsSoundFront want.Core image.front.now }
+    requires told { IsToldBy image told }
+    ensures { IfOk result (λ facts. (before : Parts D) → SeesPieces D.Disk before image.entry told.entry.pieces.items archive.old
+        → SaysFacts D.Disk before image.entry.seq image.entry.front.now image.entry.size (told_view told.entry.files) (map executable_view executables.now) 0 facts archive.new) }
+{
+    match core_facts(alloc, image, core, told, executables, 0, archive) {
+        Ok(facts) => Ok(facts),
+        Err(fault) => Err(refusal_of(fault)),
+    }
+}
+
 // Why what is found in a core's memory is not.
 fn refusal_of(fault: WalkFault) -> Refusal {
     match fault {

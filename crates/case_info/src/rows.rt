@@ -52,7 +52,11 @@ fn tell_rows<O: Output>(
 }
 
 // Tells why a line is refused, whose reply is `no` and the reason.
-fn tell_refused<O: Output>(alloc: Global, text: &[u8], output: &mut O) -> Result<(), Failure> {
+pub(crate) fn tell_refused<O: Output>(
+    alloc: Global,
+    text: &[u8],
+    output: &mut O,
+) -> Result<(), Failure> {
     let reason = match text.strip_prefix(b"no ".as_slice()) {
         Some(reason) => reason.strip_suffix(b"\n".as_slice()).unwrap_or(reason),
         None => text,

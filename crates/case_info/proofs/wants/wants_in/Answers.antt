@@ -1,0 +1,20 @@
+use Rattle.std.proofs.Common.{sym, subst, length, ◌≤◌, List, ℕ}
+use Rattle.elf_view.specs.declared.faults.Want.TheVariants.{Core}
+use Rattle.case_info.specs.Fronts.{IsFront}
+use Rattle.case_info.proofs.ScreenLemmas.{front_short, has_still}
+use Rattle.case_info.proofs.wants.wants_in.Goals as goal
+
+pub wants_by_front-requires-clause-has : goal.wants_by_front-requires-clause-has
+wants_by_front-requires-clause-has g c =
+    let seen = c.in_ok-front.ensures in
+    has_still g.D.Disk c.args.archive.now c.front_of.new.archive c.args.seq c.in_ok-size.size seen.0 c.in_ok-size.ensures seen.1
+
+pub wants_by_front-requires-clause-short : goal.wants_by_front-requires-clause-short
+wants_by_front-requires-clause-short g c =
+    let seen = c.in_ok-front.ensures in
+    front_short g.D.Disk c.args.archive.now c.front_of.new.archive c.args.seq c.in_ok-size.size seen.0 c.in_ok-size.ensures seen.1 c.deref.result.now (subst (λ b. IsFront Core b seen.0) (sym c.deref.ensures.value) seen.2)
+
+pub returns : goal.returns
+returns g c =
+    let seen = c.in_ok-front.ensures in
+    c.in_ok-wants_by_front.ensures.finds c.args.archive.now c.in_ok-size.ensures (seen.0, seen.1, subst (λ b. IsFront Core b seen.0) (sym c.deref.ensures.value) seen.2)
