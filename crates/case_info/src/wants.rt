@@ -44,7 +44,7 @@ const FORMS: [&str; 1] = ["<name:text> <id:digits>"];
 /// How the builds are told.
 #[derive(Clone, Copy, Debug)]
 pub struct WantsWords {
-    /// Their IDs alone are told, and no `ok`.
+    /// Their IDs alone are told, and then `ok`.
     pub ids_alone: bool,
     /// They are told as JSON.
     pub is_json: bool,
@@ -250,8 +250,9 @@ fn wants_by_front<D: Disk>(
         → SeesFront D.Disk old image.entry.seq want.Core image.entry.front.now archive.old → FindsWantsOf D.Disk old image.entry.seq builds) }
     ensures passes { (whole : List ℕ) → IsFront want.Core image.entry.front.now whole → IfErr (notes_in whole) (λ fault. IfErr result (λ why. ⊥)) }
 {
+    let none = Vec::new(alloc);
     let Ok(core) = core_in(image.front).core else {
-        return Ok(Vec::new(alloc));
+        return Ok(none);
     };
     let elf = core.elf();
     let image = CaseImage {
@@ -280,7 +281,7 @@ fn tell_form<O: Output>(
     }
 }
 
-// Tells the last word of each line.
+// Tells the last word of each line, and then `ok`.
 fn tell_ids<O: Output>(rows: &[u8], output: &mut O) -> Result<(), Failure> {
     let mut reply = Reply::new(output);
     let mut rest = rows.lines();
@@ -289,5 +290,6 @@ fn tell_ids<O: Output>(rows: &[u8], output: &mut O) -> Result<(), Failure> {
         reply.tell(id);
         reply.tell(b"\n");
     }
+    tell_ok(&mut reply);
     Ok(reply.finish()?)
 }

@@ -166,7 +166,7 @@ IsAsk given archive _ = ⊥
 -- the commands over the archive in a file
 abbrev pub names_over : List (List ℕ)
 names_over =
-    codes "run" ∷ codes "store" ∷ codes "extract" ∷ codes "list" ∷ codes "ask" ∷ codes "info" ∷ codes "look" ∷ codes "check" ∷ codes "copy" ∷ codes "resize" ∷ codes "salvage" ∷ []
+    codes "run" ∷ codes "store" ∷ codes "extract" ∷ codes "list" ∷ codes "ask" ∷ codes "info" ∷ codes "wants" ∷ codes "look" ∷ codes "check" ∷ codes "copy" ∷ codes "resize" ∷ codes "salvage" ∷ []
 
 -- a command that has none of these names
 abbrev pub IsNoneOf : List ℕ → List (List ℕ) → Type 0
@@ -188,6 +188,9 @@ IsOver given archive (asked.WouldRetire place policy) = (given.command.now ≡ c
 IsOver given archive (asked.Info place case wanted) =
     (given.command.now ≡ codes "info") × (place ≡ archive) × (option_copied case ≡ text_in given (codes "case"))
     × (wanted.all_threads ≡ flag_in given (codes "threads")) × (wanted.is_json ≡ flag_in given (codes "json"))
+IsOver given archive (asked.Wants place case wanted) =
+    (given.command.now ≡ codes "wants") × (place ≡ archive) × (option_copied case ≡ text_in given (codes "case"))
+    × (wanted.ids_alone ≡ flag_in given (codes "ids")) × (wanted.is_json ≡ flag_in given (codes "json"))
 IsOver given archive (asked.Look place) = (given.command.now ≡ codes "look") × (place ≡ archive)
 IsOver given archive (asked.Check place sees_images) = (given.command.now ≡ codes "check") × (place ≡ archive) × (sees_images ≡ flag_in given (codes "images"))
 IsOver given archive (asked.Copy place new wanted) = (given.command.now ≡ codes "copy") × (place ≡ archive) × (new.now ≡ text_said given (codes "new")) × IsCopy given wanted

@@ -17,7 +17,7 @@ use archive_files::{
     ArchivePath, BuildRequest, CopyWords, NewArchive, Refusal, Salvaged, ShapeWish, StoreRequest,
     WordPart,
 };
-use case_info::InfoWords;
+use case_info::{InfoWords, WantsWords};
 use case_listing::ListWords;
 use command_words::{Given, is_text};
 use core_handler::{HandleWords, SpoolWords};
@@ -84,6 +84,12 @@ pub(crate) enum Asked<'a> {
         archive: ArchivePath<'a>,
         case: Option<&'a str>,
         wanted: InfoWords,
+    },
+    // The builds that a core wants, or all cores.
+    Wants {
+        archive: ArchivePath<'a>,
+        case: Option<&'a str>,
+        wanted: WantsWords,
     },
     // What one line of a script asks, and its reply. Without a question its second word names a case.
     Ask {
@@ -209,6 +215,14 @@ fn over_archive<'a>(
             case: text_if(given, "case")?,
             wanted: InfoWords {
                 all_threads: given.flag("threads"),
+                is_json: given.flag("json"),
+            },
+        }),
+        "wants" => Ok(Asked::Wants {
+            archive,
+            case: text_if(given, "case")?,
+            wanted: WantsWords {
+                ids_alone: given.flag("ids"),
                 is_json: given.flag("json"),
             },
         }),

@@ -10,7 +10,7 @@ use archive_files::{
     look, make_archive, names_output, note_file_system, note_gap, note_shared, resize_archive_file,
     run_over, salvage, take_disk, tell_trouble,
 };
-use case_info::{ask_rows, info_archive, info_case};
+use case_info::{ask_rows, info_archive, info_case, tell_wants};
 use case_listing::{ask_case, ask_plain, extract_case, list, named_question, would_retire};
 use command_words::{
     Context, Watched, asked_help, context_of, in_order, line_in_place_of_a_command, tell_help,
@@ -258,6 +258,11 @@ fn answer_asked<
             case: None,
             wanted,
         } => info_archive(rt, archive, wanted.is_json, output),
+        Asked::Wants {
+            archive,
+            case,
+            wanted,
+        } => tell_wants(rt, archive, case, wanted, output, onlooker),
         Asked::WouldRetire { archive, policy } => would_retire(rt, archive, &policy, output),
         Asked::Look { archive } => look(rt, archive, &mut ReadInput::new(input), output),
         Asked::Check {

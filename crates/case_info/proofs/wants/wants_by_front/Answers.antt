@@ -49,10 +49,10 @@ pub returns-in_default-clause-finds : goal.returns-in_default-clause-finds
 returns-in_default-clause-finds g c = λ old has seen.
     let mid = c.args.archive.now in
     let says = c.core_in.ensures.says seen.0 seen.2 in
-    (mid, (seen.0, mid, seen.1, asks_fault g.D.Disk old mid c.args.image.seq seen.0 _ c.core_in.result.core _ says.notes_are c.in_default.is (ap (map _) c.new.ensures.items)))
+    (mid, (seen.0, mid, seen.1, asks_fault g.D.Disk old mid c.args.image.seq seen.0 _ c.core_in.result.core _ says.notes_are c.in_default.is (ap (map _) c.new-none.ensures.items)))
 
 pub returns-in_default-clause-passes : goal.returns-in_default-clause-passes
-returns-in_default-clause-passes g c = λ whole is. passes_ok _ (Ok c.new.result) c.new.result refl
+returns-in_default-clause-passes g c = λ whole is. passes_ok _ (Ok c.new-none.result) c.new-none.result refl
 
 pub returns-in_err-told-clause-passes : goal.returns-in_err-told-clause-passes
 returns-in_err-told-clause-passes g c = λ whole is. passes_core _ c.core_in.result.core c.in-Ok.core _ (c.core_in.ensures.says whole is).notes_are c.in-Ok.is

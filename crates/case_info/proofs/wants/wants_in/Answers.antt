@@ -1,4 +1,4 @@
-use Rattle.std.proofs.Common.{sym, subst, length, ◌≤◌, List, ℕ}
+use Rattle.std.proofs.Common.{sym, subst}
 use Rattle.elf_view.specs.declared.faults.Want.TheVariants.{Core}
 use Rattle.case_info.specs.Fronts.{IsFront}
 use Rattle.case_info.proofs.ScreenLemmas.{front_short, has_still}
