@@ -14,7 +14,7 @@ use Rattle.address_space.specs.Pieces.{PieceView, pieces_of}
 use Rattle.build_ids.specs.BuildId.{build_id_of}
 use Rattle.memory_replies.specs.Memory.{memory_of}
 use Rattle.build_ids.specs.BuildName.{has_name}
-use Rattle.build_replies.specs.ByBuild.{Chosen, chosen, chosen_id, how_word, used_executable}
+use Rattle.build_replies.specs.ByBuild.{Chosen, chosen, chosen_id, debug_of, how_word, used_executable}
 
 -- each of the names once, at its first place
 unfoldable pub once : List (List ℕ) → List (List ℕ)
@@ -85,14 +85,15 @@ abbrev pub told_or_none : Option (List NamedId) → List NamedId
 told_or_none None = []
 told_or_none (Some told) = told
 
--- a mapped file, by its name, with the build ID of its front and what is chosen for it of what is stored
+-- a mapped file, by its name, with the build ID of its front, what is chosen for it of what is stored, and the debug file of what is used
 pub record BuildValue : Type 0 where
   pub name : List ℕ
   pub core : Option (List ℕ)
   pub chosen : Chosen
+  pub debug : Option ExecutableView
 
 abbrev pub build_value : List ExecutableView → NamedId → BuildValue
-build_value stored t = record { name = t.0; core = t.1; chosen = chosen stored t.1 t.0 }
+build_value stored t = record { name = t.0; core = t.1; chosen = chosen stored t.1 t.0; debug = debug_of stored (chosen stored t.1 t.0) }
 
 -- one for each
 abbrev pub values_of : List ExecutableView → List NamedId → List BuildValue
@@ -120,17 +121,23 @@ number_in c = c.0
 abbrev pub number_named : List NumberedName → List ℕ → Option ℕ
 number_named cases name = option_map number_in (find (is_of_name name) cases)
 
+-- that of the case as which a file is stored
+abbrev pub case_of_file : List NumberedName → Option ExecutableView → Option ℕ
+case_of_file cases x = option_and_then (λ (y : ExecutableView). number_named cases y.path) x
+
 -- that of the case whose executable is used
 abbrev pub case_used : List NumberedName → Chosen → Option ℕ
-case_used cases k = option_and_then (λ (x : ExecutableView). number_named cases x.path) (used_executable k)
+case_used cases k = case_of_file cases (used_executable k)
 
 abbrev pub number_word : Option ℕ → List ℕ
 number_word None = codes "-"
 number_word (Some n) = decimal n
 
--- `NAME CASE HOW DEBUG`; no debug file is used
+-- `NAME CASE HOW DEBUG`
 unfoldable pub used_line : List NumberedName → BuildValue → List ℕ
-used_line cases v = shown v.name ++ (32 ∷ [] ++ (number_word (case_used cases v.chosen) ++ (32 ∷ [] ++ (how_word v.chosen ++ 32 ∷ 45 ∷ 10 ∷ []))))
+used_line cases v =
+    shown v.name ++ (32 ∷ [] ++ (number_word (case_used cases v.chosen) ++ (32 ∷ [] ++ (how_word v.chosen
+    ++ (32 ∷ [] ++ (number_word (case_of_file cases v.debug) ++ 10 ∷ []))))))
 
 -- a build that is wanted, by the name of a mapped file of it and by its ID
 abbrev pub NamedBuild : Type 0

@@ -7,8 +7,8 @@ use Rattle.elf_view.specs.Sound.{first_fault}
 use Rattle.elf_view.specs.declared.faults.Want.TheVariants.{Exec}
 use Rattle.address_space.specs.Source.{ExecutableView, is_named}
 use Rattle.build_ids.specs.BuildId.{build_id_of}
-use Rattle.build_ids.specs.BuildName.{build_name, has_name}
-use Rattle.build_ids.specs.DebugFile.{is_debug}
+use Rattle.build_ids.specs.BuildName.{build_name, debug_name, has_name}
+use Rattle.build_ids.specs.DebugFile.{debug_id_of, is_debug}
 
 -- it is that ID
 abbrev pub is_id : List ℕ → Option (List ℕ) → Bool
@@ -105,3 +105,30 @@ others_by path (by_build x) = []
 others_by path (by_path x) = []
 others_by path (other x) = as_file path x ∷ []
 others_by path none = []
+
+-- An image is the debug file of the build of that ID. One whose headers have a fault has no ID.
+abbrev pub is_debug_of : List ℕ → List ℕ → Bool
+is_debug_of id image = is_id id (debug_id_of image)
+
+abbrev pub if_debug_of : List ℕ → Option ExecutableView → Option ExecutableView
+if_debug_of id None = None
+if_debug_of id (Some x) = if is_debug_of id x.image then Some x else None
+
+-- the one that is stored under the name of the debug file of that build, if it is that build's
+abbrev pub debug_stored : List ExecutableView → Option (List ℕ) → Option ExecutableView
+debug_stored stored None = None
+debug_stored stored (Some id) = if has_name id then if_debug_of id (stored_as stored (debug_name id)) else None
+
+-- The debug file of an executable: that of its build. Nothing else is compared.
+abbrev pub debug_of_build : List ExecutableView → Option ExecutableView → Option ExecutableView
+debug_of_build stored None = None
+debug_of_build stored (Some x) = debug_stored stored (build_id_of x.image)
+
+-- of the executable that is used, if one is
+unfoldable pub debug_of : List ExecutableView → Chosen → Option ExecutableView
+debug_of stored k = debug_of_build stored (used_executable k)
+
+-- under the name of the mapped file
+abbrev pub debug_by : List ℕ → Option ExecutableView → List ExecutableView
+debug_by path None = []
+debug_by path (Some d) = as_file path d ∷ []

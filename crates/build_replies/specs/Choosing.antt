@@ -4,7 +4,7 @@ use Rattle.std.specs.List.{flat_map}
 use Rattle.address_space.specs.Source.{ExecutableView}
 use Rattle.memory_replies.specs.Memory.{mapped_files, memory_of}
 use Rattle.build_replies.specs.Builds.{NamedId, fronts_of, id_named, told_in}
-use Rattle.build_replies.specs.ByBuild.{as_file, chosen, others_by, stored_as, used_by}
+use Rattle.build_replies.specs.ByBuild.{as_file, chosen, debug_by, debug_of, debug_of_build, others_by, stored_as, used_by}
 
 -- for the mapped files, in their order
 abbrev pub used_of : List ExecutableView → List NamedId → List ExecutableView
@@ -12,6 +12,10 @@ used_of stored told = flat_map (λ (t : NamedId). used_by t.0 (chosen stored t.1
 
 abbrev pub others_of : List ExecutableView → List NamedId → List ExecutableView
 others_of stored told = flat_map (λ (t : NamedId). others_by t.0 (chosen stored t.1 t.0)) told
+
+-- the debug files of those that are used
+abbrev pub debugs_of : List ExecutableView → List NamedId → List ExecutableView
+debugs_of stored told = flat_map (λ (t : NamedId). debug_by t.0 (debug_of stored (chosen stored t.1 t.0))) told
 
 -- what is stored under these names, whatever it is
 abbrev pub if_stored : List ℕ → Option ExecutableView → List ExecutableView
@@ -21,13 +25,19 @@ if_stored name (Some x) = as_file name x ∷ []
 abbrev pub under_names : List ExecutableView → List (List ℕ) → List ExecutableView
 under_names stored names = flat_map (λ name. if_stored name (stored_as stored name)) names
 
--- the executables that are used, and those that are there and not used, each under the name of the mapped file
+-- the debug files of these
+abbrev pub debugs_under : List ExecutableView → List (List ℕ) → List ExecutableView
+debugs_under stored names = flat_map (λ name. debug_by name (debug_of_build stored (stored_as stored name))) names
+
+-- the executables that are used, those that are there and not used, and the debug files of those that are used, each under the name of
+-- the mapped file
 pub record Choice : Type 0 where
   pub used : List ExecutableView
   pub others : List ExecutableView
+  pub debugs : List ExecutableView
 
 abbrev pub choice_of : List NamedId → List ExecutableView → Choice
-choice_of told stored = record { used = used_of stored told; others = others_of stored told }
+choice_of told stored = record { used = used_of stored told; others = others_of stored told; debugs = debugs_of stored told }
 
 -- what a core has of the fronts of its mapped files
 abbrev pub core_fronts : List ℕ → List ExecutableView

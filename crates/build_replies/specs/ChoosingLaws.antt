@@ -1,46 +1,53 @@
 -- The executables that are used, file by file: each is of the build that was mapped, and no debug file.
-use Rattle.std.proofs.Common.{◌≡◌, ◌<◌, inl, inr, ℕ, ◌+◌, Bool, true, false, not, cond, List, [], ◌∷◌, ◌++◌, take, map, length, get_or, filter, find, Option, None, Some, refl, sym, append_assoc, ap, subst, ◌∙◌}
+use Rattle.std.proofs.Common.{◌≡◌, ◌<◌, ◌⊎◌, inl, inr, ℕ, ◌+◌, Bool, true, false, not, cond, List, [], ◌∷◌, ◌++◌, take, map, length, get_or, filter, find, Option, None, Some, refl, sym, append_assoc, ap, subst, ◌∙◌}
 use Rattle.std.specs.Prelude.{◌&&◌}
 use Rattle.std.specs.List.{AllByRecursion, flat_map}
 use Rattle.std.proofs.lemmas.Bool.{cases_Bool, false≢true, and_parts}
 use Rattle.std.proofs.lemmas.List.{append-nil, map-append, take_more}
 use Rattle.std.proofs.lemmas.Slice.Eq.{bytes_eq-Decides}
 use Rattle.address_space.specs.Source.{ExecutableView, is_named}
-use Rattle.build_ids.specs.BuildId.{build_id_of}
-use Rattle.build_ids.specs.BuildName.{build_name, has_name}
-use Rattle.build_ids.specs.DebugFile.{is_debug}
+use Rattle.build_ids.specs.BuildId.{build_id_of, id_among, notes_of}
+use Rattle.build_ids.specs.BuildName.{build_name, debug_name, has_name}
+use Rattle.build_ids.specs.DebugFile.{debug_id_of, is_debug}
 use Rattle.memory_replies.specs.Memory.{is_attached}
 use Rattle.build_replies.specs.Builds.{NamedId, id_named, told_as}
-use Rattle.build_replies.specs.ByBuild.{Chosen, agrees, as_file, build_first, build_stored, by_its_path, by_path, chosen, has_told_id, if_agrees, is_executable, is_id, none, other, others_by, stored_as, used_by}
-use Rattle.build_replies.specs.Choosing.{Choice, choice_of, if_stored, others_of, under_names, used_of}
-use Rattle.build_replies.specs.ChoosingWords.{with_chosen}
+use Rattle.build_replies.specs.ByBuild.{Chosen, agrees, as_file, build_first, build_stored, by_build, by_its_path, by_path, chosen, debug_by, debug_of, debug_of_build, debug_stored, has_told_id, if_agrees, if_debug_of, is_debug_of, is_executable, is_id, none, other, others_by, stored_as, used_by, used_executable}
+use Rattle.build_replies.specs.Choosing.{Choice, choice_of, debugs_of, debugs_under, if_stored, others_of, under_names, used_of}
+use Rattle.build_replies.specs.ChoosingWords.{with_chosen, with_debug}
 use Rattle.build_replies.specs.Mapped.{id_view}
 use Rattle.build_replies.specs.declared.ids.FrontId.{FrontId}
 
-abbrev both : List ExecutableView → List ExecutableView → Choice
-both used others = record { used = used; others = others }
+abbrev all : List ExecutableView → List ExecutableView → List ExecutableView → Choice
+all used others debugs = record { used = used; others = others; debugs = debugs }
 
 flat_more : {A B : Type 0} (f : A → List B) (xs : List A) (x : A) → flat_map f (xs ++ x ∷ []) ≡ flat_map f xs ++ f x
 flat_more f [] x = append-nil (f x)
 flat_more f (y ∷ ys) x = ap (λ zs. f y ++ zs) (flat_more f ys x) ∙ sym (append_assoc (f y) (flat_map f ys) (f x))
 
 -- one file more
-choice_more : (stored : List ExecutableView) (told : List NamedId) (t : NamedId) → choice_of (told ++ t ∷ []) stored ≡ with_chosen t.0 (chosen stored t.1 t.0) (choice_of told stored)
+choice_more : (stored : List ExecutableView) (told : List NamedId) (t : NamedId)
+    → choice_of (told ++ t ∷ []) stored ≡ with_debug t.0 (debug_of stored (chosen stored t.1 t.0)) (with_chosen t.0 (chosen stored t.1 t.0) (choice_of told stored))
 choice_more stored told t =
-    ap (λ us. both us (others_of stored (told ++ t ∷ []))) (flat_more (λ (u : NamedId). used_by u.0 (chosen stored u.1 u.0)) told t)
-    ∙ ap (both (used_of stored told ++ used_by t.0 (chosen stored t.1 t.0))) (flat_more (λ (u : NamedId). others_by u.0 (chosen stored u.1 u.0)) told t)
+    let k = chosen stored t.1 t.0 in
+    ap (λ us. all us (others_of stored (told ++ t ∷ [])) (debugs_of stored (told ++ t ∷ []))) (flat_more (λ (u : NamedId). used_by u.0 (chosen stored u.1 u.0)) told t)
+    ∙ ap (λ os. all (used_of stored told ++ used_by t.0 k) os (debugs_of stored (told ++ t ∷ []))) (flat_more (λ (u : NamedId). others_by u.0 (chosen stored u.1 u.0)) told t)
+    ∙ ap (all (used_of stored told ++ used_by t.0 k) (others_of stored told ++ others_by t.0 k)) (flat_more (λ (u : NamedId). debug_by u.0 (debug_of stored (chosen stored u.1 u.0))) told t)
 
 -- those that went by, and the next
-pub next_chosen : (stored : List ExecutableView) (files : List FrontId) (i : ℕ) (f : FrontId) (k : Chosen) (old new : Choice) → i < length files → f ≡ get_or files i f
-    → old ≡ choice_of (map id_view (take i files)) stored → k ≡ chosen stored (id_view f).1 (id_view f).0 → new ≡ with_chosen (id_view f).0 k old
+pub next_chosen : (stored : List ExecutableView) (files : List FrontId) (i : ℕ) (f : FrontId) (k : Chosen) (d : Option ExecutableView) (old mid new : Choice) → i < length files → f ≡ get_or files i f
+    → old ≡ choice_of (map id_view (take i files)) stored → k ≡ chosen stored (id_view f).1 (id_view f).0 → d ≡ debug_of stored k → mid ≡ with_chosen (id_view f).0 k old → new ≡ with_debug (id_view f).0 d mid
     → new ≡ choice_of (map id_view (take (i + 1) files)) stored
-next_chosen stored files i f k old new within is before picked after =
+next_chosen stored files i f k d old mid new within is before picked debug next_is after =
+    let path = (id_view f).0 in
+    let by = chosen stored (id_view f).1 path in
     let next : map id_view (take (i + 1) files) ≡ map id_view (take i files) ++ id_view f ∷ [] =
     ap (map id_view) (take_more files i f within)
     ∙ map-append id_view (take i files) (get_or files i f ∷ [])
     ∙ ap (λ (y : FrontId). map id_view (take i files) ++ id_view y ∷ []) (sym is) in
-    after ∙ ap (λ (c : Choice). with_chosen (id_view f).0 k c) before
-    ∙ ap (λ (j : Chosen). with_chosen (id_view f).0 j (choice_of (map id_view (take i files)) stored)) picked
+    after ∙ ap (with_debug path d) next_is
+    ∙ ap (λ (x : Option ExecutableView). with_debug path x (with_chosen path k old)) (debug ∙ ap (debug_of stored) picked)
+    ∙ ap (λ (c : Choice). with_debug path (debug_of stored by) (with_chosen path k c)) before
+    ∙ ap (λ (j : Chosen). with_debug path (debug_of stored by) (with_chosen path j (choice_of (map id_view (take i files)) stored))) picked
     ∙ sym (choice_more stored (map id_view (take i files)) (id_view f))
     ∙ ap (λ (ts : List NamedId). choice_of ts stored) (sym next)
 
@@ -154,6 +161,17 @@ unfolding by_test
 test_others true name x = refl
 test_others false name x = refl
 
+-- one whose headers have a fault has no ID, and so no debug file
+test_debug : (stored : List ExecutableView) (x : ExecutableView) → debug_of stored (by_test (is_executable x.image) false x) ≡ debug_of_build stored (Some x)
+unfolding debug_of by_test build_id_of
+test_debug stored x =
+    elim (cases_Bool (is_executable x.image)) [
+      | inl sound ↦ ap (λ t. debug_of_build stored (used_executable (by_test t false x))) sound
+      | inr faulty ↦
+          ap (λ t. debug_of_build stored (used_executable (by_test t false x))) faulty
+          ∙ ap (λ t. debug_stored stored (cond t (id_among (notes_of x.image)) None)) (sym faulty)
+    ]
+
 unknown_is : (x : ExecutableView) → by_its_path None (Some x) ≡ by_test (is_executable x.image) (is_debug x.image) x
 unfolding agrees by_test
 unknown_is x = refl
@@ -189,7 +207,80 @@ module _ (fronts stored : List ExecutableView) (unknown : (path : List ℕ) → 
       ∙ ap (λ os. os ++ others_of stored (map (told_as fronts) ns)) (no_other n (stored_as stored n) refl)
       ∙ others_plain ns
 
-  pub choice_plain : (names : List (List ℕ)) → choice_of (map (told_as fronts) names) stored ≡ record { used = filter is_attached (under_names stored names); others = [] }
+  one_debug : (n : List ℕ) (o : Option ExecutableView) → stored_as stored n ≡ o → debug_of stored (by_its_path None o) ≡ debug_of_build stored o
+  unfolding debug_of
+  one_debug n None is = refl
+  one_debug n (Some x) is =
+      ap (λ k. debug_of stored k) (unknown_is x ∙ ap (λ d. by_test (is_executable x.image) d x) (code_found (is_named n) stored x codes is))
+      ∙ test_debug stored x
+
+  debugs_plain : (names : List (List ℕ)) → debugs_of stored (map (told_as fronts) names) ≡ debugs_under stored names
+  debugs_plain [] = refl
+  debugs_plain (n ∷ ns) =
+      ap (λ k. debug_by n (debug_of stored k) ++ debugs_of stored (map (told_as fronts) ns)) (name_unknown n)
+      ∙ ap (λ d. debug_by n d ++ debugs_of stored (map (told_as fronts) ns)) (one_debug n (stored_as stored n) refl)
+      ∙ ap (λ ds. debug_by n (debug_of_build stored (stored_as stored n)) ++ ds) (debugs_plain ns)
+
+  pub choice_plain : (names : List (List ℕ)) → choice_of (map (told_as fronts) names) stored ≡ record { used = filter is_attached (under_names stored names); others = []; debugs = debugs_under stored names }
   choice_plain names =
-      ap (λ us. both us (others_of stored (map (told_as fronts) names))) (used_plain names)
-      ∙ ap (both (filter is_attached (under_names stored names))) (others_plain names)
+      ap (λ us. all us (others_of stored (map (told_as fronts) names)) (debugs_of stored (map (told_as fronts) names))) (used_plain names)
+      ∙ ap (λ os. all (filter is_attached (under_names stored names)) os (debugs_of stored (map (told_as fronts) names))) (others_plain names)
+      ∙ ap (all (filter is_attached (under_names stored names)) []) (debugs_plain names)
+
+-- One of these is used for the file of that name, and has that build ID.
+abbrev pub HasBuild : List ExecutableView → List ℕ → List ℕ → Type 0
+HasBuild [] path id = ⊥
+HasBuild (x ∷ xs) path id = ((x.path ≡ path) × (build_id_of x.image ≡ Some id)) ⊎ HasBuild xs path id
+
+-- A debug file is that of the build of an executable that is used for the file of its name.
+abbrev pub IsDebugOf : List ExecutableView → ExecutableView → Type 0
+IsDebugOf used d = (id : List ℕ) × (debug_id_of d.image ≡ Some id) × HasBuild used d.path id
+
+named_debug : (id : List ℕ) (o : Option ExecutableView) (d : ExecutableView) → if_debug_of id o ≡ Some d → debug_id_of d.image ≡ Some id
+named_debug id None d is = cc
+named_debug id (Some x) d is =
+    elim (cases_Bool (is_debug_of id x.image)) [
+      | inl passes ↦
+          (let found : Some x ≡ Some d = sym (ap (λ t. cond t (Some x) None) passes) ∙ is in let same : x ≡ d = cc in subst (λ (y : ExecutableView). debug_id_of y.image ≡ Some id) same (own_by id (debug_id_of x.image) passes))
+      | inr fails ↦ (let missing : None ≡ Some d = sym (ap (λ t. cond t (Some x) None) fails) ∙ is in cc)
+    ]
+
+stored_debug : (stored : List ExecutableView) (o : Option (List ℕ)) (d : ExecutableView) → debug_stored stored o ≡ Some d → (id : List ℕ) × (o ≡ Some id) × (debug_id_of d.image ≡ Some id)
+stored_debug stored None d is = cc
+stored_debug stored (Some id) d is =
+    elim (cases_Bool (has_name id)) [
+      | inl named ↦ (id, refl, named_debug id (stored_as stored (debug_name id)) d (sym (ap (λ t. cond t (if_debug_of id (stored_as stored (debug_name id))) None) named) ∙ is))
+      | inr unnamed ↦ (let missing : None ≡ Some d = sym (ap (λ t. cond t (if_debug_of id (stored_as stored (debug_name id))) None) unnamed) ∙ is in cc)
+    ]
+
+debug_found : (stored : List ExecutableView) (path : List ℕ) (x : ExecutableView) (o : Option ExecutableView) → debug_stored stored (build_id_of x.image) ≡ o → AllByRecursion (IsDebugOf (as_file path x ∷ [])) (debug_by path o)
+debug_found stored path x None is = tt
+debug_found stored path x (Some d) is = (let found = stored_debug stored (build_id_of x.image) d is in (found.0, found.2, inl (refl, found.1)), tt)
+
+one_debug_of : (stored : List ExecutableView) (path : List ℕ) (k : Chosen) → AllByRecursion (IsDebugOf (used_by path k)) (debug_by path (debug_of stored k))
+unfolding debug_of
+one_debug_of stored path (by_build x) = debug_found stored path x (debug_stored stored (build_id_of x.image)) refl
+one_debug_of stored path (by_path x) = debug_found stored path x (debug_stored stored (build_id_of x.image)) refl
+one_debug_of stored path (other x) = tt
+one_debug_of stored path none = tt
+
+build_first_of : (xs ys : List ExecutableView) (path id : List ℕ) → HasBuild xs path id → HasBuild (xs ++ ys) path id
+build_first_of [] ys path id has = absurd has
+build_first_of (x ∷ xs) ys path id (inl here) = inl here
+build_first_of (x ∷ xs) ys path id (inr more) = inr (build_first_of xs ys path id more)
+
+build_after : (xs ys : List ExecutableView) (path id : List ℕ) → HasBuild ys path id → HasBuild (xs ++ ys) path id
+build_after [] ys path id has = has
+build_after (x ∷ xs) ys path id has = inr (build_after xs ys path id has)
+
+debugs_both : (us vs ds es : List ExecutableView) → AllByRecursion (IsDebugOf us) ds → AllByRecursion (IsDebugOf vs) es → AllByRecursion (IsDebugOf (us ++ vs)) (ds ++ es)
+debugs_both us vs [] [] first more = tt
+debugs_both us vs [] (e ∷ es) first more = ((more.0.0, more.0.1, build_after us vs e.path more.0.0 more.0.2), debugs_both us vs [] es tt more.1)
+debugs_both us vs (d ∷ ds) es first more = ((first.0.0, first.0.1, build_first_of us vs d.path first.0.0 first.0.2), debugs_both us vs ds es first.1 more)
+
+-- no debug file of another build is used
+pub each_debug : (stored : List ExecutableView) (told : List NamedId) → AllByRecursion (IsDebugOf (used_of stored told)) (debugs_of stored told)
+each_debug stored [] = tt
+each_debug stored (t ∷ ts) =
+    let k = chosen stored t.1 t.0 in
+    debugs_both (used_by t.0 k) (used_of stored ts) (debug_by t.0 (debug_of stored k)) (debugs_of stored ts) (one_debug_of stored t.0 k) (each_debug stored ts)

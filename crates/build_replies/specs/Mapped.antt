@@ -7,6 +7,7 @@ use Rattle.elf_view.specs.ViewWords.{notes_of}
 use Rattle.elf_view.specs.declared.faults.Want.TheVariants.{Core}
 use Rattle.core_notes.specs.FileList.{FileView, files_of}
 use Rattle.core_notes.specs.Typed.{first_desc}
+use Rattle.address_space.specs.SpaceWords.{attached_view}
 use Rattle.address_space.specs.Whole.{IsFrontOf, space_in}
 use Rattle.build_ids.specs.BuildId.{build_id_of}
 use Rattle.memory_replies.specs.Memory.{memory_of}
@@ -47,7 +48,7 @@ abbrev pub told_view : Option (Vec FrontId Global) → Option (List NamedId)
 told_view o = option_map (λ (v : Vec FrontId Global). map id_view v.items) o
 
 abbrev pub build_view : BuildAnswer → BuildValue
-build_view r = record { name = r.front.name.now; core = option_map (λ (v : Vec ℕ Global). v.items) r.front.id; chosen = chosen_view r.chosen }
+build_view r = record { name = r.front.name.now; core = option_map (λ (v : Vec ℕ Global). v.items) r.front.id; chosen = chosen_view r.chosen; debug = option_map attached_view r.debug }
 
 -- those of a core, if it has an NT_FILE
 abbrev pub answers_view : Option (Vec BuildAnswer Global) → Option (List BuildValue)

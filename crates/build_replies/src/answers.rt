@@ -6,7 +6,7 @@ ghost use Rattle.build_replies.specs.Builds.{build_value, values_of};
 ghost use Rattle.build_replies.specs.Mapped.{answers_view, build_view, id_view, told_view};
 ghost use Rattle.build_replies.specs.TableWords.{table_rows};
 
-use crate::choosing::ChosenFile;
+use crate::choosing::{ChosenFile, debug_of};
 use crate::ids::FrontId;
 use crate::table::Table;
 use address_space::Attached;
@@ -19,6 +19,8 @@ pub struct BuildAnswer<'a> {
     pub front: FrontId<'a>,
     /// The executable that is stored under the name of its build or under its path, whether it is used or not.
     pub chosen: ChosenFile<'a>,
+    /// The debug file of the executable that is used.
+    pub debug: Option<Attached<'a>>,
 }
 
 /// What is told of a mapped file. The error is that there is no memory.
@@ -29,9 +31,11 @@ fn answer<'a>(
 ) -> Result<BuildAnswer<'a>, AllocError>
     ensures { IfOk result (λ row. build_view row ≡ build_value (table_rows table.now) (id_view file.now)) }
 {
+    let chosen = ChosenFile::for_file(table, file);
     Ok(BuildAnswer {
         front: FrontId::new(alloc, file.name, file.id())?,
-        chosen: ChosenFile::for_file(table, file),
+        chosen,
+        debug: debug_of(table, chosen),
     })
 }
 

@@ -30,7 +30,7 @@ pub enum BuildsAsked<'c> {
     /// missing, else `same` or `differs`.
     Compared,
     /// `NAME CASE HOW DEBUG` for each. CASE is the number of the case whose executable is used for the file, among these, or `-`. HOW is
-    /// `build`, `path`, `other` or `none`. DEBUG is `-`.
+    /// `build`, `path`, `other` or `none`. DEBUG is the number of the case with its debug file, or `-`.
     Used(&'c [NumberedCase<'c>]),
     /// `NAME ID` for each build that is wanted: the core tells its ID for a file, an executable can be stored by it, and none is used for
     /// the file. Of several files of one build the first is told.

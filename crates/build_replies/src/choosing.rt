@@ -11,7 +11,7 @@ ghost use Rattle.build_replies.specs.TableWords.{table_rows};
 use crate::ids::FrontId;
 use crate::table::Table;
 use address_space::Attached;
-use build_ids::{build_id, build_name, has_name, is_debug};
+use build_ids::{build_id, build_name, debug_id, debug_name, has_name, is_debug};
 use elf_view::{Elf, Want};
 use std::alloc::{AllocError, Global};
 
@@ -139,8 +139,45 @@ impl<'a> ChosenFile<'a> {
     }
 }
 
-/// The executables that are stored for a core's mapped files, each under the name of its file: those that are used, and those that are
-/// not.
+/// Whether an image is the debug file of the build of that ID.
+fn is_debug_of(id: &[u8], image: &[u8]) -> bool
+    ensures { result ≡ spec.is_debug_of id.now image.now }
+{
+    let Some(own) = debug_id(image) else {
+        return false;
+    };
+    id == own
+}
+
+/// The debug file that is stored under the name of a build's, if it is that build's.
+fn debug_stored<'a>(stored: &Table<'a>, id: Option<&[u8]>) -> Option<Attached<'a>>
+    ensures { option_map attached_view result ≡ spec.debug_stored (table_rows stored.now) (option_map (λ id. id.now) id.entry) }
+{
+    let Some(id) = id else {
+        return None;
+    };
+    if !has_name(id) {
+        return None;
+    }
+    match stored.named(&debug_name(id)) {
+        Some(file) if is_debug_of(id, file.image) => Some(file),
+        _ => None,
+    }
+}
+
+/// The debug file of the executable that is used.
+#[tactic(auto, unfolding(crate::specs::ByBuild::debug_of))]
+pub(crate) fn debug_of<'a>(stored: &Table<'a>, chosen: ChosenFile<'_>) -> Option<Attached<'a>>
+    ensures { option_map attached_view result ≡ spec.debug_of (table_rows stored.now) (chosen_view chosen.entry) }
+{
+    match chosen.used() {
+        Some(executable) => debug_stored(stored, build_id(executable.image)),
+        None => None,
+    }
+}
+
+/// The executables that are stored for a core's mapped files, each under the name of its file: those that are used, those that are not,
+/// and the debug files of those that are used.
 #[derive(Drop)]
 pub struct ChosenExecutables<'a> {
     /// Those that are used.
@@ -148,10 +185,12 @@ pub struct ChosenExecutables<'a> {
     /// Those that are stored under the path and not used: the core tells a build ID for the file, and they have another, or none; or they
     /// are debug files.
     pub others: Vec<Attached<'a>>,
+    /// The debug files of those that are used.
+    pub debugs: Vec<Attached<'a>>,
 }
 
 impl<'a> ChosenExecutables<'a> {
-    ghost use Rattle.build_replies.specs.ChoosingWords.{choice_view, no_choice, with_chosen};
+    ghost use Rattle.build_replies.specs.ChoosingWords.{choice_view, no_choice, with_chosen, with_debug};
 
     /// None yet.
     fn new(alloc: Global) -> ChosenExecutables<'a>
@@ -160,7 +199,18 @@ impl<'a> ChosenExecutables<'a> {
         ChosenExecutables {
             used: Vec::new(alloc),
             others: Vec::new(alloc),
+            debugs: Vec::new(alloc),
         }
+    }
+
+    /// Puts a debug file where it belongs, under the name of the mapped file. The error is that there is no memory.
+    fn add_debug(&mut self, path: &'a [u8], debug: Option<Attached<'a>>) -> Result<(), AllocError>
+        ensures { OnOk result (choice_view self.new ≡ with_debug path.entry.now (option_map attached_view debug.entry) (choice_view self.old)) }
+    {
+        if let Some(Attached { image, .. }) = debug {
+            self.debugs.push(Attached { path, image })?;
+        }
+        Ok(())
     }
 
     /// Puts what a mapped file has where it belongs, under the file's name. The error is that there is no memory.
@@ -191,7 +241,9 @@ impl<'a> ChosenExecutables<'a> {
         let table = Table::of(alloc, stored)?;
         let mut chosen = ChosenExecutables::new(alloc);
         for file in files {
-            chosen.add(file.name, ChosenFile::for_file(&table, file))?;
+            let executable = ChosenFile::for_file(&table, file);
+            chosen.add(file.name, executable)?;
+            chosen.add_debug(file.name, debug_of(&table, executable))?;
         }
         Ok(chosen)
     }

@@ -22,6 +22,6 @@ pub use choosing::{ChosenExecutables, ChosenFile};
 pub use ids::{FrontId, listed, told_ids};
 pub use mapped::MappedFiles;
 pub use places::{FrontPlace, FrontPlaces};
-pub use stored_names::{StoredNames, build_names};
+pub use stored_names::{StoredNames, build_names, debug_names};
 pub use used::NumberedCase;
 pub use wanted::{WantedBuild, wanted_builds};

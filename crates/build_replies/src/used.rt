@@ -3,6 +3,7 @@ ghost use Rattle.std.specs.Prelude.{◌≡◌, find, map};
 ghost use Rattle.std.specs.List.{flat_map};
 ghost use Rattle.std.specs.Option.{option_map};
 ghost use Rattle.std.specs.Str.{bytes_eq};
+ghost use Rattle.address_space.specs.SpaceWords.{attached_view};
 ghost use Rattle.script_streams.specs.Replies.{TellsText, telling};
 ghost use Rattle.build_replies.specs.Builds as spec;
 ghost use Rattle.build_replies.specs.BuildsWords.{numbered_view};
@@ -11,6 +12,7 @@ ghost use Rattle.build_replies.specs.Mapped.{build_view};
 
 use crate::answers::BuildAnswer;
 use crate::choosing::ChosenFile;
+use address_space::Attached;
 use script_streams::{Output, Reply};
 
 /// A case, by its number and its name.
@@ -39,11 +41,18 @@ fn number_named(cases: &[NumberedCase<'_>], name: &[u8]) -> Option<u32>
     }
 }
 
+/// The number of the case as which a file is stored.
+fn case_of_file(cases: &[NumberedCase<'_>], file: Option<Attached<'_>>) -> Option<u32>
+    ensures { result ≡ spec.case_of_file (map numbered_view cases.now) (option_map attached_view file.entry) }
+{
+    number_named(cases, file?.path)
+}
+
 /// The number of the case whose executable is used.
 fn case_used(cases: &[NumberedCase<'_>], chosen: ChosenFile<'_>) -> Option<u32>
     ensures { result ≡ spec.case_used (map numbered_view cases.now) (chosen_view chosen.entry) }
 {
-    number_named(cases, chosen.used()?.path)
+    case_of_file(cases, chosen.used())
 }
 
 /// Tells a number, or `-`.
@@ -66,7 +75,9 @@ fn tell_line<O: Output>(reply: &mut Reply<'_, O>, cases: &[NumberedCase<'_>], ro
     tell_number(reply, case_used(cases, row.chosen));
     reply.tell(b" ");
     reply.tell(row.chosen.how());
-    reply.tell(b" -\n");
+    reply.tell(b" ");
+    tell_number(reply, case_of_file(cases, row.debug));
+    reply.tell(b"\n");
 }
 
 /// Tells a line for each name.

@@ -1,5 +1,5 @@
 -- One screen of a case: what its image says, the lines that are asked of it, and what is shown of both.
-use Rattle.std.specs.Prelude.{◌≡◌, ℕ, false, if◌then◌else◌, List, length, min, Option, Result, Ok, Err, IfOk, Vec}
+use Rattle.std.specs.Prelude.{◌≡◌, ◌++◌, ℕ, false, if◌then◌else◌, List, length, min, Option, Result, Ok, Err, IfOk, Vec}
 use Rattle.std.specs.Borrow.{Bor}
 use Rattle.std.specs.Global.{Global}
 use Rattle.std.specs.Option.{option_map}
@@ -9,7 +9,7 @@ use Rattle.archive_files.specs.declared.failures.Refusal.{Refusal}
 use Rattle.archive_files.specs.declared.failures.Refusal.TheVariants.{Open}
 use Rattle.build_replies.specs.Builds.{NamedId, told_of, told_or_none}
 use Rattle.build_replies.specs.declared.answers.BuildAnswer.{BuildAnswer}
-use Rattle.case_queries.specs.Collecting.{CollectsAll, wanted_by}
+use Rattle.case_queries.specs.Collecting.{CollectsAll, debugs_by, wanted_by}
 use Rattle.case_queries.specs.Facts.{SaysFacts}
 use Rattle.case_queries.specs.Seeing.{SeesImage}
 use Rattle.case_queries.specs.declared.facts.CoreFacts.{CoreFacts}
@@ -53,8 +53,8 @@ pub record AreFactsOf (f : CoreFacts) (a : CoreAnswers) : Type 0 where
   pub unwound : a.unwound.now ≡ f.unwound.items
   pub builds : option_map (λ (rows : Bor (List BuildAnswer)). rows.now) a.builds ≡ option_map (λ (v : Vec BuildAnswer Global). v.items) f.builds
 
--- The executables that are stored for the mapped files of a core, by their names or by the builds that it tells, are read. With them the
--- frames of its threads that are shown are found, and the build IDs of the files, of the image that was seen before; and what is shown is
+-- The executables that are stored for the mapped files of a core, by their names or by the builds that it tells, are read, and then the
+-- debug files of those that are used. With them the frames of its threads that are shown are found, and the build IDs of the files, of the image that was seen before; and what is shown is
 -- that.
 pub record FindsFacts {D : Type 0} (g : disk.Ghosts D) (old mid : Parts D) (seq : ℕ) (image front : List ℕ) (threads : ℕ) (a : CoreAnswers) (new : Parts D) : Type 0 where
   pub told : Option (List NamedId)
@@ -62,8 +62,11 @@ pub record FindsFacts {D : Type 0} (g : disk.Ghosts D) (old mid : Parts D) (seq 
   pub executables : List ExecutableView
   pub read : Parts D
   pub collects : CollectsAll g mid (wanted_by (told_or_none told) (state_of mid).cases) (Ok executables) read
+  pub debug_files : List ExecutableView
+  pub all : Parts D
+  pub debugs : CollectsAll g read (debugs_by (told_or_none told) executables (state_of read).cases) (Ok debug_files) all
   pub facts : CoreFacts
-  pub says : SaysFacts g old seq front (length image) told executables threads facts new
+  pub says : SaysFacts g old seq front (length image) told (executables ++ debug_files) threads facts new
   pub are : AreFactsOf facts a
 
 -- nothing more is read of a core that has a fault

@@ -10,7 +10,7 @@ ghost use Rattle.case_info.specs.Fronts.{SaysCore};
 ghost use Rattle.case_info.specs.Screens.{IsScreenBy, ShowsCase, ShowsCore, ShowsExec, ShowsOn, held};
 
 use crate::front::{CoreFront, core_in, front_of, header_in, size_of};
-use crate::gathered::{builds_in, executables_of, facts_of, told_of};
+use crate::gathered::{builds_in, debug_files_of, executables_of, facts_of, told_of};
 use crate::telling::{shown, write_text};
 use archive_files::{ArchivePath, Collected, Failure, Refusal, take_look, unasked};
 use build_replies::BuildAnswer;
@@ -154,7 +154,17 @@ fn core_screen<D: Disk>(
     };
     let told = told_of(alloc, image, &core, archive)?;
     let executables = executables_of(alloc, &told, archive)?;
-    let facts = facts_of(alloc, image, &core, told, &executables, words, archive)?;
+    let debug_files = debug_files_of(alloc, &told, &executables, archive)?;
+    let facts = facts_of(
+        alloc,
+        image,
+        &core,
+        told,
+        &executables,
+        &debug_files,
+        words,
+        archive,
+    )?;
     Ok(put_core(
         alloc,
         archive,

@@ -1,8 +1,8 @@
 // What is found in the memory of a core, over one archive that is open.
-ghost use Rattle.std.specs.Prelude.{◌≡◌, ◌≤◌, false, IfOk, Ok, length, map, option_map};
+ghost use Rattle.std.specs.Prelude.{◌≡◌, ◌≤◌, ◌++◌, false, IfOk, Ok, length, map, option_map};
 ghost use Rattle.build_replies.specs.Builds.{told_or_none};
 ghost use Rattle.build_replies.specs.Mapped.{told_view};
-ghost use Rattle.case_queries.specs.Collecting.{CollectsAll, wanted_by};
+ghost use Rattle.case_queries.specs.Collecting.{CollectsAll, debugs_by, wanted_by};
 ghost use Rattle.case_queries.specs.CollectingWords.{executable_view};
 ghost use Rattle.case_queries.specs.Facts.{SaysFacts};
 ghost use Rattle.case_queries.specs.Fronts.{HasSize, IsSoundFront, ReadsFront};
@@ -18,8 +18,8 @@ use crate::case::InfoWords;
 use archive_files::Refusal;
 use build_replies::BuildAnswer;
 use case_queries::{
-    CaseImage, CoreFacts, StoredExecutable, ToldFiles, WalkFault, core_facts, stored_executables,
-    told_files,
+    CaseImage, CoreFacts, StoredExecutable, ToldFiles, WalkFault, core_facts, stored_debug_files,
+    stored_executables, told_files,
 };
 use case_screens::{MOST_THREADS, thread_count};
 use disk_model::Disk;
@@ -64,13 +64,30 @@ pub(crate) fn executables_of<D: Disk>(
     }
 }
 
-// Finds the frames of the threads of a core that are shown, and the build IDs of its mapped files, with these executables.
+// The debug files of those of these executables that are used.
+pub(crate) fn debug_files_of<D: Disk>(
+    alloc: Global,
+    told: &ToldFiles<'_>,
+    executables: &[StoredExecutable],
+    archive: &mut Archive<D>,
+) -> Result<Vec<StoredExecutable>, Refusal>
+    requires { archive.old.stopped ≡ false }
+    ensures { IfOk result (λ v. CollectsAll D.Disk archive.old (debugs_by (told_or_none (told_view told.now.files)) (map executable_view executables.now) (state_of archive.old).cases) (Ok (map executable_view v.items)) archive.new) }
+{
+    match stored_debug_files(alloc, told, executables, archive) {
+        Ok(debug_files) => Ok(debug_files),
+        Err(fault) => Err(Refusal::Call(fault)),
+    }
+}
+
+// Finds the frames of the threads of a core that are shown, and the build IDs of its mapped files, with these executables and debug files.
 pub(crate) fn facts_of<'a, D: Disk>(
     alloc: Global,
     image: CaseImage<'_>,
     core: &CoreImage<'a>,
     told: ToldFiles<'a>,
     executables: &'a [StoredExecutable],
+    debug_files: &'a [StoredExecutable],
     words: InfoWords,
     archive: &mut Archive<D>,
 ) -> Result<CoreFacts<'a>, Refusal>
@@ -80,10 +97,19 @@ pub(crate) fn facts_of<'a, D: Disk>(
     requires sound { IsSoundFront want.Core image.front.now }
     requires told { IsToldBy image told }
     ensures { IfOk result (λ facts. (before : Parts D) → SeesPieces D.Disk before image.entry told.entry.pieces.items archive.old
-        → SaysFacts D.Disk before image.entry.seq image.entry.front.now image.entry.size (told_view told.entry.files) (map executable_view executables.now) (shown_count words (notes_read (Ok core.now))) facts archive.new) }
+        → SaysFacts D.Disk before image.entry.seq image.entry.front.now image.entry.size (told_view told.entry.files) (map executable_view executables.now ++ map executable_view debug_files.now) (shown_count words (notes_read (Ok core.now))) facts archive.new) }
 {
     let count = shown_count(core, words);
-    match core_facts(alloc, image, core, told, executables, count, archive) {
+    match core_facts(
+        alloc,
+        image,
+        core,
+        told,
+        executables,
+        debug_files,
+        count,
+        archive,
+    ) {
         Ok(facts) => Ok(facts),
         Err(fault) => Err(refusal_of(fault)),
     }
@@ -106,7 +132,7 @@ pub(crate) fn builds_of<'a, D: Disk>(
     ensures { IfOk result (λ facts. (before : Parts D) → SeesPieces D.Disk before image.entry told.entry.pieces.items archive.old
         → SaysFacts D.Disk before image.entry.seq image.entry.front.now image.entry.size (told_view told.entry.files) (map executable_view executables.now) 0 facts archive.new) }
 {
-    match core_facts(alloc, image, core, told, executables, 0, archive) {
+    match core_facts(alloc, image, core, told, executables, &[], 0, archive) {
         Ok(facts) => Ok(facts),
         Err(fault) => Err(refusal_of(fault)),
     }

@@ -8,7 +8,7 @@ use Rattle.disk_model.specs.declared.disk.Disk as disk
 use Rattle.intake.specs.Parts.{Parts}
 use Rattle.intake.specs.StayLaws.{stays_none}
 use Rattle.intake.specs.declared.faults.ArchiveFault.{ArchiveFault}
-use Rattle.case_queries.specs.Collecting.{Collects, Wanted, with_executable}
+use Rattle.case_queries.specs.Collecting.{Collects, CollectsAll, Wanted, with_executable}
 use Rattle.case_queries.specs.CollectingWords.{collected_view, executable_view, read_as}
 use Rattle.case_queries.specs.Keeping.{StayCollected}
 use Rattle.case_queries.specs.Seeing.{AreOfCase, SeesImage}
@@ -68,3 +68,7 @@ module _ {D : Type 0} (g : disk.Ghosts D) (now : Parts D) (only : (c : List ℕ)
   pub stay_if : (old : Parts D) (ws : List Wanted) (r : Result (Vec StoredExecutable Global) ArchiveFault) → IfOk r (λ v. map read_as v.items ≡ ws) → Collects g old ws (collected_view r) now → IfOk r (λ v. StayCollected g now (Some v))
   stay_if old ws (Ok v) are collects = stay_collected old ws v are collects
   stay_if old ws (Err f) are collects = tt
+
+  -- those that were gathered, without an end of memory, are gathered again
+  pub debugs_again : (old last : Parts D) (ws : List Wanted) (views : List ExecutableView) → Leaves g last now → CollectsAll g old ws (Ok views) last → Collects g now ws (Ok views) now
+  debugs_again old last ws views leaves all = ⊎_elim (λ short. absurd (given_not views _ short.0)) (λ collects. again old last ws views leaves collects) all

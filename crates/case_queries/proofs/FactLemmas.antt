@@ -6,10 +6,9 @@ use Rattle.build_replies.specs.Builds.{NamedId}
 use Rattle.build_replies.specs.Choosing.{choice_for}
 use Rattle.disk_model.specs.declared.disk.Disk as disk
 use Rattle.frame_replies.specs.FrameValues.{frames_of, thread_frames}
-use Rattle.frame_replies.specs.Processes.{process_in, state_of}
+use Rattle.frame_replies.specs.Processes.{named_among, process_in, state_of}
 use Rattle.frame_replies.specs.declared.values.FramesAnswer.{FramesAnswer}
 use Rattle.intake.specs.Parts.{Parts}
-use Rattle.memory_replies.specs.Places.{known_among}
 use Rattle.case_queries.specs.Facts.{AreFramesOf, AreOfThread}
 
 -- one thread more
@@ -23,4 +22,4 @@ frames_more g a seq front size told xs t n (v ∷ vs) u all is one = (all.0, fra
 -- a thread that is not there
 pub frames_missing : (image : List ℕ) (xs : List ExecutableView) (t : ℕ) → state_of image t ≡ None → frames_of image xs t ≡ None
 unfolding frames_of
-frames_missing image xs t none = ap (option_map (thread_frames (process_in image (choice_for image xs)) (known_among (choice_for image xs).used))) none
+frames_missing image xs t none = ap (option_map (thread_frames (process_in image (choice_for image xs)) (named_among (choice_for image xs)))) none

@@ -1,6 +1,6 @@
 -- What a line that searches a core shows, with the executables that are read beside it.
-use Rattle.std.proofs.Common.{◌≡◌, ◌≤◌, arith, inl, inr, ⊎_elim, ℕ, List, take, length, map, Option, None, Some, Ok, Err, Vec, Global, refl, ap, sym, ◌∙◌, subst}
-use Rattle.std.proofs.lemmas.List.{length-take, take_all}
+use Rattle.std.proofs.Common.{◌≡◌, ◌≤◌, arith, inl, inr, ⊎_elim, ℕ, List, [], ◌++◌, take, length, map, Option, None, Some, Ok, Err, Vec, Global, refl, ap, sym, ◌∙◌, subst}
+use Rattle.std.proofs.lemmas.List.{append-nil, length-take, take_all}
 use Rattle.elf_view.specs.Header.{segments_of}
 use Rattle.elf_view.specs.Sound.{IsHeaderWhole, IsSound}
 use Rattle.elf_view.specs.declared.faults.Want.TheVariants.{Core}
@@ -24,7 +24,7 @@ use Rattle.intake.specs.declared.faults.ArchiveFault.{ArchiveFault}
 use Rattle.journal_layout.specs.Case.{Case}
 use Rattle.memory_replies.specs.Memory.{mapped_files}
 use Rattle.script_streams.specs.Replies.{no_reply}
-use Rattle.case_queries.specs.Collecting.{Collects, CollectsAll, Wanted, wanted_for, wanted_of}
+use Rattle.case_queries.specs.Collecting.{Collects, CollectsAll, Wanted, debugs_for, gathered_with, wanted_for, wanted_of}
 use Rattle.case_queries.specs.CollectingWords.{executable_view}
 use Rattle.case_queries.specs.Asking.{Asking, asking_answer, asking_query, files_asked, files_asking, for_aim, for_builds, for_frames}
 use Rattle.case_queries.specs.Finding.{AsksFront, IsFrontOfCase, ShowsFound}
@@ -37,6 +37,7 @@ use Rattle.case_queries.specs.declared.collect_executables.StoredExecutable.{Sto
 use Rattle.case_queries.specs.declared.walk.CaseImage.{CaseImage}
 use Rattle.case_queries.proofs.AgainLemmas.{seen_again}
 use Rattle.case_queries.proofs.FindLemmas.{at_start, some_seen}
+use Rattle.case_queries.proofs.GatherLemmas.{alone, unread}
 use Rattle.case_queries.proofs.ShowLemmas.{enough_shows, wanted_enough}
 use Rattle.case_queries.proofs.WindowLemmas.{all_within, enough_cut, seen_reads}
 
@@ -51,6 +52,11 @@ wanted_front law o image sound front cases = wanted_enough law o.front.now image
 aim_wanted : (aim : Aim) (b : List ℕ) (cases : List Case) → wanted_of b cases ≡ wanted_for (asking_query (for_aim aim)) b cases
 aim_wanted (for_bytes needle) b cases = refl
 aim_wanted (for_texts least) b cases = refl
+
+-- with no debug file
+aim_alone : (aim : Aim) (b : List ℕ) (cases : List Case) (xs : List ExecutableView) → debugs_for (asking_query (for_aim aim)) b cases xs ≡ []
+aim_alone (for_bytes needle) b cases xs = refl
+aim_alone (for_texts least) b cases xs = refl
 
 -- what is answered to the line that asks it
 pub aim_answered : (kind : Kind) (aim : Aim) (image : List ℕ) (cases : List Wanted) (xs : List ExecutableView) → asking_answer (for_aim aim) image xs ≡ answer_of kind (asking_query (for_aim aim)) image cases xs
@@ -91,9 +97,12 @@ module _ {D : Type 0} (g : disk.Ghosts D) where
       (
         told.0,
         λ kind. (
-          Ok (map executable_view xs.items),
-          inr (subst (λ (ws : List Wanted). Collects g new ws (Ok (map executable_view xs.items)) new) (wanted_front law o image sound told.0 (state_of new).cases ∙ aim_wanted aim image (state_of new).cases) stay),
-          subst (λ a. Answers a text) (aim_answered kind aim image (wanted_for (asking_query (for_aim aim)) image (state_of new).cases) (map executable_view xs.items)) told.1,
+          gathered_with (wanted_for (asking_query (for_aim aim)) image (state_of new).cases) (map executable_view xs.items) (debugs_for (asking_query (for_aim aim)) image (state_of new).cases (map executable_view xs.items)) (Ok []),
+          alone g (asking_query (for_aim aim)) image new new (map executable_view xs.items) (aim_alone aim image (state_of new).cases (map executable_view xs.items))
+              (inr (subst (λ (ws : List Wanted). Collects g new ws (Ok (map executable_view xs.items)) new) (wanted_front law o image sound told.0 (state_of new).cases ∙ aim_wanted aim image (state_of new).cases) stay)),
+          subst (λ a. Answers a text)
+              (aim_answered kind aim image (wanted_for (asking_query (for_aim aim)) image (state_of new).cases ++ debugs_for (asking_query (for_aim aim)) image (state_of new).cases (map executable_view xs.items)) (map executable_view xs.items)
+              ∙ ap (answer_of kind (asking_query (for_aim aim)) image (wanted_for (asking_query (for_aim aim)) image (state_of new).cases ++ debugs_for (asking_query (for_aim aim)) image (state_of new).cases (map executable_view xs.items))) (sym (append-nil (map executable_view xs.items)))) told.1,
         ),
       ),
     )
@@ -111,7 +120,7 @@ module _ {D : Type 0} (g : disk.Ghosts D) where
             x.2,
             λ kind. (
               Err f,
-              subst (λ (ws : List Wanted). CollectsAll g mid ws (Err f) new) (wanted_front law o x.0 sound x.2 (state_of mid).cases ∙ aim_wanted aim x.0 (state_of mid).cases) collects,
+              unread g (asking_query (for_aim aim)) x.0 mid new f (subst (λ (ws : List Wanted). CollectsAll g mid ws (Err f) new) (wanted_front law o x.0 sound x.2 (state_of mid).cases ∙ aim_wanted aim x.0 (state_of mid).cases) collects),
               refl,
             ),
           ),

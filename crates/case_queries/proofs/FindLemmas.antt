@@ -282,3 +282,6 @@ module _ {D : Type 0} (g : disk.Ghosts D) (only : (d : D) (c : List ℕ) → g.l
 
   pub still_sized : (old new : Parts D) (seq size : ℕ) (xs : List Wanted) (views : List ExecutableView) → HasSize (state_of old) seq size → CollectsAll g old xs (Ok views) new → HasSize (state_of new) seq size
   still_sized old new seq size xs views has all = subst (λ (s : ArchiveState). HasSize s seq size) (sym (gathered_all old new xs views all).state) has
+
+  pub runs_after : (old new : Parts D) (xs : List Wanted) (views : List ExecutableView) → (state_of old).stopped ≡ false → CollectsAll g old xs (Ok views) new → (state_of new).stopped ≡ false
+  runs_after old new xs views runs all = ap (λ (s : ArchiveState). s.stopped) (gathered_all old new xs views all).state ∙ runs

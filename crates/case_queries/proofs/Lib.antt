@@ -15,3 +15,4 @@ pub mod BuildLemmas
 pub mod StoredLemmas
 pub mod FactLemmas
 pub mod ToldLemmas
+pub mod GatherLemmas

@@ -8,7 +8,7 @@ use Rattle.elf_view.specs.Sound.{IsHeaderWhole, IsSound}
 use Rattle.elf_view.specs.declared.faults.Want.TheVariants.{Core}
 use Rattle.memory_replies.specs.Memory.{has_name, mapped_files}
 use Rattle.case_queries.specs.Fronts.{IsEnough}
-use Rattle.case_queries.specs.Collecting.{is_exec, wanted_case, wanted_for, wanted_of}
+use Rattle.case_queries.specs.Collecting.{Wanted, debugs_for, is_exec, wanted_case, wanted_for, wanted_of}
 use Rattle.case_queries.specs.Windows.{IsSeenBy}
 use Rattle.disk_model.specs.declared.disk.Disk as disk
 use Rattle.image_replies.specs.Core.{core_fault_of}
@@ -22,6 +22,8 @@ use Rattle.memory_replies.specs.declared.outcome.Outcome.{Outcome}
 use Rattle.memory_replies.specs.declared.outcome.Outcome.TheVariants.{Done, Refused, OutOfMemory}
 use Rattle.memory_replies.specs.Symbol.{symbol_answer, executable_fault}
 use Rattle.script_lines.specs.Queries.{image_query, memory_query, ask_symbol}
+use Rattle.address_space.specs.Source.{ExecutableView}
+use Rattle.script_lines.specs.declared.query.BuildQuery.TheVariants as builds
 use Rattle.script_lines.specs.declared.query.ImageQuery.{ImageQuery}
 use Rattle.script_lines.specs.declared.query.ImageQuery.TheVariants.{Header, Notes, Threads, Registers, Process, Signal, AuxiliaryVector, Files, Maps}
 use Rattle.script_lines.specs.declared.query.MemoryQuery.{MemoryQuery}
@@ -122,3 +124,15 @@ wanted_same law (Backtrace thread) front size at bytes image by cases = wanted_e
 wanted_same law (Unwind thread) front size at bytes image by cases = ap (λ b. wanted_for (memory_query (Unwind thread)) b cases) by
 wanted_same law (Frame thread frame) front size at bytes image by cases = ap (λ b. wanted_for (memory_query (Frame thread frame)) b cases) by
 wanted_same law (Builds query) front size at bytes image by cases = ap (λ b. wanted_for (memory_query (Builds query)) b cases) by
+
+-- and which debug files
+pub debugs_same : (q : MemoryQuery) (front : List ℕ) (size at : ℕ) (bytes image : List ℕ) → IsSeenBy q front size at bytes image → (cases : List Case) (xs : List ExecutableView) → debugs_for (memory_query q) front cases xs ≡ debugs_for (memory_query q) image cases xs
+debugs_same (Dump first n) front size at bytes image by cases xs = refl
+debugs_same (Find needle) front size at bytes image by cases xs = refl
+debugs_same (Strings least) front size at bytes image by cases xs = refl
+debugs_same (Backtrace thread) front size at bytes image by cases xs = refl
+debugs_same (Unwind thread) front size at bytes image by cases xs = ap (λ b. debugs_for (memory_query (Unwind thread)) b cases xs) by
+debugs_same (Frame thread frame) front size at bytes image by cases xs = ap (λ b. debugs_for (memory_query (Frame thread frame)) b cases xs) by
+debugs_same (Builds builds.Compared) front size at bytes image by cases xs = refl
+debugs_same (Builds builds.Used) front size at bytes image by cases xs = ap (λ b. debugs_for (memory_query (Builds builds.Used)) b cases xs) by
+debugs_same (Builds builds.Wanted) front size at bytes image by cases xs = refl

@@ -1,5 +1,5 @@
 -- A line that may ask a case is answered of what is stored.
-use Rattle.std.proofs.Common.{◌≡◌, ◌⊎◌, inl, inr, ⊎_elim, ℕ, ◌-◌, ◌^◌, ◌≤◌, ◌==◌, Bool, true, false, cond, List, [], ◌∷◌, map, Option, None, Some, Result, Ok, Err, refl, sym, ap, subst, ◌∙◌, arith}
+use Rattle.std.proofs.Common.{◌≡◌, ◌⊎◌, inl, inr, ⊎_elim, ℕ, ◌-◌, ◌^◌, ◌≤◌, ◌==◌, Bool, true, false, cond, List, [], ◌∷◌, ◌++◌, map, Option, None, Some, Result, Ok, Err, refl, sym, ap, subst, ◌∙◌, arith}
 use Rattle.std.proofs.lemmas.Bool.{cases_lt, eq-eqb, false≢true}
 use Rattle.std.specs.Prelude.{IsTrue}
 use Rattle.std.specs.List.{All, filter}
@@ -23,13 +23,16 @@ use Rattle.journal_layout.specs.declared.entry.Kind.{Kind}
 use Rattle.script_lines.specs.Queries.{QuerySaid, ask_symbol}
 use Rattle.script_streams.specs.Replies.{no_reply, reply_of}
 use Rattle.memory_replies.specs.Answers.{Answers, memory_reply}
-use Rattle.case_queries.specs.Collecting.{Collects, Wanted, is_for, is_wanted, wanted_case, wanted_for}
+use Rattle.case_queries.specs.Collecting.{Collects, CollectsAll, Gathered, Wanted, debugs_for, gathered_with, is_for, is_named_by, is_wanted, wanted_case, wanted_for}
 use Rattle.build_replies.specs.Choosing.{told_files}
+use Rattle.build_replies.specs.NameWords.{wanted_debugs}
 use Rattle.script_lines.specs.Queries.{ask_header, ask_notes, ask_threads, ask_registers, ask_process, ask_signal, ask_auxiliary_vector, ask_files, ask_maps, ask_dump, ask_find, ask_strings, ask_backtrace, ask_unwind, ask_frame, ask_builds, ask_symbol}
+use Rattle.script_lines.specs.declared.query.BuildQuery.TheVariants as builds
 use Rattle.case_queries.specs.InspectLaws.{asked_kind, steps_of}
 use Rattle.case_queries.specs.Inspecting.{MayAsk, Told, answer_of, reads_executables}
+use Rattle.case_queries.specs.LeaveLaws.{collects_leaves}
 use Rattle.case_queries.specs.Seeing.{LooksAt, SeesImage}
-use Rattle.case_queries.specs.Steps.{Asks, ShowsBy, ShowsCore, ShowsWithExecutables}
+use Rattle.case_queries.specs.Steps.{Asks, ShowsBy, ShowsCore, ShowsWithExecutables, ToldWithExecutables}
 use Rattle.case_queries.specs.Stored.{AnswersAreOfTheCase, AreStored, IsAnsweredOfTheCase, IsHindered, IsStored, WhatIsStoredHasOneAnswer, of_core, of_fault, of_image}
 
 -- the case of a number has its own image
@@ -86,6 +89,27 @@ wanted_there (ask_frame t i) b cases = picked_there (is_for (told_files b)) case
 wanted_there (ask_builds query) b cases = picked_there (is_for (told_files b)) cases
 wanted_there (ask_symbol x) b cases = picked_there (is_wanted b) cases
 
+debugs_there : (q : QuerySaid) (b : List ℕ) (cases : List Case) (xs : List ExecutableView) → All (IsThere cases) (debugs_for q b cases xs)
+debugs_there ask_header b cases xs = All-nil (IsThere cases)
+debugs_there ask_notes b cases xs = All-nil (IsThere cases)
+debugs_there ask_threads b cases xs = All-nil (IsThere cases)
+debugs_there (ask_registers t) b cases xs = All-nil (IsThere cases)
+debugs_there ask_process b cases xs = All-nil (IsThere cases)
+debugs_there ask_signal b cases xs = All-nil (IsThere cases)
+debugs_there ask_auxiliary_vector b cases xs = All-nil (IsThere cases)
+debugs_there ask_files b cases xs = All-nil (IsThere cases)
+debugs_there ask_maps b cases xs = All-nil (IsThere cases)
+debugs_there (ask_dump x n) b cases xs = All-nil (IsThere cases)
+debugs_there (ask_find n) b cases xs = All-nil (IsThere cases)
+debugs_there (ask_strings n) b cases xs = All-nil (IsThere cases)
+debugs_there (ask_backtrace t) b cases xs = All-nil (IsThere cases)
+debugs_there (ask_unwind t) b cases xs = picked_there (is_named_by (wanted_debugs (told_files b) xs)) cases
+debugs_there (ask_frame t i) b cases xs = picked_there (is_named_by (wanted_debugs (told_files b) xs)) cases
+debugs_there (ask_builds builds.Compared) b cases xs = All-nil (IsThere cases)
+debugs_there (ask_builds builds.Used) b cases xs = picked_there (is_named_by (wanted_debugs (told_files b) xs)) cases
+debugs_there (ask_builds builds.Wanted) b cases xs = All-nil (IsThere cases)
+debugs_there (ask_symbol x) b cases xs = All-nil (IsThere cases)
+
 -- a count that rose since a moment rose since each moment before
 risen_since : (a b c : ℕ) → a ≤ b → HasRisen b c → HasRisen a c
 risen_since a b c later rose = (omega (arith, rose.0), λ small. ⊎_elim (λ below. omega (arith, rose.1 below)) (λ above. omega (arith, rose.0)) (cases_lt b (2 ^ 64 - 1)))
@@ -128,6 +152,18 @@ module _ {D : Type 0} (g : disk.Ghosts D) where
   all_stored a old new (w ∷ ws) xs so (Ok image, mid, sees, inr (Ok ys, rest, is)) =
       let same : record { path = w.1; image = image } ∷ ys ≡ xs = cc in
       subst (AreStored g.seen a (w ∷ ws)) same (refl, stored a old mid w.0 image so sees, all_stored a mid new ws ys (sees_as a old mid w.0 image so sees) rest)
+
+  -- and so is the archive after them
+  read_as : (a old new : Parts D) (ws : List Wanted) (xs : List ExecutableView) → ShowsAs a old → Collects g old ws (Ok xs) new → ShowsAs a new
+  read_as a old new [] xs so all = subst (ShowsAs a) (sym all.1) so
+  read_as a old new (w ∷ ws) xs so (Err f, mid, call, more) = absurd cc
+  read_as a old new (w ∷ ws) xs so (Ok image, mid, sees, inl short) = absurd cc
+  read_as a old new (w ∷ ws) xs so (Ok image, mid, sees, inr (Err f, rest, is)) = absurd cc
+  read_as a old new (w ∷ ws) xs so (Ok image, mid, sees, inr (Ok ys, rest, is)) = read_as a mid new ws ys (sees_as a old mid w.0 image so sees) rest
+
+  -- no failure is forgotten
+  later_than : (old new : Parts D) (ws : List Wanted) (xs : List ExecutableView) → Collects g old ws (Ok xs) new → g.failures old.disk ≤ g.failures new.disk
+  later_than old new ws xs all = (collects_leaves g old new ws (Ok xs) all).stays.later
 
   -- why an image of a case that is there can't be read
   abbrev Hinders : Parts D → ArchiveFault → Parts D → Type 0
@@ -172,17 +208,45 @@ module _ {D : Type 0} (g : disk.Ghosts D) where
     here : IsStored g.seen a seq image
     here = stored a a mid seq image (record { honest = honest; state = refl; contents = refl }) sees
 
+    -- what shows as the archive did
+    as_seen : ShowsAs a mid
+    as_seen = sees_as a a mid seq image (record { honest = honest; state = refl; contents = refl }) sees
+
+    runs_on : (state_of mid).stopped ≡ false
+    runs_on = ap (λ (s : ArchiveState). s.stopped) sees.state ∙ runs
+
+    abbrev Wants : List Wanted
+    Wants = wanted_for q image (state_of mid).cases
+
+    abbrev Debugs : List ExecutableView → List Wanted
+    Debugs xs = debugs_for q image (state_of mid).cases xs
+
+    -- why one of those that are wanted can't be read
+    by_unread : (then : Parts D) (ws : List Wanted) (f : ArchiveFault) → (state_of then).stopped ≡ false → All (IsThere (state_of then).cases) ws → g.failures a.disk ≤ g.failures then.disk → CollectsAll g then ws (Err f) new → reply ≡ no_reply (reason_of f) → IsAnswered
+    by_unread then ws f on there later (inl short) told = inr (hindered a new f reply (inl cc) told)
+    by_unread then ws f on there later (inr all) told = inr (hindered a new f reply (hinders_since a then new f later (unread then new ws f on there all)) told)
+
+    by_more : reads_executables q ≡ true → core_fault_of image ≡ None → (xs : List ExecutableView) (read : Parts D) → Collects g mid Wants (Ok xs) read → (more : Result (List ExecutableView) ArchiveFault) → CollectsAll g read (Debugs xs) more new
+        → ToldWithExecutables kind q image (gathered_with Wants xs (Debugs xs) more) reply → IsAnswered
+    by_more reads sound xs read all (Ok ds) (inl short) told = absurd cc
+    by_more reads sound xs read all (Ok ds) (inr rest) told =
+        let are = subst (λ (s : ArchiveState). AreStored g.seen a (wanted_for q image s.cases) xs) sees.state (all_stored a mid read Wants xs as_seen all) in
+        let beside = subst (λ (s : ArchiveState). AreStored g.seen a (debugs_for q image s.cases xs) ds) sees.state (all_stored a read new (Debugs xs) ds (read_as a mid read Wants xs as_seen all) rest) in
+        let answers = subst (λ (s : ArchiveState). Answers (answer_of kind q image (wanted_for q image s.cases ++ debugs_for q image s.cases xs) (xs ++ ds)) reply) sees.state told in
+        ⊎_elim (λ is. inl (of_core image here reads sound xs ds are beside is)) (λ short. inr (inl short)) answers
+    by_more reads sound xs read all (Err f) rest told =
+        let same = (read_as a mid read Wants xs as_seen all).state ∙ sym sees.state in
+        by_unread read (Debugs xs) f (ap (λ (s : ArchiveState). s.stopped) same ∙ runs_on)
+        (subst (λ (s : ArchiveState). All (IsThere s.cases) (Debugs xs)) (sym same) (debugs_there q image (state_of mid).cases xs))
+        (let first = sees.stays.later in let second = later_than mid read Wants xs all in omega (arith, first, second)) rest told
+
     by_core : reads_executables q ≡ true → core_fault_of image ≡ None → ShowsCore g mid kind q image reply new → IsAnswered
-    by_core reads sound (Ok xs, inl short, told) = absurd cc
-    by_core reads sound (Ok xs, inr all, told) =
-        let are = subst (λ (s : ArchiveState). AreStored g.seen a (wanted_for q image s.cases) xs) sees.state
-        (all_stored a mid new (wanted_for q image (state_of mid).cases) xs (sees_as a a mid seq image (record { honest = honest; state = refl; contents = refl }) sees) all) in
-        let answers = subst (λ (s : ArchiveState). Answers (answer_of kind q image (wanted_for q image s.cases) xs) reply) sees.state told in
-        ⊎_elim (λ is. inl (of_core image here reads sound xs are is)) (λ short. inr (inl short)) answers
-    by_core reads sound (Err f, inl short, told) = inr (hindered a new f reply (inl cc) told)
-    by_core reads sound (Err f, inr all, told) =
-        inr (hindered a new f reply (hinders_since a mid new f sees.stays.later
-        (unread mid new (wanted_for q image (state_of mid).cases) f (ap (λ (s : ArchiveState). s.stopped) sees.state ∙ runs) (wanted_there q image (state_of mid).cases) all)) told)
+    by_core reads sound (r, (Ok xs, read, inl short, more), told) = absurd cc
+    by_core reads sound (r, (Ok xs, read, inr all, (more, rest, is)), told) =
+        by_more reads sound xs read all more rest (subst (λ (x : Result Gathered ArchiveFault). ToldWithExecutables kind q image x reply) is told)
+    by_core reads sound (r, (Err f, read, collects, (is, still)), told) =
+        by_unread mid Wants f runs_on (wanted_there q image (state_of mid).cases) sees.stays.later (subst (CollectsAll g mid Wants (Err f)) (sym still) collects)
+        (subst (λ (x : Result Gathered ArchiveFault). ToldWithExecutables kind q image x reply) is told)
 
     by_fault : reads_executables q ≡ true → (o : Option CoreFault) → core_fault_of image ≡ o → ShowsWithExecutables g mid kind q image o reply new → IsAnswered
     by_fault reads (Some fault) is shows = inl (of_fault image here reads fault is shows.0)
@@ -225,18 +289,23 @@ module _ {D : Type 0} (g : disk.Ghosts D) where
   one a seq q kind reply reply' (of_image i x off told) (of_image j y off' told') =
       told' ∙ ap (λ (b : List ℕ). reply_of (answer_of kind q b [] [])) (one_image a seq i j x y) ∙ sym told
   one a seq q kind reply reply' (of_image i x off told) (of_fault j y on fault is told') = absurd (false≢true (sym off ∙ on))
-  one a seq q kind reply reply' (of_image i x off told) (of_core j y on sound xs are told') = absurd (false≢true (sym off ∙ on))
+  one a seq q kind reply reply' (of_image i x off told) (of_core j y on sound xs ds are beside told') = absurd (false≢true (sym off ∙ on))
   one a seq q kind reply reply' (of_fault i x on fault is told) (of_image j y off told') = absurd (false≢true (sym off ∙ on))
   one a seq q kind reply reply' (of_fault i x on fault is told) (of_fault j y on' fault' is' told') =
       let faults : Some fault' ≡ Some fault = sym is' ∙ ap core_fault_of (one_image a seq i j x y) ∙ is in
       let same : fault' ≡ fault = cc in
       told' ∙ ap (λ (f : CoreFault). no_reply (core_reason f)) same ∙ sym told
-  one a seq q kind reply reply' (of_fault i x on fault is told) (of_core j y on' sound xs are told') =
+  one a seq q kind reply reply' (of_fault i x on fault is told) (of_core j y on' sound xs ds are beside told') =
       absurd (let e : None ≡ Some fault = sym sound ∙ ap core_fault_of (one_image a seq i j x y) ∙ is in cc)
-  one a seq q kind reply reply' (of_core i x on sound xs are told) (of_image j y off told') = absurd (false≢true (sym off ∙ on))
-  one a seq q kind reply reply' (of_core i x on sound xs are told) (of_fault j y on' fault is told') =
+  one a seq q kind reply reply' (of_core i x on sound xs ds are beside told) (of_image j y off told') = absurd (false≢true (sym off ∙ on))
+  one a seq q kind reply reply' (of_core i x on sound xs ds are beside told) (of_fault j y on' fault is told') =
       absurd (let e : None ≡ Some fault = sym sound ∙ sym (ap core_fault_of (one_image a seq i j x y)) ∙ is in cc)
-  one a seq q kind reply reply' (of_core i x on sound xs are told) (of_core j y on' sound' ys are' told') =
+  one a seq q kind reply reply' (of_core i x on sound xs ds are beside told) (of_core j y on' sound' ys es are' beside' told') =
+      let cases = (state_of a).cases in
       let image = one_image a seq i j x y in
-      let list = one_list a (wanted_for q i (state_of a).cases) xs ys are (subst (λ (b : List ℕ). AreStored g.seen a (wanted_for q b (state_of a).cases) ys) image are') in
-      told' ∙ ap (λ (b : List ℕ). reply_of (answer_of kind q b (wanted_for q b (state_of a).cases) ys)) image ∙ ap (λ (zs : List ExecutableView). reply_of (answer_of kind q i (wanted_for q i (state_of a).cases) zs)) list ∙ sym told
+      let list = one_list a (wanted_for q i cases) xs ys are (subst (λ (b : List ℕ). AreStored g.seen a (wanted_for q b cases) ys) image are') in
+      let first = subst (λ (b : List ℕ). AreStored g.seen a (debugs_for q b cases ys) es) image beside' in
+      let more = one_list a (debugs_for q i cases xs) ds es beside (subst (λ (zs : List ExecutableView). AreStored g.seen a (debugs_for q i cases zs) es) list first) in
+      told' ∙ ap (λ (b : List ℕ). reply_of (answer_of kind q b (wanted_for q b cases ++ debugs_for q b cases ys) (ys ++ es))) image
+      ∙ ap (λ (zs : List ExecutableView). reply_of (answer_of kind q i (wanted_for q i cases ++ debugs_for q i cases zs) (zs ++ es))) list
+      ∙ ap (λ (zs : List ExecutableView). reply_of (answer_of kind q i (wanted_for q i cases ++ debugs_for q i cases xs) (xs ++ zs))) more ∙ sym told

@@ -1,15 +1,17 @@
 -- What a line asks of a core that is read piece by piece.
 use Rattle.std.specs.Prelude.{⊤, ℕ, List, [], Option, None, Some, Result}
 use Rattle.address_space.specs.Source.{ExecutableView}
-use Rattle.build_replies.specs.Builds.{builds_answer}
+use Rattle.build_replies.specs.Builds.{NamedId, builds_answer}
 use Rattle.frame_replies.specs.FrameLines.{unwind_answer}
 use Rattle.frame_replies.specs.FrameRegisters.{frame_answer}
 use Rattle.memory_replies.specs.Find.{find_answer}
 use Rattle.memory_replies.specs.Texts.{strings_answer}
+use Rattle.journal_layout.specs.Case.{Case}
 use Rattle.script_lines.specs.declared.query.BuildQuery.{BuildQuery}
+use Rattle.script_lines.specs.declared.query.BuildQuery.TheVariants as builds
 use Rattle.script_lines.specs.Queries.{QuerySaid, ask_builds, ask_find, ask_frame, ask_strings, ask_unwind}
 use Rattle.windowed_search.specs.ScanWords.{Aim, IsAim, aim_of, for_bytes, for_texts}
-use Rattle.case_queries.specs.Collecting.{Wanted}
+use Rattle.case_queries.specs.Collecting.{Wanted, debugs_by}
 use Rattle.case_queries.specs.Inspecting.{asking_by}
 use Rattle.case_queries.specs.declared.asked.Asked.{Asked}
 use Rattle.case_queries.specs.declared.asked.Asked.TheVariants as asked
@@ -26,6 +28,12 @@ pub data Asking : Type 0 where
 abbrev pub files_asking : AskedFiles → List Wanted → Asking
 files_asking (files.Frames thread frame) cases = for_frames thread frame
 files_asking (files.Builds query) cases = for_builds query cases
+
+-- the debug files that the line reads after these executables, for these mapped files
+abbrev pub debugs_asked : AskedFiles → List NamedId → List ExecutableView → List Case → List Wanted
+debugs_asked (files.Frames thread frame) told xs cases = debugs_by told xs cases
+debugs_asked (files.Builds builds.Used) told xs cases = debugs_by told xs cases
+debugs_asked (files.Builds q) told xs cases = []
 
 -- before the cases are known: the line is the same
 abbrev pub files_asked : AskedFiles → Asking

@@ -24,8 +24,8 @@ module _ {D : Type 0} (g : disk.Ghosts D) (old : Parts D) (seq : ℕ) (q : Query
 
     of_core : reads_executables q ≡ true → (o : Option CoreFault) → core_fault_of image ≡ o → ShowsWithExecutables g mid kind q image o reply new → Inspects g old seq q reply new
     of_core reads (Some fault) is shows = core_faulty kind may image (looked shows.1) reads fault is shows.0
-    of_core reads None is (Ok xs, collects, told) = shown_with_executables kind may image mid looks reads is xs collects told
-    of_core reads None is (Err f, collects, told) = executable_unread kind may image mid looks reads is f collects told
+    of_core reads None is (Ok read, gathers, told) = shown_with_executables kind may image mid looks reads is read gathers told
+    of_core reads None is (Err f, gathers, told) = executable_unread kind may image mid looks reads is f gathers told
 
     of_image : (b : Bool) → reads_executables q ≡ b → ShowsBy g mid kind q image b reply new → Inspects g old seq q reply new
     of_image true reads shows = of_core reads (core_fault_of image) refl shows
@@ -83,10 +83,10 @@ module _ {D : Type 0} (g : disk.Ghosts D) (old : Parts D) (seq : ℕ) (q : Query
     steps_of (image_unread kind may f looks told) = as_kind (Ok kind) (asked_kind kind may) (Err f, new, looks, (told, refl))
     steps_of (core_faulty kind may image looks reads fault is told) =
         as_kind (Ok kind) (asked_kind kind may) (Ok image, new, looks, by_reads kind image new true reads (by_fault kind image new (Some fault) is (told, refl)))
-    steps_of (executable_unread kind may image mid looks reads sound f collects told) =
-        as_kind (Ok kind) (asked_kind kind may) (Ok image, mid, looks, by_reads kind image mid true reads (by_fault kind image mid None sound (Err f, collects, told)))
-    steps_of (shown_with_executables kind may image mid looks reads sound xs collects told) =
-        as_kind (Ok kind) (asked_kind kind may) (Ok image, mid, looks, by_reads kind image mid true reads (by_fault kind image mid None sound (Ok xs, collects, told)))
+    steps_of (executable_unread kind may image mid looks reads sound f gathers told) =
+        as_kind (Ok kind) (asked_kind kind may) (Ok image, mid, looks, by_reads kind image mid true reads (by_fault kind image mid None sound (Err f, gathers, told)))
+    steps_of (shown_with_executables kind may image mid looks reads sound read gathers told) =
+        as_kind (Ok kind) (asked_kind kind may) (Ok image, mid, looks, by_reads kind image mid true reads (by_fault kind image mid None sound (Ok read, gathers, told)))
     steps_of (shown kind may image looks reads told) =
         as_kind (Ok kind) (asked_kind kind may) (Ok image, new, looks, by_reads kind image new false reads (told, refl))
 

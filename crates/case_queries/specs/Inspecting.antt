@@ -36,7 +36,7 @@ use Rattle.script_lines.specs.declared.query.BuildQuery.{BuildQuery}
 use Rattle.script_lines.specs.declared.query.BuildQuery.TheVariants as builds
 use Rattle.script_lines.specs.Queries.{QuerySaid, ask_header, ask_notes, ask_threads, ask_registers, ask_process, ask_signal, ask_auxiliary_vector, ask_files, ask_maps, ask_dump, ask_find, ask_strings, ask_backtrace, ask_unwind, ask_frame, ask_builds, ask_symbol}
 use Rattle.script_streams.specs.Replies.{no_reply, reply_of}
-use Rattle.case_queries.specs.Collecting.{CollectsAll, Wanted, wanted_for}
+use Rattle.case_queries.specs.Collecting.{Gathered, GathersFor, Wanted}
 use Rattle.archive_replies.specs.Reasons.{reason_of}
 use Rattle.case_queries.specs.Seeing.{LooksAt}
 
@@ -121,12 +121,12 @@ pub data Inspects {D : Type 0} (g : disk.Ghosts D) (old : Parts D) (seq : ℕ) (
       → reads_executables q ≡ true → (fault : CoreFault) → core_fault_of image ≡ Some fault → reply ≡ no_reply (core_reason fault) → Inspects g old seq q reply new
   -- one of them can't be read
   executable_unread : (kind : Kind) → MayAsk (state_of old) seq q kind → (image : List ℕ) → (mid : Parts D) → LooksAt g old seq (Ok image) mid
-      → reads_executables q ≡ true → core_fault_of image ≡ None → (f : ArchiveFault) → CollectsAll g mid (wanted_for q image (state_of mid).cases) (Err f) new → reply ≡ no_reply (reason_of f)
+      → reads_executables q ≡ true → core_fault_of image ≡ None → (f : ArchiveFault) → GathersFor g mid q image (Err f) new → reply ≡ no_reply (reason_of f)
       → Inspects g old seq q reply new
-  -- the answer is shown, of the image and of the executables
+  -- the answer is shown, of the image, of the executables and of their debug files
   shown_with_executables : (kind : Kind) → MayAsk (state_of old) seq q kind → (image : List ℕ) → (mid : Parts D) → LooksAt g old seq (Ok image) mid
-      → reads_executables q ≡ true → core_fault_of image ≡ None → (xs : List ExecutableView) → CollectsAll g mid (wanted_for q image (state_of mid).cases) (Ok xs) new
-      → Answers (answer_of kind q image (wanted_for q image (state_of mid).cases) xs) reply → Inspects g old seq q reply new
+      → reads_executables q ≡ true → core_fault_of image ≡ None → (read : Gathered) → GathersFor g mid q image (Ok read) new
+      → Answers (answer_of kind q image read.cases read.images) reply → Inspects g old seq q reply new
   -- the answer is shown, of the image alone
   shown : (kind : Kind) → MayAsk (state_of old) seq q kind → (image : List ℕ) → LooksAt g old seq (Ok image) new → reads_executables q ≡ false → Told kind q image reply
       → Inspects g old seq q reply new

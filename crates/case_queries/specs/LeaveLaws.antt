@@ -19,7 +19,7 @@ use Rattle.journal_layout.specs.Soundness.{case_numbered}
 use Rattle.journal_layout.specs.Case.{Case}
 use Rattle.journal_layout.specs.declared.entry.Kind.{Kind}
 use Rattle.script_lines.specs.Queries.{QuerySaid}
-use Rattle.case_queries.specs.Collecting.{Collects, CollectsAll, Wanted}
+use Rattle.case_queries.specs.Collecting.{Collects, CollectsAll, Gathered, Gathers, GathersMore, Wanted}
 use Rattle.case_queries.specs.Inspecting.{reads_executables}
 use Rattle.case_queries.specs.Steps.{Asks, ShowsBy, ShowsWithExecutables, ShowsSeen}
 use Rattle.case_queries.specs.Seeing.{AreOfCase, LooksAt}
@@ -125,9 +125,16 @@ module _ {D : Type 0} (g : disk.Ghosts D) where
   pub all_leaves : (old new : Parts D) (xs : List Wanted) (r : Result (List ExecutableView) ArchiveFault) → CollectsAll g old xs r new → Leaves g old new
   all_leaves old new xs r all = ⊎_elim (λ short. leaves_as old new short.1) (λ collects. collects_leaves old new xs r collects) all
 
+  more_leaves : (mid new : Parts D) (ws : List Wanted) (debugs : List ExecutableView → List Wanted) (first : Result (List ExecutableView) ArchiveFault) (r : Result Gathered ArchiveFault) → GathersMore g mid ws debugs first r new → Leaves g mid new
+  more_leaves mid new ws debugs (Ok xs) r (more, collects, is) = all_leaves mid new (debugs xs) more collects
+  more_leaves mid new ws debugs (Err f) r (is, still) = leaves_as mid new still
+
+  pub gathers_leaves : (old new : Parts D) (ws : List Wanted) (debugs : List ExecutableView → List Wanted) (r : Result Gathered ArchiveFault) → Gathers g old ws debugs r new → Leaves g old new
+  gathers_leaves old new ws debugs r (first, mid, collects, more) = leaves_then old mid new (all_leaves old mid ws first collects) (more_leaves mid new ws debugs first r more)
+
   with_executables_leaves : (old new : Parts D) (kind : Kind) (q : QuerySaid) (b : List ℕ) (fault : Option CoreFault) (reply : List ℕ) → ShowsWithExecutables g old kind q b fault reply new → Leaves g old new
   with_executables_leaves old new kind q b (Some fault) reply shows = leaves_as old new shows.1
-  with_executables_leaves old new kind q b None reply shows = all_leaves old new _ shows.0 shows.1
+  with_executables_leaves old new kind q b None reply shows = gathers_leaves old new _ _ shows.0 shows.1
 
   pub shows_leaves : (old new : Parts D) (kind : Kind) (q : QuerySaid) (b : List ℕ) (t : Bool) (reply : List ℕ) → ShowsBy g old kind q b t reply new → Leaves g old new
   shows_leaves old new kind q b true reply shows = with_executables_leaves old new kind q b (core_fault_of b) reply shows
@@ -174,9 +181,17 @@ module _ {D : Type 0} (g : disk.Ghosts D) (only : (d : D) (c : List ℕ) → g.l
   all_quiet : (old new : Parts D) (xs : List Wanted) (r : Result (List ExecutableView) ArchiveFault) → CollectsAll g old xs r new → Quiet old new
   all_quiet old new xs r all = ⊎_elim (λ short. quiet_as old new short.1) (λ collects. collects_quiet old new xs r collects) all
 
+  more_quiet : (mid new : Parts D) (ws : List Wanted) (debugs : List ExecutableView → List Wanted) (first : Result (List ExecutableView) ArchiveFault) (r : Result Gathered ArchiveFault) → GathersMore g mid ws debugs first r new → Quiet mid new
+  more_quiet mid new ws debugs (Ok xs) r (more, collects, is) = all_quiet mid new (debugs xs) more collects
+  more_quiet mid new ws debugs (Err f) r (is, still) = quiet_as mid new still
+
+  gathers_quiet : (old new : Parts D) (ws : List Wanted) (debugs : List ExecutableView → List Wanted) (r : Result Gathered ArchiveFault) → Gathers g old ws debugs r new → Quiet old new
+  gathers_quiet old new ws debugs r (first, mid, collects, more) =
+      quiet_then g old.disk mid.disk new.disk (all_quiet old mid ws first collects) (more_quiet mid new ws debugs first r more)
+
   with_executables_quiet : (old new : Parts D) (kind : Kind) (q : QuerySaid) (b : List ℕ) (fault : Option CoreFault) (reply : List ℕ) → ShowsWithExecutables g old kind q b fault reply new → Quiet old new
   with_executables_quiet old new kind q b (Some fault) reply shows = quiet_as old new shows.1
-  with_executables_quiet old new kind q b None reply shows = all_quiet old new _ shows.0 shows.1
+  with_executables_quiet old new kind q b None reply shows = gathers_quiet old new _ _ shows.0 shows.1
 
   shows_quiet : (old new : Parts D) (kind : Kind) (q : QuerySaid) (b : List ℕ) (t : Bool) (reply : List ℕ) → ShowsBy g old kind q b t reply new → Quiet old new
   shows_quiet old new kind q b true reply shows = with_executables_quiet old new kind q b (core_fault_of b) reply shows

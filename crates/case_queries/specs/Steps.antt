@@ -17,7 +17,7 @@ use Rattle.memory_replies.specs.Answers.{Answers}
 use Rattle.script_lines.specs.Queries.{QuerySaid}
 use Rattle.script_streams.specs.Replies.{no_reply}
 use Rattle.archive_replies.specs.Reasons.{reason_of}
-use Rattle.case_queries.specs.Collecting.{CollectsAll, Wanted, wanted_for}
+use Rattle.case_queries.specs.Collecting.{CollectsAll, Gathered, GathersFor, Wanted, debugs_for, gathered_with}
 use Rattle.case_queries.specs.Inspecting.{Told, answer_of, kind_for, reads_executables}
 use Rattle.case_queries.specs.Seeing.{LooksAt}
 
@@ -30,15 +30,21 @@ kind_found q (Some c) = kind_for q c.origin.kind
 abbrev pub kind_asked : ArchiveState → ℕ → QuerySaid → Result Kind (List ℕ)
 kind_asked s seq q = if s.stopped then Err (codes "Stopped") else kind_found q (case_numbered seq s.cases)
 
--- the reply where the executables of these cases are read, or one can't be
-abbrev pub ToldWithExecutables : Kind → QuerySaid → List ℕ → List Wanted → Result (List ExecutableView) ArchiveFault → List ℕ → Type 0
-ToldWithExecutables kind q b cases (Ok xs) reply = Answers (answer_of kind q b cases xs) reply
-ToldWithExecutables kind q b cases (Err f) reply = reply ≡ no_reply (reason_of f)
+-- the reply where these are read, or one can't be
+abbrev pub ToldWithExecutables : Kind → QuerySaid → List ℕ → Result Gathered ArchiveFault → List ℕ → Type 0
+ToldWithExecutables kind q b (Ok read) reply = Answers (answer_of kind q b read.cases read.images) reply
+ToldWithExecutables kind q b (Err f) reply = reply ≡ no_reply (reason_of f)
+
+-- after the executables of these cases the debug files are read that a line wants, which sees these bytes of the core
+abbrev pub ShowsGathered : {D : Type 0} → disk.Ghosts D → Parts D → Kind → QuerySaid → List ℕ → List ℕ → List Wanted → List ExecutableView → List ℕ → Parts D → Type 0
+ShowsGathered g mid kind q b front ws xs reply new =
+    (more : Result (List ExecutableView) ArchiveFault) × CollectsAll g mid (debugs_for q front (state_of mid).cases xs) more new
+    × ToldWithExecutables kind q b (gathered_with ws xs (debugs_for q front (state_of mid).cases xs) more) reply
 
 -- a core that has no fault, with the executables that are read for it
 abbrev pub ShowsCore : {D : Type 0} → disk.Ghosts D → Parts D → Kind → QuerySaid → List ℕ → List ℕ → Parts D → Type 0
 ShowsCore g old kind q b reply new =
-    (r : Result (List ExecutableView) ArchiveFault) × CollectsAll g old (wanted_for q b (state_of old).cases) r new × ToldWithExecutables kind q b (wanted_for q b (state_of old).cases) r reply
+    (r : Result Gathered ArchiveFault) × GathersFor g old q b r new × ToldWithExecutables kind q b r reply
 
 -- the executables are read where the core has no fault
 abbrev pub ShowsWithExecutables : {D : Type 0} → disk.Ghosts D → Parts D → Kind → QuerySaid → List ℕ → Option CoreFault → List ℕ → Parts D → Type 0

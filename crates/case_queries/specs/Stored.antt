@@ -1,5 +1,5 @@
 -- What a line that asks a case is answered of, as a statement: of the bytes that are stored.
-use Rattle.std.specs.Prelude.{◌≡◌, ◌⊎◌, ℕ, List, [], ◌∷◌, length, true, false, None, Some, IsTrue}
+use Rattle.std.specs.Prelude.{◌≡◌, ◌⊎◌, ℕ, List, [], ◌∷◌, ◌++◌, length, true, false, None, Some, IsTrue}
 use Rattle.address_space.specs.Source.{ExecutableView}
 use Rattle.archive_replies.specs.Reasons.{reason_of}
 use Rattle.disk_model.specs.Disk.{HasRisen}
@@ -15,7 +15,7 @@ use Rattle.journal_layout.specs.Case.{Case}
 use Rattle.journal_layout.specs.declared.entry.Kind.{Kind}
 use Rattle.script_lines.specs.Queries.{QuerySaid}
 use Rattle.script_streams.specs.Replies.{no_reply, reply_of}
-use Rattle.case_queries.specs.Collecting.{Wanted, wanted_for}
+use Rattle.case_queries.specs.Collecting.{Wanted, debugs_for, wanted_for}
 use Rattle.case_queries.specs.Inspecting.{Inspects, MayAsk, answer_of, reads_executables}
 
 -- These bytes are the image of the case of this number, each at its place: those of the blocks that it has on the disk, one block after
@@ -39,9 +39,10 @@ pub data IsAnsweredOfTheCase {D : Type 0} (seen : D → List ℕ) (a : Parts D) 
   -- why the core is not shown
   of_fault : (image : List ℕ) → IsStored seen a seq image → reads_executables q ≡ true → (fault : CoreFault) → core_fault_of image ≡ Some fault → reply ≡ no_reply (core_reason fault)
       → IsAnsweredOfTheCase seen a seq q kind reply
-  -- of the core, and of the executables whose names its NT_FILE has
+  -- of the core, of the executables for its mapped files, and of the debug files of these
   of_core : (image : List ℕ) → IsStored seen a seq image → reads_executables q ≡ true → core_fault_of image ≡ None
-      → (xs : List ExecutableView) → AreStored seen a (wanted_for q image (state_of a).cases) xs → reply ≡ reply_of (answer_of kind q image (wanted_for q image (state_of a).cases) xs)
+      → (xs ds : List ExecutableView) → AreStored seen a (wanted_for q image (state_of a).cases) xs → AreStored seen a (debugs_for q image (state_of a).cases xs) ds
+      → reply ≡ reply_of (answer_of kind q image (wanted_for q image (state_of a).cases ++ debugs_for q image (state_of a).cases xs) (xs ++ ds))
       → IsAnsweredOfTheCase seen a seq q kind reply
 
 -- There was no memory; or the disk failed, which its count of failures shows.

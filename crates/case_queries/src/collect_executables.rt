@@ -5,18 +5,20 @@ ghost use Rattle.intake.specs.Parts.{state_of};
 ghost use Rattle.journal_layout.specs.Case.{case_of};
 ghost use Rattle.memory_replies.specs.FileNameWords.{AreNamesOf};
 ghost use Rattle.memory_replies.specs.Memory.{attached_view};
-ghost use Rattle.build_replies.specs.Builds.{NamedId, told_or_none};
+ghost use Rattle.build_replies.specs.Builds.{told_or_none};
 ghost use Rattle.build_replies.specs.BuildsWords.{numbered_view};
 ghost use Rattle.build_replies.specs.Mapped.{id_view, told_view};
-ghost use Rattle.build_replies.specs.NameWords.{names_in, stored_names};
-ghost use Rattle.case_queries.specs.Collecting.{Collects, CollectsAll, Wanted, is_for, is_wanted, wanted_by, wanted_of};
+ghost use Rattle.build_replies.specs.NameWords.{names_in};
+ghost use Rattle.case_queries.specs.Collecting.{Collects, CollectsAll, Wanted, debugs_by, is_named_by, is_wanted, named_by, wanted_by, wanted_of};
 ghost use Rattle.case_queries.specs.CollectingWords.{executable_view, collected_view, read_as, wanted_view};
 ghost use Rattle.case_queries.specs.Keeping.{StayCollected};
 
 use crate::kept_image::see_image;
 use crate::told::ToldFiles;
 use address_space::Attached;
-use build_replies::{FrontId, NumberedCase, StoredNames, build_names, listed};
+use build_replies::{
+    ChosenExecutables, FrontId, NumberedCase, StoredNames, build_names, debug_names, listed,
+};
 use disk_model::Disk;
 use image_replies::CoreImage;
 use intake::{Archive, ArchiveFault};
@@ -120,21 +122,32 @@ fn wanted_for_files(
 {
     let builds = build_names(alloc, files)?;
     let names = StoredNames::of(alloc, files, &builds)?;
+    named_among(alloc, &names, entries)
+}
+
+// The executables that have these names, in the order of their numbers. The error is that there is no memory.
+fn named_among(
+    alloc: Global,
+    names: &StoredNames<'_>,
+    entries: &[Entry],
+) -> Result<Vec<WantedCase>, AllocError>
+    ensures { IfOk result (λ v. map wanted_view v.items ≡ named_by (names_in names.now) (map case_of entries.now)) }
+{
     let mut wanted = Vec::new(alloc);
     for entry in entries {
-        add_for_files(&names, entry, &mut wanted)?;
+        add_named(names, entry, &mut wanted)?;
     }
     Ok(wanted)
 }
 
-fn add_for_files(
+fn add_named(
     names: &StoredNames<'_>,
     entry: &Entry,
     wanted: &mut Vec<WantedCase>,
 ) -> Result<(), AllocError>
-    ensures { OnOk result ((told : List NamedId) → names_in names.now ≡ stored_names told → map wanted_view wanted.new.items ≡ map wanted_view wanted.old.items ++ wanted_by told (case_of entry.now ∷ [])) }
+    ensures { OnOk result (map wanted_view wanted.new.items ≡ map wanted_view wanted.old.items ++ named_by (names_in names.now) (case_of entry.now ∷ [])) }
 {
-    if is_for_files(names, entry) {
+    if is_named(names, entry) {
         wanted.push(WantedCase {
             seq: entry.seq,
             path: copied(entry.name.as_slice()),
@@ -143,13 +156,45 @@ fn add_for_files(
     Ok(())
 }
 
-fn is_for_files(names: &StoredNames<'_>, entry: &Entry) -> bool
-    ensures { (told : List NamedId) → names_in names.now ≡ stored_names told → result ≡ is_for told (case_of entry.now) }
+fn is_named(names: &StoredNames<'_>, entry: &Entry) -> bool
+    ensures { result ≡ is_named_by (names_in names.now) (case_of entry.now) }
 {
     match entry.kind {
         Kind::Core => false,
         Kind::Exec => names.contains(entry.name.as_slice()),
     }
+}
+
+// The debug files of those of the executables that are used for these mapped files, in the order of their numbers. The error is that there
+// is no memory.
+pub(crate) fn wanted_debugs<D: Disk>(
+    alloc: Global,
+    files: &[FrontId<'_>],
+    executables: &[StoredExecutable],
+    archive: &Archive<D>,
+) -> Result<Vec<WantedCase>, AllocError>
+    requires { archive.now.stopped ≡ false }
+    ensures { IfOk result (λ v. map wanted_view v.items ≡ debugs_by (map id_view files.now) (map executable_view executables.now) (state_of archive.now).cases) }
+{
+    match archive.cases() {
+        Ok(entries) => debugs_among(alloc, files, executables, entries),
+        Err(_) => Ok(Vec::new(alloc)),
+    }
+}
+
+fn debugs_among(
+    alloc: Global,
+    files: &[FrontId<'_>],
+    executables: &[StoredExecutable],
+    entries: &[Entry],
+) -> Result<Vec<WantedCase>, AllocError>
+    ensures { IfOk result (λ v. map wanted_view v.items ≡ debugs_by (map id_view files.now) (map executable_view executables.now) (map case_of entries.now)) }
+{
+    let lent = lent(alloc, executables)?;
+    let chosen = ChosenExecutables::of(alloc, files, &lent.attached)?;
+    let names = debug_names(alloc, &chosen.used)?;
+    let stored = StoredNames::of_names(alloc, &names)?;
+    named_among(alloc, &stored, entries)
 }
 
 // Whether one of those that are kept is the case.
@@ -229,6 +274,25 @@ pub fn stored_executables<D: Disk>(
     collect(alloc, wanted, None, archive)
 }
 
+/// Reads the debug files of those of the executables that are used for a core's mapped files, in the order of their numbers: those that
+/// are stored under the names of the debug files of their builds.
+///
+/// # Errors
+///
+/// Those of `image` of `Archive`. `OutOfMemory`: there is no memory to hold them.
+pub fn stored_debug_files<D: Disk>(
+    alloc: Global,
+    told: &ToldFiles<'_>,
+    executables: &[StoredExecutable],
+    archive: &mut Archive<D>,
+) -> Result<Vec<StoredExecutable>, ArchiveFault>
+    requires { archive.old.stopped ≡ false }
+    ensures { CollectsAll D.Disk archive.old (debugs_by (told_or_none (told_view told.now.files)) (map executable_view executables.now) (state_of archive.old).cases) (collected_view result) archive.new }
+{
+    let wanted = wanted_debugs(alloc, listed(&told.files), executables, archive);
+    collect(alloc, wanted, None, archive)
+}
+
 // Reads these, one after the other.
 fn read_each<D: Disk>(
     alloc: Global,
@@ -293,5 +357,23 @@ pub(crate) fn lent<'a>(
             name: path,
         })?;
     }
+    Ok(LentExecutables { attached, cases })
+}
+
+// Executables and debug files, lent.
+pub(crate) fn lent_with<'a>(
+    alloc: Global,
+    executables: &'a [StoredExecutable],
+    debug_files: &'a [StoredExecutable],
+) -> Result<LentExecutables<'a>, AllocError>
+    ensures attached { IfOk result (λ l. map attached_view l.attached.items ≡ map executable_view executables.now ++ map executable_view debug_files.now) }
+    ensures cases { IfOk result (λ l. map numbered_view l.cases.items ≡ map read_as executables.now ++ map read_as debug_files.now) }
+{
+    let first = lent(alloc, executables)?;
+    let more = lent(alloc, debug_files)?;
+    let mut attached = first.attached;
+    let mut cases = first.cases;
+    attached.extend_from_slice(&more.attached)?;
+    cases.extend_from_slice(&more.cases)?;
     Ok(LentExecutables { attached, cases })
 }

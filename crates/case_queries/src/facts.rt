@@ -1,5 +1,5 @@
 // What a screen shows of a core beside its notes, as values.
-ghost use Rattle.std.specs.Prelude.{◌≡◌, ◌≤◌, ℕ, List, IfOk, OnOk, Option, length, map};
+ghost use Rattle.std.specs.Prelude.{◌≡◌, ◌≤◌, ◌++◌, ℕ, List, IfOk, OnOk, Option, length, map};
 ghost use Rattle.address_space.specs.Source.{ExecutableView};
 ghost use Rattle.address_space.specs.SpaceWords.{core_of};
 ghost use Rattle.build_replies.specs.Builds.{NamedId, told_of};
@@ -17,7 +17,7 @@ ghost use Rattle.case_queries.specs.Pieces.{BeginsWith, SeesPieces};
 ghost use Rattle.case_queries.specs.ToldWords.{IsToldBy};
 ghost use Rattle.case_queries.specs.Unwound.{BeginsWalks};
 
-use crate::collect_executables::{StoredExecutable, lent};
+use crate::collect_executables::{StoredExecutable, lent_with};
 use crate::frames::{UnwoundCore, process_in_core, walk_thread};
 use crate::told::ToldFiles;
 use crate::walk::{CaseImage, WalkFault};
@@ -111,7 +111,7 @@ fn unwind_threads<'a, D: Disk>(
 }
 
 /// Finds the frames of the first threads of a core, and the build IDs of its mapped files, with the executables that are stored for
-/// them. The core may be the first bytes alone of the case's image. Of the rest it reads what tells the frames.
+/// them, and their debug files. The core may be the first bytes alone of the case's image. Of the rest it reads what tells the frames.
 ///
 /// # Errors
 ///
@@ -122,6 +122,7 @@ pub fn core_facts<'a, D: Disk>(
     core: &CoreImage<'a>,
     told: ToldFiles<'a>,
     executables: &'a [StoredExecutable],
+    debug_files: &'a [StoredExecutable],
     threads: u64,
     archive: &mut Archive<D>,
 ) -> Result<CoreFacts<'a>, WalkFault>
@@ -131,9 +132,9 @@ pub fn core_facts<'a, D: Disk>(
     requires sound { IsSoundFront Core image.front.now }
     requires told { IsToldBy image told }
     ensures { IfOk result (λ facts. (before : Parts D) → SeesPieces D.Disk before image.entry told.entry.pieces.items archive.old
-        → SaysFacts D.Disk before image.entry.seq image.entry.front.now image.entry.size (told_view told.entry.files) (map executable_view executables.now) threads facts archive.new) }
+        → SaysFacts D.Disk before image.entry.seq image.entry.front.now image.entry.size (told_view told.entry.files) (map executable_view executables.now ++ map executable_view debug_files.now) threads facts archive.new) }
 {
-    let Ok(lent) = lent(alloc, executables) else {
+    let Ok(lent) = lent_with(alloc, executables, debug_files) else {
         return Err(WalkFault::OutOfMemory);
     };
     let Ok(builds) = build_answers(alloc, &told.files, &lent.attached) else {

@@ -22,7 +22,7 @@ mod walk;
 mod wanted;
 mod window;
 
-pub use collect_executables::{StoredExecutable, stored_executables};
+pub use collect_executables::{StoredExecutable, stored_debug_files, stored_executables};
 pub use facts::{CoreFacts, core_facts};
 pub use front::read_front;
 pub use inspect::answer_query;

@@ -1,5 +1,5 @@
 // The answers to lines over a core's memory.
-ghost use Rattle.std.specs.Prelude.{◌≡◌, ℕ, List, Ok, false, map, Some, IfOk, IfSome};
+ghost use Rattle.std.specs.Prelude.{◌≡◌, ◌++◌, ℕ, List, Ok, false, map, Some, IfOk, IfSome};
 ghost use Rattle.image_replies.specs.CoreWords.{core_bytes};
 ghost use Rattle.script_lines.specs.Queries.{memory_query};
 ghost use Rattle.script_streams.specs.Replies.{TellsOutcome, TellsReply, telling};
@@ -8,18 +8,20 @@ ghost use Rattle.memory_replies.specs.Memory.{attached_view};
 ghost use Rattle.intake.specs.Parts.{state_of};
 ghost use Rattle.build_replies.specs.BuildsWords.{numbered_view};
 ghost use Rattle.build_replies.specs.Choosing.{told_files};
-ghost use Rattle.case_queries.specs.Collecting.{CollectsAll, wanted_by, wanted_for};
+ghost use Rattle.case_queries.specs.Collecting.{CollectsAll, debugs_by, debugs_for, wanted_by, wanted_for};
 ghost use Rattle.case_queries.specs.CollectingWords.{collected_view, executable_view, read_as, wanted_view};
 ghost use Rattle.case_queries.specs.Asking.{IsAsking, asking_of, asking_query};
 ghost use Rattle.case_queries.specs.Inspecting.{answer_of};
-ghost use Rattle.case_queries.specs.Steps.{Asks, Shows, ShowsCore};
+ghost use Rattle.case_queries.specs.Steps.{Asks, Shows, ShowsCore, ShowsGathered};
 ghost use Rattle.case_queries.specs.Keeping.{AreKept, StayCollected};
+ghost use Rattle.case_queries.specs.LeaveLaws.{Leaves};
 ghost use Rattle.case_queries.specs.Seeing.{IsKept};
 ghost use Rattle.case_queries.specs.Windows.{IsSeenBy};
 
 use crate::asked::{Asked, AskedFiles, builds_asked};
 use crate::collect_executables::{
-    LentExecutables, StoredExecutable, WantedCase, collect, lent, wanted_by_build, wanted_by_path,
+    LentExecutables, StoredExecutable, WantedCase, collect, lent_with, wanted_by_build,
+    wanted_by_path, wanted_debugs,
 };
 use crate::find::answer_find;
 use crate::front::size_of;
@@ -35,7 +37,7 @@ use journal_layout::Kind;
 use memory_replies::{
     Outcome, Window, a_sound_front_names_the_files, tell_bt, tell_dump, tell_find, tell_strings,
 };
-use script_lines::MemoryQuery;
+use script_lines::{BuildQuery, MemoryQuery};
 use script_streams::{Output, Reply, tell_no};
 use std::alloc::{AllocError, Global};
 use windowed_search::Sought;
@@ -187,7 +189,7 @@ fn answer_core<O: Output, D: Disk>(
     a_sound_front_names_the_files();
     match collected(alloc, query, core, kept.take(), archive) {
         Ok(executables) => {
-            let outcome = tell_with_executables(
+            let outcome = tell_gathered(
                 alloc,
                 kind,
                 query,
@@ -195,6 +197,7 @@ fn answer_core<O: Output, D: Disk>(
                 window,
                 &executables,
                 reply,
+                archive,
             );
             *kept = Some(executables);
             outcome
@@ -268,8 +271,46 @@ fn collected<D: Disk>(
     collect(alloc, wanted, kept, archive)
 }
 
-// Tells what a core and these executables answer. Says what became of it.
-fn tell_with_executables<O: Output>(
+// The debug files that a line reads after these executables, with a core of which it sees enough. The error is that there is no memory.
+fn debugs_for<D: Disk>(
+    alloc: Global,
+    query: &MemoryQuery,
+    core: &CoreImage<'_>,
+    executables: &[StoredExecutable],
+    archive: &Archive<D>,
+) -> Result<Vec<WantedCase>, AllocError>
+    requires { archive.now.stopped ≡ false }
+    ensures { IfOk result (λ v. map wanted_view v.items ≡ debugs_for (memory_query query.now) (core_bytes core.now) (state_of archive.now).cases (map executable_view executables.now)) }
+{
+    match query {
+        MemoryQuery::Unwind { .. } => debugs_of_core(alloc, core, executables, archive),
+        MemoryQuery::Frame { .. } => debugs_of_core(alloc, core, executables, archive),
+        MemoryQuery::Builds(BuildQuery::Used) => debugs_of_core(alloc, core, executables, archive),
+        MemoryQuery::Builds(BuildQuery::Compared) => Ok(Vec::new(alloc)),
+        MemoryQuery::Builds(BuildQuery::Wanted) => Ok(Vec::new(alloc)),
+        MemoryQuery::Dump { .. } => Ok(Vec::new(alloc)),
+        MemoryQuery::Find { .. } => Ok(Vec::new(alloc)),
+        MemoryQuery::Strings { .. } => Ok(Vec::new(alloc)),
+        MemoryQuery::Backtrace { .. } => Ok(Vec::new(alloc)),
+    }
+}
+
+// Those of what is used for a core of which all bytes are at hand.
+fn debugs_of_core<D: Disk>(
+    alloc: Global,
+    core: &CoreImage<'_>,
+    executables: &[StoredExecutable],
+    archive: &Archive<D>,
+) -> Result<Vec<WantedCase>, AllocError>
+    requires { archive.now.stopped ≡ false }
+    ensures { IfOk result (λ v. map wanted_view v.items ≡ debugs_by (told_files (core_bytes core.now)) (map executable_view executables.now) (state_of archive.now).cases) }
+{
+    let told = told_ids(alloc, core)?;
+    wanted_debugs(alloc, listed(&told), executables, archive)
+}
+
+// Tells what a core and these executables answer, with the debug files that the line wants. Says what became of it.
+fn tell_gathered<O: Output, D: Disk>(
     alloc: Global,
     kind: Kind,
     query: &MemoryQuery,
@@ -277,11 +318,47 @@ fn tell_with_executables<O: Output>(
     window: Window<'_>,
     executables: &[StoredExecutable],
     reply: &mut Reply<'_, O>,
+    archive: &mut Archive<D>,
+) -> Outcome
+    requires { archive.old.stopped ≡ false }
+    ensures answers { (image : List ℕ) → IsSeenBy query.now (core_bytes core.now) window.entry.size window.entry.at window.entry.bytes.now image
+        → TellsOutcome (telling O.Output reply.old reply.new) (λ text. ShowsGathered D.Disk archive.old kind (memory_query query.now) image (core_bytes core.now) (map read_as executables.now) (map executable_view executables.now) text archive.new) (is_done result) }
+    ensures leaves { Leaves D.Disk archive.old archive.new }
+{
+    let wanted = debugs_for(alloc, query, core, executables, archive);
+    match collect(alloc, wanted, None, archive) {
+        Ok(debug_files) => tell_with_executables(
+            alloc,
+            kind,
+            query,
+            core,
+            window,
+            executables,
+            &debug_files,
+            reply,
+        ),
+        Err(fault) => {
+            tell_no(reply, reason(fault));
+            refused_by(fault)
+        }
+    }
+}
+
+// The same with these executables and debug files.
+fn tell_with_executables<O: Output>(
+    alloc: Global,
+    kind: Kind,
+    query: &MemoryQuery,
+    core: &CoreImage<'_>,
+    window: Window<'_>,
+    executables: &[StoredExecutable],
+    debug_files: &[StoredExecutable],
+    reply: &mut Reply<'_, O>,
 ) -> Outcome
     ensures { (image : List ℕ) → IsSeenBy query.now (core_bytes core.now) window.entry.size window.entry.at window.entry.bytes.now image
-        → TellsReply (telling O.Output reply.old reply.new) (AnswersWith result (answer_of kind (memory_query query.now) image (map read_as executables.now) (map executable_view executables.now))) }
+        → TellsReply (telling O.Output reply.old reply.new) (AnswersWith result (answer_of kind (memory_query query.now) image (map read_as executables.now ++ map read_as debug_files.now) (map executable_view executables.now ++ map executable_view debug_files.now))) }
 {
-    match lent(alloc, executables) {
+    match lent_with(alloc, executables, debug_files) {
         Ok(lent) => tell_memory(alloc, kind, query, core, window, &lent, reply),
         Err(_) => {
             tell_no(reply, b"OutOfMemory");

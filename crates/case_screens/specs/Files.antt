@@ -1,6 +1,7 @@
 -- The files that a core had mapped, and which of them are stored.
 use Rattle.std.specs.Prelude.{ℕ, nat_lt, if◌then◌else◌, Bool, false, List, [], ◌∷◌, ◌++◌, length, take, find, Option, None, Some, Result, Ok, Err, codes, decimal}
 use Rattle.build_ids.specs.BuildName as build
+use Rattle.address_space.specs.Source.{ExecutableView}
 use Rattle.build_replies.specs.Builds.{BuildValue}
 use Rattle.build_replies.specs.ByBuild.{Chosen, by_build, by_path, none, other}
 use Rattle.build_replies.specs.Mapped.{build_view}
@@ -45,23 +46,28 @@ abbrev pub number_text : Option ℕ → List ℕ
 number_text None = codes "?"
 number_text (Some seq) = decimal seq
 
--- the executable of this case is used
-abbrev pub used_text : Option ℕ → List ℕ
-used_text number = codes "stored as case " ++ number_text number
+-- the case with its debug file, if there is one
+abbrev pub debug_text : List Case → Option ExecutableView → List ℕ
+debug_text cases None = []
+debug_text cases (Some d) = codes ", debug file case " ++ number_text (stored_number cases d.path)
+
+-- the executable of this case is used, with that debug file
+abbrev pub used_text : Option ℕ → List Case → Option ExecutableView → List ℕ
+used_text number cases debug = codes "stored as case " ++ (number_text number ++ debug_text cases debug)
 
 -- that of this case is not
 abbrev pub other_text : Option ℕ → List ℕ
 other_text number = codes "not stored, case " ++ (number_text number ++ codes " is of another build: corekeep store ARCHIVE FILE --build")
 
-abbrev pub chosen_text : List Case → List ℕ → Option (List ℕ) → Chosen → List ℕ
-chosen_text cases name core (by_build x) = used_text (stored_number cases x.path)
-chosen_text cases name core (by_path x) = used_text (stored_number cases x.path)
-chosen_text cases name core (other x) = other_text (stored_number cases x.path)
-chosen_text cases name core none = store_text (has_build core) name
+abbrev pub chosen_text : List Case → List ℕ → Option (List ℕ) → Option ExecutableView → Chosen → List ℕ
+chosen_text cases name core debug (by_build x) = used_text (stored_number cases x.path) cases debug
+chosen_text cases name core debug (by_path x) = used_text (stored_number cases x.path) cases debug
+chosen_text cases name core debug (other x) = other_text (stored_number cases x.path)
+chosen_text cases name core debug none = store_text (has_build core) name
 
 -- what a mapped file has of what is stored
 abbrev pub stored_text : List Case → BuildValue → List ℕ
-stored_text cases v = chosen_text cases v.name v.core v.chosen
+stored_text cases v = chosen_text cases v.name v.core v.debug v.chosen
 
 -- a mapped file
 abbrev pub file_row : List Case → ℕ → BuildAnswer → List ℕ

@@ -1,16 +1,18 @@
 // The files that a core had mapped, and which of them are stored.
 ghost use Rattle.std.specs.Prelude.{◌≡◌, ◌++◌, length, map, option_map, take};
+ghost use Rattle.address_space.specs.SpaceWords.{attached_view};
 ghost use Rattle.build_replies.specs.Mapped.{build_view};
 ghost use Rattle.image_replies.specs.Lines.{numbered_lines};
 ghost use Rattle.journal_layout.specs.Case.{case_of};
 ghost use Rattle.script_streams.specs.Replies.{TellsText, telling};
 ghost use Rattle.case_screens.specs.Core.{notes_read};
-ghost use Rattle.case_screens.specs.Files.{exec_number, exec_text, file_row, files_text, has_build, number_text, other_text, store_text, stored_number, stored_text, used_text};
+ghost use Rattle.case_screens.specs.Files.{debug_text, exec_number, exec_text, file_row, files_text, has_build, number_text, other_text, store_text, stored_number, stored_text, used_text};
 ghost use Rattle.case_screens.specs.Texts.{margin, rest_after};
 
 use crate::quotes::tell_quoted;
 use crate::reason::{core_reason, missing};
 use crate::texts::{MARGIN, room_after, tell_label, tell_name, tell_refused, tell_rest_after};
+use address_space::Attached;
 use build_ids::has_name;
 use build_replies::{BuildAnswer, ChosenFile};
 use case_tables::{case_of_name, tell_spaces};
@@ -79,10 +81,20 @@ fn tell_stored<O: Output>(reply: &mut Reply<'_, O>, cases: &[Entry], file: &Buil
 {
     match file.chosen {
         ChosenFile::ByBuild(executable) => {
-            tell_used(reply, stored_number(cases, executable.path));
+            tell_used(
+                reply,
+                stored_number(cases, executable.path),
+                cases,
+                file.debug,
+            );
         }
         ChosenFile::ByPath(executable) => {
-            tell_used(reply, stored_number(cases, executable.path));
+            tell_used(
+                reply,
+                stored_number(cases, executable.path),
+                cases,
+                file.debug,
+            );
         }
         ChosenFile::Other(executable) => {
             tell_other(reply, stored_number(cases, executable.path));
@@ -103,12 +115,28 @@ fn tell_number<O: Output>(reply: &mut Reply<'_, O>, number: Option<u32>)
     }
 }
 
-// Tells the case whose executable is used.
-fn tell_used<O: Output>(reply: &mut Reply<'_, O>, number: Option<u32>)
-    ensures { TellsText (telling O.Output reply.old reply.new) (used_text number) }
+// Tells the case with the debug file, if there is one.
+fn tell_debug<O: Output>(reply: &mut Reply<'_, O>, cases: &[Entry], debug: Option<Attached<'_>>)
+    ensures { TellsText (telling O.Output reply.old reply.new) (debug_text (map case_of cases.now) (option_map attached_view debug.entry)) }
+{
+    if let Some(debug) = debug {
+        reply.tell(b", debug file case ");
+        tell_number(reply, stored_number(cases, debug.path));
+    }
+}
+
+// Tells the case whose executable is used, and that with its debug file.
+fn tell_used<O: Output>(
+    reply: &mut Reply<'_, O>,
+    number: Option<u32>,
+    cases: &[Entry],
+    debug: Option<Attached<'_>>,
+)
+    ensures { TellsText (telling O.Output reply.old reply.new) (used_text number (map case_of cases.now) (option_map attached_view debug.entry)) }
 {
     reply.tell(b"stored as case ");
     tell_number(reply, number);
+    tell_debug(reply, cases, debug);
 }
 
 // Tells the case whose executable is not used, since it is of another build.

@@ -5,6 +5,7 @@ use crate::frames::frame_file;
 use crate::note_values::{hex_value, reason_value};
 use crate::reason::{core_reason, missing, no_thread};
 use crate::rows::{number_value, put_text, string_value};
+use address_space::Attached;
 use build_replies::{BuildAnswer, verdict};
 use core_notes::Files;
 use frame_replies::{FrameAnswer, FramesAnswer, stop_fault, stop_name};
@@ -131,16 +132,16 @@ fn put_file(
     put(map, alloc, "verdict", verdict)?;
     let how = string_value(alloc, row.chosen.how())?;
     put(map, alloc, "how", how)?;
-    put(map, alloc, "debug", Value::Null)?;
-    put(map, alloc, "case", used_value(cases, row))
+    put(map, alloc, "debug", case_value(cases, row.debug))?;
+    put(map, alloc, "case", case_value(cases, row.chosen.used()))
 }
 
-// The number of the case whose executable is used, or null.
-fn used_value(cases: &[Entry], row: &BuildAnswer<'_>) -> Value {
-    let Some(executable) = row.chosen.used() else {
+// The number of the case as which a file is stored, or null.
+fn case_value(cases: &[Entry], file: Option<Attached<'_>>) -> Value {
+    let Some(file) = file else {
         return Value::Null;
     };
-    match stored_number(cases, executable.path) {
+    match stored_number(cases, file.path) {
         Some(number) => Value::from(number),
         None => Value::Null,
     }

@@ -1,20 +1,16 @@
 -- On which executables a frame stands.
 use Rattle.std.proofs.Common.{◌≡◌, inl, inr, ℕ, Bool, true, cond, List, [], ◌∷◌, find, map, Option, None, Some, Result, Ok, refl, sym, ap, subst, ◌∙◌}
-use Rattle.std.specs.Prelude.{is_none, is_ok, slice_get}
+use Rattle.std.specs.Prelude.{is_ok, slice_get}
 use Rattle.std.specs.List.{AllByRecursion, filter}
-use Rattle.std.specs.Option.{option_map, option_or}
 use Rattle.std.proofs.lemmas.Bool.{cases_Bool, false≢true}
 use Rattle.std.proofs.lemmas.Slice.Eq.{bytes_eq-Decides}
 use Rattle.elf_view.specs.Header.{segments_of}
-use Rattle.elf_view.specs.Sound.{first_fault}
-use Rattle.elf_view.specs.declared.faults.Want.TheVariants.{Exec}
 use Rattle.address_space.specs.Source.{ExecutableView, SpotView, is_named}
 use Rattle.build_replies.specs.Builds.{name_of, once}
-use Rattle.build_replies.specs.Choosing.{Choice, choice_for, core_fronts, told_files, told_id, under_names}
-use Rattle.build_replies.specs.ChoosingLaws.{choice_plain, each_own, each_with_code}
+use Rattle.build_replies.specs.Choosing.{Choice, choice_for, core_fronts, debugs_under, told_files, told_id, under_names}
+use Rattle.build_replies.specs.ChoosingLaws.{IsDebugOf, choice_plain, each_debug, each_own, each_with_code}
 use Rattle.memory_replies.specs.Memory.{is_attached, mapped_files, memory_of}
-use Rattle.memory_replies.specs.Places.{has_symbols, known_among}
-use Rattle.memory_replies.specs.Symbol.{executable_fault}
+use Rattle.memory_replies.specs.Naming.{NamedFile, with_debug}
 use Rattle.symbols.specs.Offsets.{address_of}
 use Rattle.unwind.specs.Code.{CodeView, ProcessView, code_at, code_of, missing}
 use Rattle.unwind.specs.Reasons.{checked}
@@ -25,7 +21,7 @@ use Rattle.unwind.specs.declared.frame.Frame.{Frame}
 use Rattle.frame_replies.specs.Choices.{AreNoDebugFiles, IsBuildOf, IsOwnBuild, by_path_alone, frame_by_path, process_of, spot_of_frame, unwind_by_path}
 use Rattle.frame_replies.specs.FrameLines.{unwind_answer, unwound_answer, unwound_lines}
 use Rattle.frame_replies.specs.FrameRegisters.{frame_answer, one_frame_answer, registers_of}
-use Rattle.frame_replies.specs.Processes.{of_thread, process_in, start_of, state_of}
+use Rattle.frame_replies.specs.Processes.{named_among, of_thread, process_in, start_of, state_of}
 
 module _ {A : Type 0} (P : A → Type 0) where
   all_passed : (p : A → Bool) (xs : List A) → AllByRecursion P xs → AllByRecursion P (filter p xs)
@@ -55,12 +51,20 @@ pub used_code : (b : List ℕ) (stored : List ExecutableView) → AreNoDebugFile
 unfolding choice_for
 used_code b stored = each_with_code stored (told_files b)
 
+pub debugs_own : (b : List ℕ) (stored : List ExecutableView) → AllByRecursion (IsDebugOf (choice_for b stored).used) (choice_for b stored).debugs
+unfolding choice_for
+debugs_own b stored = each_debug stored (told_files b)
+
 pub attached_own : (b : List ℕ) (stored : List ExecutableView) → AllByRecursion (IsOwnBuild b) (process_of b stored).executables
 unfolding process_in memory_of
 attached_own b stored = all_passed (IsOwnBuild b) is_attached (choice_for b stored).used (used_own b stored)
 
-pub named_own : (b : List ℕ) (stored : List ExecutableView) → AllByRecursion (IsOwnBuild b) (known_among (choice_for b stored).used)
-named_own b stored = all_passed (IsOwnBuild b) has_symbols (choice_for b stored).used (used_own b stored)
+each_named : (b : List ℕ) (debugs xs : List ExecutableView) → AllByRecursion (IsOwnBuild b) xs → AllByRecursion (λ (n : NamedFile). IsOwnBuild b n.file) (map (with_debug debugs) xs)
+each_named b debugs [] all = tt
+each_named b debugs (x ∷ xs) all = (all.0, each_named b debugs xs all.1)
+
+pub named_own : (b : List ℕ) (stored : List ExecutableView) → AllByRecursion (λ (n : NamedFile). IsOwnBuild b n.file) (named_among (choice_for b stored))
+named_own b stored = each_named b (choice_for b stored).debugs (filter is_attached (choice_for b stored).used) (all_passed (IsOwnBuild b) is_attached (choice_for b stored).used (used_own b stored))
 
 abbrev code_by : ExecutableView → ℕ → Result CodeView Stop
 code_by x v = Ok (record { image = x.image; address = v })
@@ -110,14 +114,6 @@ filter_within p q in_all (x ∷ xs) =
           ])
     ]
 
-none_first : {A B : Type 0} (f : A → B) (o : Option A) (q : Option B) → is_none (option_or (option_map f o) q) ≡ true → is_none o ≡ true
-none_first f None q h = refl
-none_first f (Some x) q h = absurd (false≢true h)
-
-known_attached : (x : ExecutableView) → has_symbols x ≡ true → is_attached x ≡ true
-unfolding executable_fault
-known_attached x h = none_first _ (first_fault Exec x.image) _ h
-
 process_from : List ℕ → List ExecutableView → ProcessView
 process_from b attached = record {
   space = record { segments = segments_of b; files = mapped_files b; executables = attached };
@@ -135,7 +131,7 @@ module _ (b : List ℕ) (stored : List ExecutableView) (unknown : (path : List �
   under = under_names stored (once (map name_of (mapped_files b)))
 
   abbrev plain : Choice
-  plain = record { used = filter is_attached under; others = [] }
+  plain = record { used = filter is_attached under; others = []; debugs = debugs_under stored (once (map name_of (mapped_files b))) }
 
   chosen_plain : choice_for b stored ≡ plain
   unfolding choice_for
@@ -145,13 +141,13 @@ module _ (b : List ℕ) (stored : List ExecutableView) (unknown : (path : List �
   unfolding process_in memory_of process_from
   process_plain = ap (process_from b) (filter_within is_attached is_attached (λ x h. h) under)
 
-  known_plain : known_among plain.used ≡ known_among under
-  known_plain = filter_within has_symbols is_attached known_attached under
+  named_plain : named_among plain ≡ named_among (by_path_alone b stored)
+  named_plain = ap (map (with_debug plain.debugs)) (filter_within is_attached is_attached (λ x h. h) under)
 
   unwound_plain : (desc : List ℕ) → unwound_answer b plain desc ≡ unwound_answer b (by_path_alone b stored) desc
   unwound_plain desc =
-      ap (λ (p : ProcessView). Ok (unwound_lines p (known_among plain.used) desc)) process_plain
-      ∙ ap (λ (named : List ExecutableView). Ok (unwound_lines (process_in b (by_path_alone b stored)) named desc)) known_plain
+      ap (λ (p : ProcessView). Ok (unwound_lines p (named_among plain) desc)) process_plain
+      ∙ ap (λ (named : List NamedFile). Ok (unwound_lines (process_in b (by_path_alone b stored)) named desc)) named_plain
 
   one_frame_plain : (i : ℕ) (desc : List ℕ) → one_frame_answer b plain i desc ≡ one_frame_answer b (by_path_alone b stored) i desc
   one_frame_plain i desc = ap (λ (p : ProcessView). registers_of (slice_get (unwound p desc) i)) process_plain

@@ -6,7 +6,6 @@ use Rattle.address_space.specs.Source.{ExecutableView}
 use Rattle.build_replies.specs.Choosing.{choice_for}
 use Rattle.image_replies.specs.Lines.{numbered_lines}
 use Rattle.memory_replies.specs.Memory.{memory_of}
-use Rattle.memory_replies.specs.Places.{known_among}
 use Rattle.unwind.specs.Code.{ProcessView}
 use Rattle.unwind.specs.Stands.{EachStands}
 use Rattle.unwind.specs.Unwinding.{IsUnwoundFrom, first_frame, most, stop_of, unwound}
@@ -14,7 +13,7 @@ use Rattle.unwind.specs.declared.faults.Stop.{Stop}
 use Rattle.unwind.specs.declared.frame.Frame.{Frame}
 use Rattle.frame_replies.specs.FrameLines.{frame_line, stop_line, unwind_answer, unwound_answer, unwound_lines}
 use Rattle.frame_replies.specs.FrameRegisters.{frame_answer, one_frame_answer, registers_of}
-use Rattle.frame_replies.specs.Processes.{of_thread, process_in, state_of}
+use Rattle.frame_replies.specs.Processes.{named_among, of_thread, process_in, state_of}
 use Rattle.frame_replies.specs.Shown.{IsShown}
 
 -- the frames that unwind finds are a first one and those after it
@@ -34,10 +33,10 @@ lines_of (Err reason) = []
 
 module _ (found : Found) (stands : Stands) (b : List ℕ) (xs : List ExecutableView) (t : ℕ) where
   lines_are : (desc lines : List ℕ) (behind : List Frame) → unwound (process_in b (choice_for b xs)) desc ≡ first_frame desc ∷ behind → unwound_answer b (choice_for b xs) desc ≡ Ok lines
-      → lines ≡ numbered_lines (frame_line (memory_of b (choice_for b xs).used) (known_among (choice_for b xs).used)) 0 (first_frame desc ∷ behind) ++ stop_line (stop_of (process_in b (choice_for b xs)) desc)
+      → lines ≡ numbered_lines (frame_line (memory_of b (choice_for b xs).used) (named_among (choice_for b xs))) 0 (first_frame desc ∷ behind) ++ stop_line (stop_of (process_in b (choice_for b xs)) desc)
   unfolding unwound_lines process_in lines_of
   lines_are desc lines behind is told =
-      sym (ap lines_of told) ∙ ap (λ (fs : List Frame). numbered_lines (frame_line (memory_of b (choice_for b xs).used) (known_among (choice_for b xs).used)) 0 fs ++ stop_line (stop_of (process_in b (choice_for b xs)) desc)) is
+      sym (ap lines_of told) ∙ ap (λ (fs : List Frame). numbered_lines (frame_line (memory_of b (choice_for b xs).used) (named_among (choice_for b xs))) 0 fs ++ stop_line (stop_of (process_in b (choice_for b xs)) desc)) is
 
   registers_are : (desc : List ℕ) (behind : List Frame) (i : ℕ) → state_of b t ≡ Some desc → unwound (process_in b (choice_for b xs)) desc ≡ first_frame desc ∷ behind
       → frame_answer b xs t i ≡ registers_of (slice_get (first_frame desc ∷ behind) i)

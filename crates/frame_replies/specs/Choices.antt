@@ -5,7 +5,7 @@ use Rattle.std.specs.Option.{option_and_then}
 use Rattle.address_space.specs.Source.{ExecutableView, SpotView, entry_at, spot_of}
 use Rattle.build_ids.specs.BuildId.{build_id_of}
 use Rattle.build_replies.specs.Builds.{name_of, once}
-use Rattle.build_replies.specs.Choosing.{Choice, choice_for, told_id, under_names}
+use Rattle.build_replies.specs.Choosing.{Choice, choice_for, debugs_under, told_id, under_names}
 use Rattle.build_replies.specs.ChoosingLaws.{HasCode}
 use Rattle.memory_replies.specs.Memory.{mapped_files}
 use Rattle.unwind.specs.Code.{ProcessView, looked_up}
@@ -29,9 +29,13 @@ IsOwnBuild b x = IsBuildOf b x.path x.image
 abbrev pub spot_of_frame : ProcessView → Frame → Option SpotView
 spot_of_frame p f = option_and_then (λ a. spot_of a (entry_at p.space.files a)) (looked_up f)
 
--- the path alone decides: whatever is stored under the name of a file is used
+-- the path alone decides: whatever is stored under the name of a file is used, with its debug file
 abbrev pub by_path_alone : List ℕ → List ExecutableView → Choice
-by_path_alone b stored = record { used = under_names stored (once (map name_of (mapped_files b))); others = [] }
+by_path_alone b stored = record {
+  used = under_names stored (once (map name_of (mapped_files b)));
+  others = [];
+  debugs = debugs_under stored (once (map name_of (mapped_files b)));
+}
 
 -- its code has bytes
 abbrev pub AreNoDebugFiles : List ExecutableView → Type 0

@@ -5,7 +5,8 @@ use Rattle.build_replies.specs.Choosing.{Choice, choice_for}
 use Rattle.call_frames.specs.FieldNames.{cfi_field_name}
 use Rattle.frame_rows.specs.FieldNames.{row_field_name}
 use Rattle.image_replies.specs.Lines.{numbered_lines}
-use Rattle.memory_replies.specs.Places.{known_among, place_words}
+use Rattle.memory_replies.specs.Naming.{NamedFile}
+use Rattle.memory_replies.specs.Places.{place_words}
 use Rattle.memory_replies.specs.Words.{hex_word}
 use Rattle.unwind.specs.Code.{ProcessView}
 use Rattle.unwind.specs.Unwinding.{unwound, stop_of}
@@ -14,7 +15,7 @@ use Rattle.unwind.specs.declared.faults.Stop.TheVariants.{NoFile, NoExecutable, 
 use Rattle.unwind.specs.declared.frame.Frame.{Frame}
 use Rattle.frame_replies.specs.FrameValues.{FrameValue, ThreadFrames, frame_value}
 use Rattle.frame_replies.specs.Known.{known_words}
-use Rattle.frame_replies.specs.Processes.{process_in, state_of, of_thread}
+use Rattle.frame_replies.specs.Processes.{named_among, process_in, state_of, of_thread}
 
 -- WHERE of a frame: that a signal handler returns there, or a place in the function at the address that is looked up
 abbrev pub place_text : FrameValue → List ℕ
@@ -30,7 +31,7 @@ value_line i v =
     decimal i ++ (32 ∷ [] ++ (hex_word v.pc ++ (place_text v
     ++ (codes " sp " ++ (known_words v.stack ++ (return_words i v ++ 10 ∷ []))))))
 
-abbrev pub frame_line : Space → List ExecutableView → ℕ → Frame → List ℕ
+abbrev pub frame_line : Space → List NamedFile → ℕ → Frame → List ℕ
 frame_line space named i f = value_line i (frame_value space named f)
 
 -- the name of a reason
@@ -69,12 +70,12 @@ abbrev pub stop_line : Stop → List ℕ
 stop_line stop = codes "stop " ++ (stop_words stop ++ 10 ∷ [])
 
 -- the lines of the frames of the thread with this state, from frame 0 on, and why they end
-unfoldable pub unwound_lines : ProcessView → List ExecutableView → List ℕ → List ℕ
+unfoldable pub unwound_lines : ProcessView → List NamedFile → List ℕ → List ℕ
 unwound_lines p named desc = numbered_lines (frame_line p.space named) 0 (unwound p desc) ++ stop_line (stop_of p desc)
 
 -- with what is chosen of the executables that are stored
 abbrev pub unwound_answer : List ℕ → Choice → List ℕ → Result (List ℕ) (List ℕ)
-unwound_answer b choice desc = Ok (unwound_lines (process_in b choice) (known_among choice.used) desc)
+unwound_answer b choice desc = Ok (unwound_lines (process_in b choice) (named_among choice) desc)
 
 -- `unwind`: the frames of a thread, by its number among the NT_PRSTATUS, with the executables that are stored under the names of the mapped files
 unfoldable pub unwind_answer : List ℕ → List ExecutableView → ℕ → Result (List ℕ) (List ℕ)

@@ -5,14 +5,15 @@ use Rattle.address_space.specs.Source.{Space, ExecutableView}
 use Rattle.build_replies.specs.Choosing.{choice_for}
 use Rattle.core_notes.specs.FileList.{FileView}
 use Rattle.memory_replies.specs.NamedWords.{place_view}
-use Rattle.memory_replies.specs.Places.{PlaceView, known_among, place_of}
+use Rattle.memory_replies.specs.Naming.{NamedFile, function_of}
+use Rattle.memory_replies.specs.Places.{PlaceView}
 use Rattle.unwind.specs.ByTrampoline.{is_trampoline}
 use Rattle.unwind.specs.Code.{ProcessView, looked_up as looked_up_in}
 use Rattle.unwind.specs.Registers.{ra, sp, known}
 use Rattle.unwind.specs.Unwinding.{unwound, stop_of}
 use Rattle.unwind.specs.declared.faults.Stop.{Stop}
 use Rattle.unwind.specs.declared.frame.Frame.{Frame}
-use Rattle.frame_replies.specs.Processes.{process_in, state_of}
+use Rattle.frame_replies.specs.Processes.{named_among, process_in, state_of}
 use Rattle.frame_replies.specs.declared.values.FrameAnswer.{FrameAnswer}
 use Rattle.frame_replies.specs.declared.values.FramesAnswer.{FramesAnswer}
 
@@ -27,17 +28,17 @@ pub record FrameValue : Type 0 where
   pub returns : Option ℕ
 
 -- with these mapped files and executables, and whether a signal handler returns there
-abbrev pub value_with : List FileView → List ExecutableView → Bool → Frame → FrameValue
+abbrev pub value_with : List FileView → List NamedFile → Bool → Frame → FrameValue
 value_with files named at_signal f = record {
   pc = f.pc;
   looked_up = looked_up_in f;
   signal = at_signal;
-  function = place_of files named f.pc (looked_up_in f);
+  function = function_of files named f.pc (looked_up_in f);
   stack = known f.registers sp;
   returns = known f.registers ra;
 }
 
-abbrev pub frame_value : Space → List ExecutableView → Frame → FrameValue
+abbrev pub frame_value : Space → List NamedFile → Frame → FrameValue
 frame_value space named f = value_with space.files named (is_trampoline space f.pc) f
 
 -- the frames of a thread, from frame 0 on, and why no other comes
@@ -46,13 +47,13 @@ pub record ThreadFrames : Type 0 where
   pub stop : Stop
 
 -- of the thread with this state
-abbrev pub thread_frames : ProcessView → List ExecutableView → List ℕ → ThreadFrames
+abbrev pub thread_frames : ProcessView → List NamedFile → List ℕ → ThreadFrames
 thread_frames p named desc = record { frames = map (frame_value p.space named) (unwound p desc); stop = stop_of p desc }
 
 -- of a thread, by its number among the NT_PRSTATUS, with the executables that are stored under the names of the mapped files; none, if the
 -- core has fewer threads
 unfoldable pub frames_of : List ℕ → List ExecutableView → ℕ → Option ThreadFrames
-frames_of b stored t = option_map (thread_frames (process_in b (choice_for b stored)) (known_among (choice_for b stored).used)) (state_of b t)
+frames_of b stored t = option_map (thread_frames (process_in b (choice_for b stored)) (named_among (choice_for b stored))) (state_of b t)
 
 -- what the code's answers mean
 abbrev pub frame_view : FrameAnswer → FrameValue

@@ -8,6 +8,7 @@ use Rattle.core_notes.specs.declared.auxiliary.AuxvPair.{AuxvPair}
 use Rattle.elf_view.specs.ViewWords.{notes_of}
 use Rattle.elf_view.specs.declared.faults.Want.TheVariants.{Core}
 use Rattle.memory_replies.specs.Memory.{memory_of}
+use Rattle.memory_replies.specs.Naming.{NamedFile, named_files}
 use Rattle.unwind.specs.Code.{ProcessView}
 
 -- AT_ENTRY (9), the address where the program begins (getauxval(3))
@@ -36,6 +37,10 @@ process_in b choice = record {
   others = choice.others;
   start = start_of b;
 }
+
+-- the executables that name its frames, each with its debug file
+abbrev pub named_among : Choice → List NamedFile
+named_among choice = named_files choice.used choice.debugs
 
 -- the state of a thread, by its number among the NT_PRSTATUS (1) of a core
 abbrev pub state_of : List ℕ → ℕ → Option (List ℕ)

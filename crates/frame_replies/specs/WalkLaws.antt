@@ -12,8 +12,7 @@ use Rattle.core_notes.specs.FileList.{FileView}
 use Rattle.elf_view.specs.Header.{SegmentView, segments_of}
 use Rattle.image_replies.specs.Lines.{numbered_lines}
 use Rattle.memory_replies.specs.Memory.{is_attached, mapped_files, memory_of}
-use Rattle.memory_replies.specs.NamedList.{named_in}
-use Rattle.memory_replies.specs.Places.{known_among}
+use Rattle.memory_replies.specs.Naming.{NamedFile}
 use Rattle.unwind.specs.Code.{ProcessView}
 use Rattle.unwind.specs.Unwinding.{unwound, stop_of}
 use Rattle.unwind.specs.declared.faults.Stop.{Stop}
@@ -21,8 +20,8 @@ use Rattle.unwind.specs.declared.frame.Frame.{Frame}
 use Rattle.frame_replies.specs.FrameLines.{printed, stop_line, unwind_answer, unwound_answer, unwound_lines, value_line}
 use Rattle.frame_replies.specs.FrameRegisters.{frame_answer, one_frame_answer, registers_of}
 use Rattle.frame_replies.specs.FrameValues.{FrameValue, ThreadFrames, frame_value, frames_of, thread_frames, value_with}
-use Rattle.frame_replies.specs.ProcessWords.{described_view}
-use Rattle.frame_replies.specs.Processes.{of_thread, process_in, start_of, state_of}
+use Rattle.frame_replies.specs.ProcessWords.{described_view, named_in}
+use Rattle.frame_replies.specs.Processes.{named_among, of_thread, process_in, start_of, state_of}
 use Rattle.frame_replies.specs.Walking.{AreMarked, BeginsAt, HasFound, IsProcessOf, IsWalkOf, IsWalked, WalksOn, found, process_by, walked_line, walked_value}
 use Rattle.frame_replies.specs.declared.process.UnwoundProcess.{UnwoundProcess}
 use Rattle.frame_replies.specs.declared.walk.Walk.{Walk}
@@ -34,18 +33,18 @@ numbered_map line value i [] = refl
 numbered_map line value i (x ∷ xs) = ap (λ (t : List ℕ). line i (value x) ++ t) (numbered_map line value (i + 1) xs)
 
 -- the values of the frames that were found
-values_same : (p : ProcessView) (named : List ExecutableView) (ws : List WalkedFrame) → AreMarked p ws → map (walked_value p.space.files named) ws ≡ map (frame_value p.space named) (found ws)
+values_same : (p : ProcessView) (named : List NamedFile) (ws : List WalkedFrame) → AreMarked p ws → map (walked_value p.space.files named) ws ≡ map (frame_value p.space named) (found ws)
 values_same p named [] marked = refl
 values_same p named (w ∷ ws) marked =
     ap (λ (at_signal : Bool). value_with p.space.files named at_signal w.frame ∷ map (walked_value p.space.files named) ws) marked.0
     ∙ ap (λ (vs : List FrameValue). frame_value p.space named w.frame ∷ vs) (values_same p named ws marked.1)
 
-printed_of : (b : List ℕ) (choice : Choice) (o : Option (List ℕ)) → of_thread (unwound_answer b choice) o ≡ printed (option_map (thread_frames (process_in b choice) (known_among choice.used)) o)
+printed_of : (b : List ℕ) (choice : Choice) (o : Option (List ℕ)) → of_thread (unwound_answer b choice) o ≡ printed (option_map (thread_frames (process_in b choice) (named_among choice)) o)
 unfolding unwound_lines
 printed_of b choice None = refl
 printed_of b choice (Some desc) =
     let p = process_in b choice in
-    ap (λ (ls : List ℕ). Ok (ls ++ stop_line (stop_of p desc))) (numbered_map value_line (frame_value p.space (known_among choice.used)) 0 (unwound p desc))
+    ap (λ (ls : List ℕ). Ok (ls ++ stop_line (stop_of p desc))) (numbered_map value_line (frame_value p.space (named_among choice)) 0 (unwound p desc))
 
 -- the lines of `unwind` are those of the values
 pub unwind_printed : (b : List ℕ) (xs : List ExecutableView) (t : ℕ) → unwind_answer b xs t ≡ printed (frames_of b xs t)
@@ -68,11 +67,11 @@ module _ (image : List ℕ) (xs : List ExecutableView) (t : ℕ) (p : UnwoundPro
       let q = process_in image choice in
       let files : (space_of p.space).files ≡ q.space.files = ap (λ (r : ProcessView). r.space.files) is.process in
       ap (λ (fs : List FileView). made (map (walked_value fs (named_in p.images)) w.frames.items) stop) files
-      ∙ ap (λ (named : List ExecutableView). made (map (walked_value q.space.files named) w.frames.items) stop) is.named
-      ∙ ap (λ (vs : List FrameValue). made vs stop) (values_same q (known_among choice.used) w.frames.items is.walked.marked)
-      ∙ ap (λ (fs : List Frame). made (map (frame_value q.space (known_among choice.used)) fs) stop) (sym (all_found q is.desc w stop is.walked ended))
-      ∙ ap (λ s. made (map (frame_value q.space (known_among choice.used)) (unwound q is.desc)) s) (sym (is.walked.stops ∙ (ended q).stop))
-      ∙ sym (ap (option_map (thread_frames q (known_among choice.used))) is.state)
+      ∙ ap (λ (named : List NamedFile). made (map (walked_value q.space.files named) w.frames.items) stop) is.named
+      ∙ ap (λ (vs : List FrameValue). made vs stop) (values_same q (named_among choice) w.frames.items is.walked.marked)
+      ∙ ap (λ (fs : List Frame). made (map (frame_value q.space (named_among choice)) fs) stop) (sym (all_found q is.desc w stop is.walked ended))
+      ∙ ap (λ s. made (map (frame_value q.space (named_among choice)) (unwound q is.desc)) s) (sym (is.walked.stops ∙ (ended q).stop))
+      ∙ sym (ap (option_map (thread_frames q (named_among choice))) is.state)
 
   -- and their lines are those of the answer
   pub unwind_told : Ok (numbered_lines (walked_line (space_of p.space).files (named_in p.images)) 0 w.frames.items ++ stop_line stop) ≡ unwind_answer image xs t
@@ -119,7 +118,7 @@ process_is front image choice p is files starts =
 pub walk_begins : (front image : List ℕ) (xs : List ExecutableView) (choice : Choice) (t : ℕ) (p : UnwoundProcess) (w : Walk) → IsProcessOf front choice p → choice ≡ choice_for image xs → mapped_files front ≡ mapped_files image → start_of front ≡ start_of image → state_of front t ≡ state_of image t → BeginsAt (state_of front t) w → IsWalkOf image xs t p w
 walk_begins front image xs choice t p w is own files starts states begins = record {
   process = process_is front image choice p is files starts ∙ ap (process_in image) own;
-  named = is.named ∙ ap (λ (c : Choice). known_among c.used) own;
+  named = is.named ∙ ap (λ (c : Choice). named_among c) own;
   desc = begins.0;
   state = sym states ∙ begins.1;
   walked = begins.2 (process_in image (choice_for image xs));

@@ -7,8 +7,7 @@ use Rattle.address_space.specs.SpaceWords.{attached_view, core_of, space_of}
 use Rattle.address_space.specs.Whole.{space_in}
 use Rattle.core_notes.specs.FileList.{FileView}
 use Rattle.memory_replies.specs.Memory.{is_attached, memory_of}
-use Rattle.memory_replies.specs.NamedList.{named_in}
-use Rattle.memory_replies.specs.Places.{known_among}
+use Rattle.memory_replies.specs.Naming.{NamedFile}
 use Rattle.seen_memory.specs.Seen.{IsWantedBy}
 use Rattle.seen_memory.specs.declared.part.Part.{Part}
 use Rattle.unwind.specs.ByTrampoline.{is_trampoline}
@@ -19,8 +18,8 @@ use Rattle.unwind.specs.declared.faults.Stop.{Stop}
 use Rattle.unwind.specs.declared.frame.Frame.{Frame}
 use Rattle.frame_replies.specs.FrameLines.{value_line}
 use Rattle.frame_replies.specs.FrameValues.{FrameValue, value_with}
-use Rattle.frame_replies.specs.ProcessWords.{described_view}
-use Rattle.frame_replies.specs.Processes.{process_in, start_of, state_of}
+use Rattle.frame_replies.specs.ProcessWords.{described_view, named_in}
+use Rattle.frame_replies.specs.Processes.{named_among, process_in, start_of, state_of}
 use Rattle.frame_replies.specs.declared.process.UnwoundProcess.{UnwoundProcess}
 use Rattle.frame_replies.specs.declared.walk.Walk.{Walk}
 use Rattle.frame_replies.specs.declared.walk.WalkedFrame.{WalkedFrame}
@@ -31,7 +30,7 @@ use Rattle.frame_replies.specs.declared.walk.WalkFault.TheVariants.{Unread, OutO
 pub record IsProcessOf (b : List ℕ) (choice : Choice) (p : UnwoundProcess) : Type 0 where
   pub memory : space_of p.space ≡ memory_of b choice.used
   pub core : core_of p.space ≡ b
-  pub named : named_in p.images ≡ known_among choice.used
+  pub named : named_in p.images ≡ named_among choice
   pub described : map described_view p.described.items ≡ filter is_attached choice.used
   pub others : map attached_view p.others.items ≡ choice.others
   pub start : p.start ≡ start_of b
@@ -67,7 +66,7 @@ WalksOn p old new = (desc : List ℕ) → IsWalked p desc old → IsWalked p des
 -- executables that are stored.
 pub record IsWalkOf (image : List ℕ) (stored : List ExecutableView) (t : ℕ) (p : UnwoundProcess) (w : Walk) : Type 0 where
   pub process : process_by p image ≡ process_in image (choice_for image stored)
-  pub named : named_in p.images ≡ known_among (choice_for image stored).used
+  pub named : named_in p.images ≡ named_among (choice_for image stored)
   pub desc : List ℕ
   pub state : state_of image t ≡ Some desc
   pub walked : IsWalked (process_in image (choice_for image stored)) desc w
@@ -94,9 +93,9 @@ StepsOn front size parts old (Err (Unread u)) new = IsWantedBy front size parts 
 StepsOn front size parts old (Err OutOfMemory) new = ⊤
 
 -- a frame that was found as a value
-abbrev pub walked_value : List FileView → List ExecutableView → WalkedFrame → FrameValue
+abbrev pub walked_value : List FileView → List NamedFile → WalkedFrame → FrameValue
 walked_value files named w = value_with files named w.signal w.frame
 
 -- `I PC WHERE sp h` of it
-abbrev pub walked_line : List FileView → List ExecutableView → ℕ → WalkedFrame → List ℕ
+abbrev pub walked_line : List FileView → List NamedFile → ℕ → WalkedFrame → List ℕ
 walked_line files named i w = value_line i (walked_value files named w)

@@ -3,14 +3,15 @@ ghost use Rattle.std.specs.Prelude.{◌≡◌, ℕ, List, None, Ok, Some};
 ghost use Rattle.std.specs.List.{AllByRecursion};
 ghost use Rattle.address_space.specs.Source.{ExecutableView, SpotView};
 ghost use Rattle.build_replies.specs.Choosing.{choice_for, told_id};
-ghost use Rattle.memory_replies.specs.Places.{known_among};
+ghost use Rattle.build_replies.specs.ChoosingLaws.{IsDebugOf};
+ghost use Rattle.memory_replies.specs.Naming.{NamedFile};
 ghost use Rattle.unwind.specs.Code.{CodeView, code_of};
 ghost use Rattle.unwind.specs.declared.faults.Stop as stops;
 ghost use Rattle.unwind.specs.declared.frame.Frame as frames;
 ghost use Rattle.frame_replies.specs.Choices.{AreNoDebugFiles, IsBuildOf, IsOwnBuild, frame_by_path, process_of, spot_of_frame, unwind_by_path};
 ghost use Rattle.frame_replies.specs.FrameLines.{unwind_answer};
 ghost use Rattle.frame_replies.specs.FrameRegisters.{frame_answer};
-ghost use Rattle.frame_replies.specs.Processes.{state_of};
+ghost use Rattle.frame_replies.specs.Processes.{named_among, state_of};
 ghost use Rattle.frame_replies.specs.Shown.{IsShown};
 
 use unwind::{each_frame_stands_on_a_rule, the_frames_are_unwound};
@@ -28,10 +29,12 @@ pub fn each_frame_shown_stands_on_a_rule()
 }
 
 /// No file of another build is used, and no debug file: if the core tells a build ID for a mapped file, an executable that is attached for it, or that
-/// names its functions, has that ID, and so has the one in which the code of a frame is found. It does nothing.
+/// names its functions, has that ID, and so has the one in which the code of a frame is found. A debug file that names functions of a
+/// mapped file is that of the build of an executable that is used for it. It does nothing.
 pub fn never_another()
     ensures attached { (b : List ℕ) (stored : List ExecutableView) → AllByRecursion (IsOwnBuild b) (process_of b stored).executables }
-    ensures named { (b : List ℕ) (stored : List ExecutableView) → AllByRecursion (IsOwnBuild b) (known_among (choice_for b stored).used) }
+    ensures named { (b : List ℕ) (stored : List ExecutableView) → AllByRecursion (λ (n : NamedFile). IsOwnBuild b n.file) (named_among (choice_for b stored)) }
+    ensures debugs { (b : List ℕ) (stored : List ExecutableView) → AllByRecursion (IsDebugOf (choice_for b stored).used) (choice_for b stored).debugs }
     ensures no_debug { (b : List ℕ) (stored : List ExecutableView) → AreNoDebugFiles (choice_for b stored).used }
     ensures code { (b : List ℕ) (stored : List ExecutableView) (f : frames.Frame) (spot : SpotView) (code : CodeView) → spot_of_frame (process_of b stored) f ≡ Some spot
         → code_of (process_of b stored) f ≡ Ok code → IsBuildOf b spot.name code.image }

@@ -7,9 +7,9 @@ ghost use Rattle.image_replies.specs.CoreWords.{core_bytes};
 ghost use Rattle.image_replies.specs.Lines.{numbered_lines};
 ghost use Rattle.memory_replies.specs.Answers.{AnswersWith};
 ghost use Rattle.memory_replies.specs.Memory.{attached_view};
-ghost use Rattle.memory_replies.specs.NamedList.{named_in};
 ghost use Rattle.frame_replies.specs.FrameLines as spec;
 ghost use Rattle.frame_replies.specs.FrameValues.{frame_view};
+ghost use Rattle.frame_replies.specs.ProcessWords.{named_in};
 ghost use Rattle.frame_replies.specs.Walking as walks;
 
 use crate::known::tell_known;
@@ -26,7 +26,7 @@ use std::alloc::Global;
 use unwind::Stop;
 
 /// Tells where a frame is: `signal` at the code to which a signal handler returns, else `NAME+h` by the symbols of the executable that is
-/// attached for the mapped file, or `?`.
+/// attached for the mapped file, or of its debug file, or `?`.
 pub fn tell_frame_place<O: Output>(reply: &mut Reply<'_, O>, frame: &FrameAnswer<'_>)
     ensures { TellsText (telling O.Output reply.old reply.new) (spec.place_text (frame_view frame.now)) }
 {
@@ -78,7 +78,7 @@ fn tell_lines<O: Output>(
 
 /// Tells the frames of a thread, all of which a walk has found, and why no other comes: `0 PC WHERE sp h ra h`, then
 /// `I PC WHERE sp h` for each other, and `stop REASON`. WHERE is `signal` at the code to which a signal handler returns, else
-/// `NAME+h` by the symbols of the executable that is attached for the mapped file, or `?`. A value that is not known is `?`.
+/// `NAME+h` by the symbols of the executable that is attached for the mapped file, or of its debug file, or `?`. A value that is not known is `?`.
 ///
 /// The address that is looked up for a frame is its pc if execution was there, else the one before it.
 pub fn tell_walked<O: Output>(

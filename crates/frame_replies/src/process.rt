@@ -13,7 +13,7 @@ use address_space::{AddressSpace, Attached};
 use build_replies::{ChosenExecutables, listed, told_ids};
 use core_notes::AuxvPairs;
 use image_replies::CoreImage;
-use memory_replies::{SymbolizedExecutables, space_and_images};
+use memory_replies::{NamedExecutable, named_executables, space_with};
 use std::alloc::{AllocError, Global};
 
 /// AT_ENTRY: the address where the program begins.
@@ -40,12 +40,12 @@ fn start_of(core: &CoreImage<'_>) -> Option<u64>
     start_among(vector.pairs())
 }
 
-/// The process of a core: its memory, the executables that are attached, with their call frame information and their symbols, those
-/// that are not, since they are of another build, and where the program begins.
+/// The process of a core: its memory, the executables that are attached, with their call frame information, their symbols and those of
+/// their debug files, those that are not, since they are of another build, and where the program begins.
 #[derive(Drop)]
 pub struct UnwoundProcess<'a> {
     pub(crate) space: AddressSpace<'a>,
-    pub(crate) images: SymbolizedExecutables<'a>,
+    pub(crate) images: Vec<NamedExecutable<'a>>,
     pub(crate) described: Vec<Described<'a>>,
     pub(crate) others: Vec<Attached<'a>>,
     pub(crate) start: Option<u64>,
@@ -63,7 +63,8 @@ impl<'a> UnwoundProcess<'a> {
     ) -> Result<UnwoundProcess<'a>, AllocError>
         ensures { IfOk result (IsProcessOf (core_bytes core.now) (choice_view chosen.entry)) }
     {
-        let (space, images) = space_and_images(alloc, core, &chosen.used)?;
+        let space = space_with(alloc, core, &chosen.used)?;
+        let images = named_executables(alloc, &chosen.used, &chosen.debugs)?;
         let described = all_described(alloc, &chosen.used)?;
         Ok(UnwoundProcess {
             space,

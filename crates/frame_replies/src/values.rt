@@ -2,14 +2,14 @@
 ghost use Rattle.std.specs.Prelude.{◌≡◌, ℕ, List, IfOk, Some};
 ghost use Rattle.address_space.specs.Source.{ExecutableView};
 ghost use Rattle.address_space.specs.SpaceWords.{space_of};
-ghost use Rattle.memory_replies.specs.NamedList.{named_in};
 ghost use Rattle.unwind.specs.Code.{looked_up as looked_up_in};
 ghost use Rattle.frame_replies.specs.FrameValues.{frame_view, frames_of, frames_view};
+ghost use Rattle.frame_replies.specs.ProcessWords.{named_in};
 ghost use Rattle.frame_replies.specs.Walking.{HasFound, IsWalkOf, walked_value};
 
 use crate::process::UnwoundProcess;
 use crate::walk::{Walk, WalkedFrame};
-use memory_replies::{Location, place_of};
+use memory_replies::{Location, function_of};
 use std::alloc::{AllocError, Global};
 use unwind::columns::{RA, SP};
 use unwind::{Frame, Stop};
@@ -62,7 +62,7 @@ impl<'a> UnwoundProcess<'a> {
             pc: frame.pc,
             looked_up,
             signal: walked.signal,
-            function: place_of(&self.space, &self.images, frame.pc, looked_up),
+            function: function_of(&self.space, &self.images, frame.pc, looked_up),
             stack: frame.register(SP),
             returns: frame.register(RA),
         }

@@ -16,9 +16,10 @@ use Rattle.intake.specs.declared.faults.ArchiveFault.TheVariants.{Stopped, NoCas
 use Rattle.journal_layout.specs.Soundness.{case_numbered}
 use Rattle.journal_layout.specs.Case.{Case}
 use Rattle.journal_layout.specs.declared.entry.Kind.{Kind}
-use Rattle.case_queries.specs.Collecting.{Collects, Wanted, wanted_for, with_executable}
+use Rattle.case_queries.specs.Collecting.{Collects, CollectsAll, Gathered, Gathers, GathersMore, Wanted, debugs_for, gathered_with, wanted_for, with_executable}
 use Rattle.case_queries.specs.InspectLaws.{steps_of}
 use Rattle.case_queries.specs.Inspecting.{Inspects, Told, reads_executables}
+use Rattle.case_queries.specs.LeaveLaws.{all_leaves}
 use Rattle.case_queries.specs.Steps.{Asks, ShowsBy, ShowsWithExecutables, ShowsCore, ToldWithExecutables, kind_asked, kind_found}
 use Rattle.case_queries.specs.Seeing.{LooksAt}
 use Rattle.script_lines.specs.Queries.{QuerySaid, ask_symbol}
@@ -126,34 +127,77 @@ module _ {D E : Type 0} (g : disk.Ghosts D) (h : disk.Ghosts E) where
       let one : f' ≡ f = (let e = looks.0 in cc) in
       (is'.0 ∙ ap (λ (y : ArchiveFault). Err y) one ∙ sym is.0, held_still mid new mid' new' looks.1 is.1 is'.1)
 
+  all_agree : (xs : List Wanted) (old new : Parts D) (old' new' : Parts E) (r r' : Result (List ExecutableView) ArchiveFault) → IsTrue (g.is_honest old.disk) → IsTrue (h.is_honest old'.disk) → HoldSame g h old old' → (state_of old).stopped ≡ false
+      → CollectsAll g old xs r new → CollectsAll h old' xs r' new' → IsDecided r → IsDecided r' → Agrees new new' r r'
+  all_agree xs old new old' new' r r' honest honest' same runs (inl short) all' d d' = absurd (subst IsDecided short.0 d)
+  all_agree xs old new old' new' r r' honest honest' same runs (inr all) (inl short) d d' = absurd (subst IsDecided short.0 d')
+  all_agree xs old new old' new' r r' honest honest' same runs (inr all) (inr all') d d' = collects_agree xs old new old' new' r r' honest honest' same runs all all' d d'
+
+  -- executables that are read leave the state as it was
+  collects_state : (xs : List Wanted) (old new : Parts D) (views : List ExecutableView) → Collects g old xs (Ok views) new → state_of new ≡ state_of old
+  collects_state [] old new views all = ap state_of all.1
+  collects_state (x ∷ xs) old new views (Ok image, mid, sees, inl short) = absurd (let e = short.0 in cc)
+  collects_state (x ∷ xs) old new views (Ok image, mid, sees, inr (Ok ys, rest, is)) = collects_state xs mid new ys rest ∙ sees.state
+  collects_state (x ∷ xs) old new views (Ok image, mid, sees, inr (Err f, rest, is)) = absurd (let e : Ok views ≡ Err f = is in cc)
+  collects_state (x ∷ xs) old new views (Err f, mid, call, is) = absurd (let e = is.0 in cc)
+
+  all_state : (xs : List Wanted) (old new : Parts D) (views : List ExecutableView) → CollectsAll g old xs (Ok views) new → state_of new ≡ state_of old
+  all_state xs old new views (inl short) = absurd (let e = short.0 in cc)
+  all_state xs old new views (inr all) = collects_state xs old new views all
+
+  more_decided : (ws : List Wanted) (xs : List ExecutableView) (ds : List Wanted) (more : Result (List ExecutableView) ArchiveFault) → IsDecided (gathered_with ws xs ds more) → IsDecided more
+  more_decided ws xs ds (Ok ys) decided = tt
+  more_decided ws xs ds (Err f) decided = decided_as Gathered (List ExecutableView) f decided
+
+  -- what is read for a line, of two archives that hold the same
+  module _ (ws : List Wanted) (debugs : List ExecutableView → List Wanted) where
+    more_agree : (first : Result (List ExecutableView) ArchiveFault) (mid new : Parts D) (mid' new' : Parts E) (r r' : Result Gathered ArchiveFault) → IsTrue (g.is_honest mid.disk) → IsTrue (h.is_honest mid'.disk) → HoldSame g h mid mid'
+        → ((xs : List ExecutableView) → first ≡ Ok xs → (state_of mid).stopped ≡ false)
+        → GathersMore g mid ws debugs first r new → GathersMore h mid' ws debugs first r' new' → IsDecided r → IsDecided r' → (r' ≡ r) × HoldSame g h new new'
+    more_agree (Ok xs) mid new mid' new' r r' honest honest' same runs (more, collects, is) (more', collects', is') d d' =
+        let agreed = all_agree (debugs xs) mid new mid' new' more more' honest honest' same (runs xs refl) collects collects'
+        (more_decided ws xs (debugs xs) more (subst IsDecided is d)) (more_decided ws xs (debugs xs) more' (subst IsDecided is' d')) in
+        (is' ∙ ap (gathered_with ws xs (debugs xs)) agreed.0 ∙ sym is, agreed.1)
+    more_agree (Err f) mid new mid' new' r r' honest honest' same runs (is, still) (is', still') d d' = (is' ∙ sym is, held_still mid new mid' new' same still still')
+
+    first_decided : {F : Type 0} (k : disk.Ghosts F) (first : Result (List ExecutableView) ArchiveFault) (mid new : Parts F) (r : Result Gathered ArchiveFault) → GathersMore k mid ws debugs first r new → IsDecided r → IsDecided first
+    first_decided k (Ok xs) mid new r more d = tt
+    first_decided k (Err f) mid new r (is, still) d = decided_as Gathered (List ExecutableView) f (subst IsDecided is d)
+
+    gathers_agree : (old new : Parts D) (old' new' : Parts E) (r r' : Result Gathered ArchiveFault) → IsTrue (g.is_honest old.disk) → IsTrue (h.is_honest old'.disk) → HoldSame g h old old' → (state_of old).stopped ≡ false
+        → Gathers g old ws debugs r new → Gathers h old' ws debugs r' new' → IsDecided r → IsDecided r' → (r' ≡ r) × HoldSame g h new new'
+    gathers_agree old new old' new' r r' honest honest' same runs (first, mid, all, more) (first', mid', all', more') d d' =
+        let agreed = all_agree ws old mid old' mid' first first' honest honest' same runs all all' (first_decided g first mid new r more d) (first_decided h first' mid' new' r' more' d') in
+        let on : (xs : List ExecutableView) → first ≡ Ok xs → (state_of mid).stopped ≡ false =
+        λ xs is. ap (λ (s : ArchiveState). s.stopped) (all_state ws old mid xs (subst (λ (x : Result (List ExecutableView) ArchiveFault). CollectsAll g old ws x mid) is all)) ∙ runs in
+        more_agree first mid new mid' new' r r' ((all_leaves g old mid ws first all).stays.honesty ∙ honest) ((all_leaves h old' mid' ws first' all').stays.honesty ∙ honest') agreed.1 on more
+        (subst (λ (x : Result (List ExecutableView) ArchiveFault). GathersMore h mid' ws debugs x r' new') agreed.0 more') d d'
+
   -- the answer of a query
   told_one : (kind : Kind) (q : QuerySaid) (b reply reply' : List ℕ) → Told kind q b reply → Told kind q b reply' → (IsFree reply → ⊥) → (IsFree reply' → ⊥) → reply' ≡ reply
   told_one kind (ask_symbol address) b reply reply' told told' bound bound' =
       ⊎_elim (λ a. ⊎_elim (λ a'. a' ∙ sym a) (λ m. absurd (bound' (inl m.0))) told') (λ m. absurd (bound (inl m.0))) told
   told_one kind _ b reply reply' told told' bound bound' = told' ∙ sym told
 
-  with_executables_decided : (kind : Kind) (q : QuerySaid) (b : List ℕ) (ws : List Wanted) (r : Result (List ExecutableView) ArchiveFault) (reply : List ℕ) → ToldWithExecutables kind q b ws r reply → (IsFree reply → ⊥) → IsDecided r
-  with_executables_decided kind q b ws (Ok xs) reply told bound = tt
-  with_executables_decided kind q b ws (Err f) reply told bound = decided_as (List ℕ) (List ExecutableView) f (told_decided f reply told bound)
+  with_executables_decided : (kind : Kind) (q : QuerySaid) (b : List ℕ) (r : Result Gathered ArchiveFault) (reply : List ℕ) → ToldWithExecutables kind q b r reply → (IsFree reply → ⊥) → IsDecided r
+  with_executables_decided kind q b (Ok read) reply told bound = tt
+  with_executables_decided kind q b (Err f) reply told bound = decided_as (List ℕ) Gathered f (told_decided f reply told bound)
 
-  with_executables_one : (kind : Kind) (q : QuerySaid) (b : List ℕ) (ws : List Wanted) (r : Result (List ExecutableView) ArchiveFault) (reply reply' : List ℕ) → ToldWithExecutables kind q b ws r reply → ToldWithExecutables kind q b ws r reply' → (IsFree reply → ⊥) → (IsFree reply' → ⊥)
+  with_executables_one : (kind : Kind) (q : QuerySaid) (b : List ℕ) (r : Result Gathered ArchiveFault) (reply reply' : List ℕ) → ToldWithExecutables kind q b r reply → ToldWithExecutables kind q b r reply' → (IsFree reply → ⊥) → (IsFree reply' → ⊥)
       → reply' ≡ reply
-  with_executables_one kind q b ws (Ok xs) reply reply' told told' bound bound' =
+  with_executables_one kind q b (Ok read) reply reply' told told' bound bound' =
       ⊎_elim (λ a. ⊎_elim (λ a'. a' ∙ sym a) (λ m. absurd (bound' (inl m))) told') (λ m. absurd (bound (inl m))) told
-  with_executables_one kind q b ws (Err f) reply reply' told told' bound bound' = told' ∙ sym told
+  with_executables_one kind q b (Err f) reply reply' told told' bound bound' = told' ∙ sym told
 
   module _ (old new : Parts D) (old' new' : Parts E) (kind : Kind) (q : QuerySaid) (b reply reply' : List ℕ) (honest : IsTrue (g.is_honest old.disk)) (honest' : IsTrue (h.is_honest old'.disk)) (same : HoldSame g h old old') (runs : (state_of old).stopped ≡ false)
       (bound : IsFree reply → ⊥) (bound' : IsFree reply' → ⊥) where
     core_agrees : ShowsCore g old kind q b reply new → ShowsCore h old' kind q b reply' new' → (reply' ≡ reply) × HoldSame g h new new'
-    core_agrees (r, inl short, told) shows' = absurd (subst IsDecided short.0 (with_executables_decided kind q b (wanted_for q b (state_of old).cases) r reply told bound))
-    core_agrees (r, inr all, told) (r', inl short, told') = absurd (subst IsDecided short.0 (with_executables_decided kind q b (wanted_for q b (state_of old').cases) r' reply' told' bound'))
-    core_agrees (r, inr all, told) (r', inr all', told') =
-        let collected = collects_agree (wanted_for q b (state_of old).cases) old new old' new' r r' honest honest' same runs all
-        (subst (λ (s : ArchiveState). Collects h old' (wanted_for q b s.cases) r' new') same.state all')
-        (with_executables_decided kind q b (wanted_for q b (state_of old).cases) r reply told bound) (with_executables_decided kind q b (wanted_for q b (state_of old').cases) r' reply' told' bound') in
-        let same_cases = subst (λ (s : ArchiveState). ToldWithExecutables kind q b (wanted_for q b s.cases) r' reply') same.state told' in
-        let same_images = subst (λ (x : Result (List ExecutableView) ArchiveFault). ToldWithExecutables kind q b (wanted_for q b (state_of old).cases) x reply') collected.0 same_cases in
-        (with_executables_one kind q b (wanted_for q b (state_of old).cases) r reply reply' told same_images bound bound', collected.1)
+    core_agrees (r, all, told) (r', all', told') =
+        let gathered = gathers_agree (wanted_for q b (state_of old).cases) (debugs_for q b (state_of old).cases) old new old' new' r r' honest honest' same runs all
+        (subst (λ (s : ArchiveState). Gathers h old' (wanted_for q b s.cases) (debugs_for q b s.cases) r' new') same.state all')
+        (with_executables_decided kind q b r reply told bound) (with_executables_decided kind q b r' reply' told' bound') in
+        let same_read = subst (λ (x : Result Gathered ArchiveFault). ToldWithExecutables kind q b x reply') gathered.0 told' in
+        (with_executables_one kind q b r reply reply' told same_read bound bound', gathered.1)
 
     with_executables_agrees : (o : Option CoreFault) → ShowsWithExecutables g old kind q b o reply new → ShowsWithExecutables h old' kind q b o reply' new' → (reply' ≡ reply) × HoldSame g h new new'
     with_executables_agrees (Some fault) shows shows' = (shows'.0 ∙ sym shows.0, held_still old new old' new' same shows.1 shows'.1)

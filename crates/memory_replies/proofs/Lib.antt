@@ -10,3 +10,4 @@ pub mod ValueLemmas
 pub mod FrontLemmas
 pub mod WindowLemmas
 pub mod StackLemmas
+pub mod NamingLemmas

@@ -11,6 +11,9 @@ pub mod Places
 pub mod Backtrace
 pub mod NamedWords
 pub mod NamedList
+pub mod Naming
+pub mod OwnSymbols
+pub mod NamingWords
 pub mod FileNameWords
 pub mod Window
 pub mod Stack

@@ -1,10 +1,14 @@
-// What is told from the first bytes of a core.
-ghost use Rattle.std.specs.Prelude.{◌≡◌, ℕ, List, take};
+// What is told from the first bytes of a core, and what debug files add.
+ghost use Rattle.std.specs.Prelude.{◌≡◌, [], ℕ, List, Option, Some, take};
+ghost use Rattle.address_space.specs.Source.{ExecutableView};
+ghost use Rattle.core_notes.specs.FileList.{FileView};
 ghost use Rattle.elf_view.specs.Sound.{IsHeaderWhole, IsSound};
 ghost use Rattle.elf_view.specs.declared.faults.Want.{Want};
 ghost use Rattle.image_replies.specs.Lines.{in_core};
 ghost use Rattle.memory_replies.specs.Maps.{maps_answer};
 ghost use Rattle.memory_replies.specs.Memory.{mapped_files};
+ghost use Rattle.memory_replies.specs.Naming.{function_of, named_files};
+ghost use Rattle.memory_replies.specs.Places.{PlaceView};
 
 use elf_view::{Want, a_sound_front_is_enough};
 use image_replies::a_sound_front_answers;
@@ -26,3 +30,9 @@ pub fn a_sound_front_names_the_files()
 {
     a_sound_front_is_enough();
 }
+
+/// Debug files name what the executables do not name. If a function is known without them, it is the same with them. It does nothing.
+pub fn debug_replaces_unknown()
+    ensures { (mapped : List FileView) (executables debugs : List ExecutableView) (pc : ℕ) (address : Option ℕ) (place : PlaceView)
+        → function_of mapped (named_files executables []) pc address ≡ Some place → function_of mapped (named_files executables debugs) pc address ≡ Some place }
+{}

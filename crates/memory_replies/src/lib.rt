@@ -5,12 +5,16 @@
 #![tactic(auto)]
 
 mod attached;
+mod debug_file;
 mod dump;
 mod file_names;
 mod frames;
+mod functions;
 mod laws;
 mod maps;
 mod named;
+mod named_executable;
+mod naming;
 mod outcome;
 mod search;
 mod stack;
@@ -25,9 +29,13 @@ pub use attached::{space_and_images, space_with};
 pub use dump::{is_out_of_range, tell_dump};
 pub use file_names::FileNames;
 pub use frames::tell_bt;
-pub use laws::{a_sound_front_names_the_files, a_sound_front_shows_the_mappings};
+pub use laws::{
+    a_sound_front_names_the_files, a_sound_front_shows_the_mappings, debug_replaces_unknown,
+};
 pub use maps::tell_maps;
 pub use named::{Location, place_of, tell_place};
+pub use named_executable::NamedExecutable;
+pub use naming::{function_of, named_executables};
 pub use outcome::Outcome;
 pub use search::tell_find;
 pub use stack::{has_frames, stack_range};

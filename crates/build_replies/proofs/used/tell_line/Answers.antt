@@ -7,4 +7,5 @@ pub returns : goal.returns
 unfolding used_line
 returns g c =
     tells_then c.tell_text.ensures (tells_then c.tell.ensures (tells_then (tells_as (ap number_word c.case_used.ensures) c.tell_number.ensures)
-    (tells_then c.tell-2.ensures (tells_then (tells_as c.how.ensures c.tell-3.ensures) c.tell-4.ensures))))
+    (tells_then c.tell-2.ensures (tells_then (tells_as c.how.ensures c.tell-3.ensures)
+    (tells_then c.tell-4.ensures (tells_then (tells_as (ap number_word c.case_of_file.ensures) c.tell_number-2.ensures) c.tell-5.ensures))))))

@@ -1,5 +1,8 @@
-use Rattle.std.proofs.Common.{None, map, ap, sym, subst, ◌∙◌}
+use Rattle.std.proofs.Common.{List, None, Ok, ◌++◌, map, ap, sym, subst, ◌∙◌}
+use Rattle.address_space.specs.Source.{ExecutableView}
+use Rattle.build_replies.specs.Builds.{told_or_none}
 use Rattle.build_replies.specs.Mapped.{told_view}
+use Rattle.case_queries.specs.Collecting.{CollectsAll, debugs_by}
 use Rattle.case_queries.specs.CollectingWords.{executable_view}
 use Rattle.case_queries.specs.declared.walk.CaseImage.{CaseImage}
 use Rattle.case_queries.proofs.FindLemmas.{still_pieces, still_sized}
@@ -7,6 +10,7 @@ use Rattle.case_queries.proofs.WindowLemmas.{seen_reads, sized}
 use Rattle.case_screens.specs.Core.{notes_read}
 use Rattle.case_screens.specs.declared.answer.CoreAnswers.{CoreAnswers}
 use Rattle.image_replies.specs.CoreWords.{core_bytes}
+use Rattle.intake.specs.Parts.{state_of}
 use Rattle.elf_view.specs.declared.faults.Want.TheVariants.{Core}
 use Rattle.case_info.specs.Fronts.{IsFront}
 use Rattle.case_info.specs.Screens.{shown_count}
@@ -37,9 +41,14 @@ told_of-requires-clause-sound g c =
 pub executables_of-requires : goal.executables_of-requires
 executables_of-requires g c = c.in_ok-told.ensures.has.1.0
 
+pub debug_files_of-requires : goal.debug_files_of-requires
+debug_files_of-requires g c =
+    (still_sized g.D.Disk g.met.D.Disk.only_now c.told_of.new.archive c.executables_of.new.archive c.args.seq c.in_ok-size.size _ _ c.in_ok-told.ensures.has c.in_ok-executables.ensures).1.0
+
 pub facts_of-requires-clause-has : goal.facts_of-requires-clause-has
 facts_of-requires-clause-has g c =
-    still_sized g.D.Disk g.met.D.Disk.only_now c.told_of.new.archive c.executables_of.new.archive c.args.seq c.in_ok-size.size _ _ c.in_ok-told.ensures.has c.in_ok-executables.ensures
+    let has = still_sized g.D.Disk g.met.D.Disk.only_now c.told_of.new.archive c.executables_of.new.archive c.args.seq c.in_ok-size.size _ _ c.in_ok-told.ensures.has c.in_ok-executables.ensures in
+    still_sized g.D.Disk g.met.D.Disk.only_now c.executables_of.new.archive c.debug_files_of.new.archive c.args.seq c.in_ok-size.size _ _ has c.in_ok-debug_files.ensures
 
 pub facts_of-requires-clause-short : goal.facts_of-requires-clause-short
 facts_of-requires-clause-short g c =
@@ -77,6 +86,7 @@ returns g c = λ plain.
     let first = c.front_of.new.archive in
     let mid = c.told_of.new.archive in
     let read = c.executables_of.new.archive in
+    let last = c.debug_files_of.new.archive in
     let new = c.facts_of.new.archive in
     let said = c.core_in-said.result in
     let core = c.in-Ok.core in
@@ -92,10 +102,13 @@ returns g c = λ plain.
     let xs = map executable_view c.in_ok-executables.executables.items in
     let collects = c.in_ok-executables.ensures in
     let facts = c.in_ok-facts.facts in
-    let found = c.in_ok-facts.ensures old (still_pieces g.D.Disk g.met.D.Disk.only_now old mid read o told.pieces.items _ xs sees collects) in
-    let a : CoreAnswers = record { core = said.core; unwound = c.deref-3.result; builds = c.builds_in.result; whole = said.whole; unread = said.unread } in
+    let ds = map executable_view c.in_ok-debug_files.debug_files.items in
+    let debugs = c.in_ok-debug_files.ensures in
+    let still = still_pieces g.D.Disk g.met.D.Disk.only_now old mid read o told.pieces.items _ xs sees collects in
+    let found = c.in_ok-facts.ensures old (still_pieces g.D.Disk g.met.D.Disk.only_now old read last o told.pieces.items _ ds still debugs) in
+    let a : CoreAnswers = record { core = said.core; unwound = c.deref-5.result; builds = c.builds_in.result; whole = said.whole; unread = said.unread } in
     let count = ap (shown_count all) (sym (ap notes_read c.in-Ok.is) ∙ says.notes_are) in
-    let views = ap (map executable_view) c.deref-2.ensures.value in (
+    let both = ap (λ ys. map executable_view ys ++ map executable_view c.deref-4.result.now) c.deref-3.ensures.value ∙ ap (λ zs. xs ++ map executable_view zs) c.deref-4.ensures.value in (
       image,
       mid,
       sees.1,
@@ -108,9 +121,12 @@ returns g c = λ plain.
             executables = xs;
             read = read;
             collects = collects;
+            debug_files = ds;
+            all = last;
+            debugs = subst (λ (ys : List ExecutableView). CollectsAll g.D.Disk read (debugs_by (told_or_none (told_view told.files)) ys (state_of read).cases) (Ok ds) last) (ap (map executable_view) c.deref-2.ensures.value) debugs;
             facts = facts;
-            says = says_same g.D.Disk old new seq o.front.now (core_bytes core) size _ (told_view told.files) _ xs _ _ facts lent (sym sees.2.0.0) views count found;
-            are = record { unwound = c.deref-3.ensures.value; builds = c.builds_in.ensures };
+            says = says_same g.D.Disk old new seq o.front.now (core_bytes core) size _ (told_view told.files) _ (xs ++ ds) _ _ facts lent (sym sees.2.0.0) both count found;
+            are = record { unwound = c.deref-5.ensures.value; builds = c.builds_in.ensures };
           },
       c.in_ok-put_core-2.ensures plain,
     )

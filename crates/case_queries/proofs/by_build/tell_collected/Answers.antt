@@ -1,17 +1,36 @@
-use Rattle.std.proofs.Common.{Some, Ok, Err, List, map, refl, ap, subst, sym, ◌∙◌}
+use Rattle.std.proofs.Common.{Some, Ok, Err, List, map, refl, ap, subst, ◌∙◌}
 use Rattle.archive_replies.specs.Reasons.{reason_of}
 use Rattle.build_replies.specs.Builds.{NamedId}
 use Rattle.build_replies.specs.Mapped.{id_view}
 use Rattle.intake.specs.Parts.{state_of}
-use Rattle.case_queries.specs.Asking.{files_asking}
 use Rattle.case_queries.specs.Collecting.{Collects, CollectsAll, Wanted, wanted_by}
-use Rattle.case_queries.specs.CollectingWords.{executable_view, read_as}
+use Rattle.case_queries.specs.CollectingWords.{executable_view}
 use Rattle.case_queries.specs.LeaveLaws.{all_leaves, leaves_then}
-use Rattle.case_queries.specs.ToldWords.{ShowsTold}
+use Rattle.case_queries.specs.ToldWords.{ShowsGathered}
 use Rattle.case_queries.proofs.AgainLemmas.{stay_after}
-use Rattle.case_queries.proofs.FindLemmas.{still_pieces, still_sized}
-use Rattle.case_queries.proofs.ToldLemmas.{files_told, pieces_after, pieces_again, told_asked, told_leaves, told_unread}
+use Rattle.case_queries.proofs.FindLemmas.{runs_after, still_pieces, still_sized}
+use Rattle.case_queries.proofs.ToldLemmas.{pieces_after, told_gathered, told_unread}
 use Rattle.case_queries.proofs.by_build.tell_collected.Goals as goal
+
+pub tell_gathered-outcome-requires-clause-runs : goal.tell_gathered-outcome-requires-clause-runs
+tell_gathered-outcome-requires-clause-runs g c =
+    let now = c.args.archive.now in
+    let ws = wanted_by (map id_view c.listed.result.now) (state_of now).cases in
+    runs_after g.D.Disk g.met.D.Disk.only_now now c.collect.new.archive ws (map executable_view c.in-Ok.executables.items) c.requires.runs (c.in-Ok.ensures.collected ws c.wanted_by_build-wanted.ensures)
+
+pub tell_gathered-outcome-requires-clause-has : goal.tell_gathered-outcome-requires-clause-has
+tell_gathered-outcome-requires-clause-has g c =
+    let now = c.args.archive.now in
+    let ws = wanted_by (map id_view c.listed.result.now) (state_of now).cases in
+    still_sized g.D.Disk g.met.D.Disk.only_now now c.collect.new.archive c.args.image.seq c.args.image.size ws (map executable_view c.in-Ok.executables.items) c.requires.has (c.in-Ok.ensures.collected ws c.wanted_by_build-wanted.ensures)
+
+pub tell_gathered-outcome-requires-clause-own : goal.tell_gathered-outcome-requires-clause-own
+tell_gathered-outcome-requires-clause-own g c =
+    let now = c.args.archive.now in
+    let mid = c.collect.new.archive in
+    let ws = wanted_by (map id_view c.listed.result.now) (state_of now).cases in
+    let leaves = all_leaves g.D.Disk now mid ws (Ok (map executable_view c.in-Ok.executables.items)) (c.in-Ok.ensures.collected ws c.wanted_by_build-wanted.ensures) in
+    pieces_after g.D.Disk c.args.image now mid c.args.told.pieces.items leaves c.requires.own
 
 pub returns-in-Ok-clause-answers : goal.returns-in-Ok-clause-answers
 returns-in-Ok-clause-answers g c before sees =
@@ -20,52 +39,39 @@ returns-in-Ok-clause-answers g c before sees =
     let ps = told.pieces.items in
     let now = c.args.archive.now in
     let mid = c.collect.new.archive in
-    let new = c.tell_with-outcome.new.archive in
+    let new = c.tell_gathered-outcome.new.archive in
     let ws = wanted_by (map id_view c.listed.result.now) (state_of now).cases in
     let xs = c.in-Ok.executables in
     let views = map executable_view xs.items in
     let collects = c.in-Ok.ensures.collected ws c.wanted_by_build-wanted.ensures in
+    let are = c.in-Ok.ensures.are ws c.wanted_by_build-wanted.ensures in
     let leaves = all_leaves g.D.Disk now mid ws (Ok views) collects in
-    let again = pieces_again g.D.Disk image mid ps (g.met.D.Disk.only_now mid.disk) (pieces_after g.D.Disk image now mid ps leaves c.requires.own) in
-    let after = told_leaves g.D.Disk image mid new ps _ (files_asking c.args.asked (map read_as c.deref.result.now)) _ (c.tell_with-outcome.ensures mid again).1 in
-    let all = leaves_then g.D.Disk now mid new leaves after in
+    let after = c.tell_gathered-outcome.ensures.leaves in
     let stay = stay_after g.D.Disk new (g.met.D.Disk.only_now new.disk) mid (Some xs) after c.in-Ok.ensures.kept in
-    let first = subst (λ (vs : List Wanted). Collects g.D.Disk new vs (Ok views) new) (c.in-Ok.ensures.are ws c.wanted_by_build-wanted.ensures) stay in
+    let first = subst (λ (vs : List Wanted). Collects g.D.Disk new vs (Ok views) new) are stay in
     let second = subst (λ (ts : List NamedId). Collects g.D.Disk new (wanted_by ts (state_of now).cases) (Ok views) new) c.listed.ensures first in
-    let third = subst (λ cases. Collects g.D.Disk new (wanted_by (files_told told) cases) (Ok views) new) (sym all.cases) second in
-    let shown = rw c.deref.ensures.value at (c.tell_with-outcome.ensures before (still_pieces g.D.Disk g.met.D.Disk.only_now before now mid image ps ws views sees collects)) in
-    let cases = c.in-Ok.ensures.are ws c.wanted_by_build-wanted.ensures ∙ ap (λ (ts : List NamedId). wanted_by ts (state_of now).cases) c.listed.ensures ∙ ap (wanted_by (files_told told)) (sym all.cases) in (
+    let wants = subst (λ (ts : List NamedId). CollectsAll g.D.Disk now (wanted_by ts (state_of now).cases) (Ok views) mid) c.listed.ensures collects in
+    let shown = rw c.deref.ensures.value at (c.tell_gathered-outcome.ensures.answers before (still_pieces g.D.Disk g.met.D.Disk.only_now before now mid image ps ws views sees collects)) in
+    let cases = are ∙ ap (λ (ts : List NamedId). wanted_by ts (state_of now).cases) c.listed.ensures in
+    let shows = subst (λ (vs : List Wanted). ShowsGathered g.D.Disk before mid image told c.args.asked vs views shown.0 new) cases shown.1 in (
       shown.0,
-      told_asked g.D.Disk image c.args.asked told c.requires.told before new views shown.0 third (subst (λ (vs : List Wanted). ShowsTold g.D.Disk before image ps views (files_asking c.args.asked vs) shown.0 new) cases shown.1),
+      told_gathered g.D.Disk image c.args.asked told c.requires.told before now mid new views shown.0 (g.met.D.Disk.only_now new.disk) sees wants second leaves after shows,
       shown.2,
       shown.3,
     )
 
 pub returns-in-Ok-clause-kept : goal.returns-in-Ok-clause-kept
 returns-in-Ok-clause-kept g c =
-    let image = c.args.image in
-    let ps = c.args.told.pieces.items in
-    let now = c.args.archive.now in
-    let mid = c.collect.new.archive in
-    let new = c.tell_with-outcome.new.archive in
-    let ws = wanted_by (map id_view c.listed.result.now) (state_of now).cases in
-    let xs = c.in-Ok.executables in
-    let leaves = all_leaves g.D.Disk now mid ws (Ok (map executable_view xs.items)) (c.in-Ok.ensures.collected ws c.wanted_by_build-wanted.ensures) in
-    let again = pieces_again g.D.Disk image mid ps (g.met.D.Disk.only_now mid.disk) (pieces_after g.D.Disk image now mid ps leaves c.requires.own) in
-    let after = told_leaves g.D.Disk image mid new ps _ (files_asking c.args.asked (map read_as c.deref.result.now)) _ (c.tell_with-outcome.ensures mid again).1 in
-    stay_after g.D.Disk new (g.met.D.Disk.only_now new.disk) mid (Some xs) after c.in-Ok.ensures.kept
+    let new = c.tell_gathered-outcome.new.archive in
+    stay_after g.D.Disk new (g.met.D.Disk.only_now new.disk) c.collect.new.archive (Some c.in-Ok.executables) c.tell_gathered-outcome.ensures.leaves c.in-Ok.ensures.kept
 
 pub returns-in-Ok-clause-leaves : goal.returns-in-Ok-clause-leaves
 returns-in-Ok-clause-leaves g c =
-    let image = c.args.image in
-    let ps = c.args.told.pieces.items in
     let now = c.args.archive.now in
     let mid = c.collect.new.archive in
-    let new = c.tell_with-outcome.new.archive in
     let ws = wanted_by (map id_view c.listed.result.now) (state_of now).cases in
     let leaves = all_leaves g.D.Disk now mid ws (Ok (map executable_view c.in-Ok.executables.items)) (c.in-Ok.ensures.collected ws c.wanted_by_build-wanted.ensures) in
-    let again = pieces_again g.D.Disk image mid ps (g.met.D.Disk.only_now mid.disk) (pieces_after g.D.Disk image now mid ps leaves c.requires.own) in
-    leaves_then g.D.Disk now mid new leaves (told_leaves g.D.Disk image mid new ps _ (files_asking c.args.asked (map read_as c.deref.result.now)) _ (c.tell_with-outcome.ensures mid again).1)
+    leaves_then g.D.Disk now mid c.tell_gathered-outcome.new.archive leaves c.tell_gathered-outcome.ensures.leaves
 
 pub returns-in-Err-clause-answers : goal.returns-in-Err-clause-answers
 returns-in-Err-clause-answers g c before sees =
@@ -86,9 +92,3 @@ returns-in-Err-clause-leaves g c =
     let now = c.args.archive.now in
     let ws = wanted_by (map id_view c.listed.result.now) (state_of now).cases in
     all_leaves g.D.Disk now c.collect.new.archive ws (Err c.in-Err.refusal) (c.in-Err.ensures.collected ws c.wanted_by_build-wanted.ensures)
-
-pub tell_with-outcome-requires-clause-has : goal.tell_with-outcome-requires-clause-has
-tell_with-outcome-requires-clause-has g c =
-    let now = c.args.archive.now in
-    let ws = wanted_by (map id_view c.listed.result.now) (state_of now).cases in
-    still_sized g.D.Disk g.met.D.Disk.only_now now c.collect.new.archive c.args.image.seq c.args.image.size ws (map executable_view c.in-Ok.executables.items) c.requires.has (c.in-Ok.ensures.collected ws c.wanted_by_build-wanted.ensures)

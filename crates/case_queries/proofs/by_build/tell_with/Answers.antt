@@ -1,4 +1,4 @@
-use Rattle.std.proofs.Common.{List, Ok, inr, map, refl, ap, subst, ◌∙◌}
+use Rattle.std.proofs.Common.{List, Ok, inr, ◌++◌, map, refl, subst}
 use Rattle.address_space.specs.Source.{ExecutableView}
 use Rattle.memory_replies.specs.Memory.{attached_view}
 use Rattle.case_queries.specs.Asking.{files_asking}
@@ -14,9 +14,10 @@ returns-in-Ok g c before sees =
     let ps = c.args.told.pieces.items in
     let a = c.args.asked in
     let new = c.tell_asked.new.archive in
+    let rs = map read_as c.args.executables.now ++ map read_as c.args.debug_files.now in
     let told = c.tell_asked.ensures before sees in
     let cases = subst (λ (ws : List Wanted). ShowsTold g.D.Disk before o ps (map attached_view c.in-Ok.lent.attached.items) (files_asking a ws) told.0 new) c.in-Ok.ensures.cases told.1 in
-    (told.0, subst (λ (ys : List ExecutableView). ShowsTold g.D.Disk before o ps ys (files_asking a (map read_as c.args.executables.now)) told.0 new) c.in-Ok.ensures.attached cases, told.2, told.3)
+    (told.0, subst (λ (ys : List ExecutableView). ShowsTold g.D.Disk before o ps ys (files_asking a rs) told.0 new) c.in-Ok.ensures.attached cases, told.2, told.3)
 
 pub returns-in-Err : goal.returns-in-Err
 returns-in-Err g c before sees = (_, (Ok sees.0, sees.1, (sees.2.0, inr refl)), memory_outcome _ c.tell_no_memory.ensures.done, c.tell_no_memory.ensures.tells)

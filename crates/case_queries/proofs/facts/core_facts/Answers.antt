@@ -1,4 +1,4 @@
-use Rattle.std.proofs.Common.{List, Option, map, sym, ap, subst, ◌∙◌}
+use Rattle.std.proofs.Common.{List, Option, ◌++◌, map, sym, ap, subst, ◌∙◌}
 use Rattle.std.specs.Option.{option_map}
 use Rattle.address_space.specs.Source.{ExecutableView}
 use Rattle.build_replies.specs.Builds.{NamedId, values_of}
@@ -12,7 +12,7 @@ pub returns-in-Ok-unwind_threads : goal.returns-in-Ok-unwind_threads
 returns-in-Ok-unwind_threads g c = λ before sees.
     let o = c.args.image in
     let told = told_view c.args.told.files in
-    let views = map executable_view c.args.executables.now in
+    let views = map executable_view c.args.executables.now ++ map executable_view c.args.debug_files.now in
     let found = c.in-Ok-unwind_threads.ensures in
     let seen = found.sees before sees in
     let tells = c.requires.told.told seen.0 seen.2 in

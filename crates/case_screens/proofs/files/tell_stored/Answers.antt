@@ -12,19 +12,19 @@ use Rattle.case_screens.proofs.files.tell_stored.Goals as goal
 pub returns-in-ByBuild : goal.returns-in-ByBuild
 returns-in-ByBuild g c =
     let v = build_view c.args.file.now in
-    tells_as (ap used_text c.stored_number.ensures ∙ ap (λ (k : ChosenFile). chosen_text (map case_of c.args.cases.now) v.name v.core (chosen_view k)) (sym c.in-ByBuild.is)) c.tell_used.ensures
+    tells_as (ap (λ n. used_text n (map case_of c.args.cases.now) v.debug) c.stored_number.ensures ∙ ap (λ (k : ChosenFile). chosen_text (map case_of c.args.cases.now) v.name v.core v.debug (chosen_view k)) (sym c.in-ByBuild.is)) c.tell_used.ensures
 
 pub returns-in-ByPath : goal.returns-in-ByPath
 returns-in-ByPath g c =
     let v = build_view c.args.file.now in
-    tells_as (ap used_text c.stored_number-in-ByPath.ensures ∙ ap (λ (k : ChosenFile). chosen_text (map case_of c.args.cases.now) v.name v.core (chosen_view k)) (sym c.in-ByPath.is)) c.tell_used-in-ByPath.ensures
+    tells_as (ap (λ n. used_text n (map case_of c.args.cases.now) v.debug) c.stored_number-in-ByPath.ensures ∙ ap (λ (k : ChosenFile). chosen_text (map case_of c.args.cases.now) v.name v.core v.debug (chosen_view k)) (sym c.in-ByPath.is)) c.tell_used-in-ByPath.ensures
 
 pub returns-in-Other : goal.returns-in-Other
 returns-in-Other g c =
     let v = build_view c.args.file.now in
-    tells_as (ap other_text c.stored_number-in-Other.ensures ∙ ap (λ (k : ChosenFile). chosen_text (map case_of c.args.cases.now) v.name v.core (chosen_view k)) (sym c.in-Other.is)) c.tell_other.ensures
+    tells_as (ap other_text c.stored_number-in-Other.ensures ∙ ap (λ (k : ChosenFile). chosen_text (map case_of c.args.cases.now) v.name v.core v.debug (chosen_view k)) (sym c.in-Other.is)) c.tell_other.ensures
 
 pub returns-in-Nothing : goal.returns-in-Nothing
 returns-in-Nothing g c =
     let v = build_view c.args.file.now in
-    tells_as (ap (λ told. store_text told v.name) (c.has_build.ensures ∙ ap has_build c.id.ensures) ∙ ap (λ (k : ChosenFile). chosen_text (map case_of c.args.cases.now) v.name v.core (chosen_view k)) (sym c.in-Nothing.is)) c.tell_store_text.ensures
+    tells_as (ap (λ told. store_text told v.name) (c.has_build.ensures ∙ ap has_build c.id.ensures) ∙ ap (λ (k : ChosenFile). chosen_text (map case_of c.args.cases.now) v.name v.core v.debug (chosen_view k)) (sym c.in-Nothing.is)) c.tell_store_text.ensures

@@ -1,4 +1,4 @@
-use Rattle.frame_replies.proofs.ChoiceLemmas.{attached_own, code_own, named_own, used_code}
+use Rattle.frame_replies.proofs.ChoiceLemmas.{attached_own, code_own, debugs_own, named_own, used_code}
 use Rattle.frame_replies.proofs.laws.never_another.Goals as goal
 
 pub returns-clause-attached : goal.returns-clause-attached
@@ -12,3 +12,6 @@ returns-clause-code c = code_own
 
 pub returns-clause-no_debug : goal.returns-clause-no_debug
 returns-clause-no_debug c = used_code
+
+pub returns-clause-debugs : goal.returns-clause-debugs
+returns-clause-debugs c = debugs_own

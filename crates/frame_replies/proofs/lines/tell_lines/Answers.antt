@@ -1,6 +1,6 @@
 use Rattle.std.proofs.Common.{ap, arith}
 use Rattle.address_space.specs.SpaceWords.{space_of}
-use Rattle.memory_replies.specs.NamedList.{named_in}
+use Rattle.frame_replies.specs.ProcessWords.{named_in}
 use Rattle.script_streams.specs.TellLaws.{tells_as}
 use Rattle.frame_replies.specs.FrameLines.{value_line}
 use Rattle.frame_replies.specs.Walking.{walked_line}

@@ -2,7 +2,7 @@ use Rattle.std.proofs.Common.{drop}
 use Rattle.script_streams.specs.Telling.{sink}
 use Rattle.address_space.specs.SpaceWords.{space_of}
 use Rattle.image_replies.specs.Lines.{numbered_lines}
-use Rattle.memory_replies.specs.NamedList.{named_in}
+use Rattle.frame_replies.specs.ProcessWords.{named_in}
 use Rattle.frame_replies.specs.Walking.{walked_line}
 use Rattle.frame_replies.proofs.TellLemmas.{TellsUpTo}
 use Rattle.frame_replies.proofs.lines.tell_lines.Given as goal

@@ -1,7 +1,7 @@
 use Rattle.std.proofs.Common.{ap}
 use Rattle.address_space.specs.SpaceWords.{space_of}
 use Rattle.image_replies.specs.Lines.{numbered_lines}
-use Rattle.memory_replies.specs.NamedList.{named_in}
+use Rattle.frame_replies.specs.ProcessWords.{named_in}
 use Rattle.script_streams.specs.TellLaws.{tells_as, tells_then}
 use Rattle.frame_replies.specs.Walking.{walked_line}
 use Rattle.frame_replies.specs.WalkLaws.{unwind_told}

@@ -1,6 +1,8 @@
 use Rattle.std.proofs.Common.{List, map, ap, ◌∙◌, arith}
 use Rattle.std.proofs.lemmas.List.{take_all}
+use Rattle.std.specs.Option.{option_map}
 use Rattle.address_space.specs.Source.{ExecutableView}
+use Rattle.address_space.specs.SpaceWords.{attached_view}
 use Rattle.build_replies.specs.Choosing.{choice_of}
 use Rattle.build_replies.specs.ChoosingLaws.{next_chosen}
 use Rattle.build_replies.specs.ChoosingWords.{choice_view, chosen_view}
@@ -14,8 +16,8 @@ loop-file-init c = c.new-chosen.ensures
 
 pub loop-file-preserved : goal.loop-file-preserved
 loop-file-preserved c =
-    next_chosen (table_rows c.in_ok-table.table) c.args.files.now c.loop-file.file-index c.file-item.result (chosen_view c.for_file.result) (choice_view c.loop-file.chosen) (choice_view c.add.new.self) c.loop-file-test.true c.file-item.is
-    c.loop-file.invariant c.for_file.ensures c.in_ok-add.ensures
+    next_chosen (table_rows c.in_ok-table.table) c.args.files.now c.loop-file.file-index c.file-item.result (chosen_view c.for_file-executable.result) (option_map attached_view c.debug_of.result) (choice_view c.loop-file.chosen) (choice_view c.add.new.self)
+    (choice_view c.add_debug.new.self) c.loop-file-test.true c.file-item.is c.loop-file.invariant c.for_file-executable.ensures c.debug_of.ensures c.in_ok-add.ensures c.in_ok-add_debug.ensures
 
 pub returns : goal.returns
 returns c =

@@ -1,7 +1,7 @@
 use Rattle.std.proofs.Common.{List, Some, map, sym, ap, ◌∙◌, arith}
 use Rattle.std.proofs.lemmas.List.{take_all}
 use Rattle.address_space.specs.SpaceWords.{space_of}
-use Rattle.memory_replies.specs.NamedList.{named_in}
+use Rattle.frame_replies.specs.ProcessWords.{named_in}
 use Rattle.frame_replies.specs.FrameValues.{FrameValue}
 use Rattle.frame_replies.specs.Walking.{walked_value}
 use Rattle.frame_replies.specs.WalkLaws.{walk_values}

@@ -1,6 +1,6 @@
 use Rattle.std.proofs.Common.{◌≡◌, map, take}
 use Rattle.address_space.specs.SpaceWords.{space_of}
-use Rattle.memory_replies.specs.NamedList.{named_in}
+use Rattle.frame_replies.specs.ProcessWords.{named_in}
 use Rattle.frame_replies.specs.FrameValues.{frame_view}
 use Rattle.frame_replies.specs.Walking.{walked_value}
 use Rattle.frame_replies.proofs.process.UnwoundProcess.frames.Given as goal
