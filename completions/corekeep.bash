@@ -2,7 +2,7 @@
 _corekeep() {
     local word=${COMP_WORDS[COMP_CWORD]}
     local before=${COMP_WORDS[COMP_CWORD-1]}
-    local commands="format run store handle list info ask wants look extract check copy resize salvage memory"
+    local commands="format run store handle list info ask wants prune look extract check copy resize salvage memory"
     local lines="list free delete pin unpin label retire upgrade header notes threads regs process signal auxv files maps dump find strings bt unwind frame builds symbol"
     local session="--template --uses-pid --limit"
     COMPREPLY=()
@@ -11,7 +11,7 @@ _corekeep() {
         return
     fi
     case $before in
-    --half | --data | --template | --limit | --length | --stall | --id | --keep | --bytes | --before | --exec | --label | --text | --name | --pid | --since | --until | --last) return ;;
+    --half | --data | --template | --limit | --length | --stall | --id | --keep | --cores | --bytes | --before | --exec | --label | --text | --name | --pid | --since | --until | --last) return ;;
     --kind)
         COMPREPLY=($(compgen -W "core exec" -- "$word"))
         return
@@ -32,20 +32,21 @@ _corekeep() {
     local options=--help
     case ${COMP_WORDS[1]} in
     format) options="--half --data --sparse --layout --quiet --help" ;;
-    run) options="--no-wait $session --help" ;;
+    run) options="--builds --no-wait $session --help" ;;
     store) options="--exec --pin --label --escape --keep --bytes --before --fit --fair --cut --length --stall --spool --build --id --debug --log --no-wait --quiet $session --help" ;;
     handle) options="--check --flush --archive --length --stall --help" ;;
     list) options="--json --kind --name --pid --signal --since --until --label --pinned --last --no-wait --help" ;;
     info) options="--threads --json --no-wait --help" ;;
-    ask) options="--text --plain --json --no-wait --help" ;;
+    ask) options="--text --plain --json --builds --no-wait --help" ;;
     wants) options="--ids --json --no-wait --help" ;;
-    look) options="--no-wait --help" ;;
+    prune) options="--cores --bytes --before --yes --no-wait --help" ;;
+    look) options="--builds --no-wait --help" ;;
     extract) options="--no-wait --quiet --help" ;;
     salvage) options="--half --data --no-wait --quiet --help" ;;
     check) options="--images --no-wait --help" ;;
     copy) options="--half --data --layout --sparse --no-wait --quiet --help" ;;
     resize) options="--half --data --sparse --drop-rights --no-wait --quiet --help" ;;
-    memory) options="--half --data $session --help" ;;
+    memory) options="--half --data --builds $session --help" ;;
     esac
     case $word in
     -*)

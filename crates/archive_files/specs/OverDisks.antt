@@ -47,7 +47,7 @@ abbrev pub AnswersLine : {D : Type 0} → disk.Ghosts D → Said → Option (Lis
 AnswersLine g what taken taken' lost lost' before r after =
     (asked : Result Bool LifeFault)
     × LifeEnds g 0 (line_streams [] asked taken taken' lost lost') before asked after (AsksAlone g what taken taken')
-    × ((naming : Naming) (line : List ℕ) → IsLine line → said line ≡ what
+    × ((naming : Naming) (line : List ℕ) → naming.by_build ≡ false → IsLine line → said line ≡ what
     → RunsOnDisk g 0 naming (line_streams line asked taken taken' lost lost') before (run_told (as_session asked)) after)
     × (r ≡ ask_told asked)
 

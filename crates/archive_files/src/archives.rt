@@ -411,6 +411,7 @@ fn takes_archive(command: &str) -> bool {
             | "info"
             | "ask"
             | "wants"
+            | "prune"
             | "look"
             | "check"
             | "copy"

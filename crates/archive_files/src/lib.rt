@@ -48,6 +48,7 @@ pub use held::Held;
 pub use look_session::look;
 pub use looking::take_look;
 pub use making::what_is_made_lasts;
+pub use outcomes::ask_told;
 pub use over_disk::{ask_over, run_over};
 pub use salvage::ShapeWish;
 pub use salvaging::{Salvaged, fault_found, salvage, salvage_onto};

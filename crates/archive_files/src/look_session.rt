@@ -19,12 +19,13 @@ use std::alloc::Global;
 use std::fs::File;
 use std::rt::Files;
 
-/// Answers each line of a script that only looks as `ask` does, from a look of its own on. Any other line is refused as `BadLine`, and
+/// Answers each line of a script that only looks as `ask` does, from a look of its own on, with executables chosen by build or by path. Any other line is refused as `BadLine`, and
 /// no bytes follow a line. What is refused is the line's reply, and the session goes on. Each reply is written before the next line is
 /// read. What is wrong with the archive at the start is told in place of any reply.
 pub fn look<R: AllocGlobal + Files<File = File>, I: Input, O: Output>(
     rt: &R,
     place: ArchivePath<'_>,
+    by_build: bool,
     script: &mut I,
     output: &mut O,
 ) -> Result<(), Failure> {
@@ -38,6 +39,7 @@ pub fn look<R: AllocGlobal + Files<File = File>, I: Input, O: Output>(
             LookLine::Silence => {}
             LookLine::Refused(refusal) => refuse(refusal, output)?,
             LookLine::Ask(question) => {
+                let question = question.choosing(by_build);
                 answer_look(rt.alloc(), take_look(rt, place), question, output)?;
             }
         }

@@ -1,6 +1,10 @@
 -- Builds that are wanted, each once.
 use Rattle.std.proofs.Common.{◌≡◌, inl, inr, ℕ, Bool, false, true, not, cond, filter, List, [], ◌∷◌, ◌++◌, map, Option, None, Some, refl, ap, sym, ◌∙◌}
-use Rattle.std.specs.Prelude.{◌||◌}
+use Rattle.std.specs.Prelude.{◌||◌, ◌&&◌, is_none, is_some}
+use Rattle.address_space.specs.Source.{ExecutableView}
+use Rattle.build_ids.specs.BuildName.{has_name}
+use Rattle.build_replies.specs.ByBuild.{Chosen, used_executable}
+use Rattle.case_info.specs.Gathering.{file_of, files_with}
 use Rattle.std.specs.List.{cons_option, filter_map, list_any}
 use Rattle.std.specs.Option.{option_map}
 use Rattle.std.specs.Str.{bytes_eq}
@@ -8,7 +12,7 @@ use Rattle.std.proofs.lemmas.Bool.{cases_Bool}
 use Rattle.std.proofs.lemmas.Slice.Eq.{bytes_eq-Decides}
 use Rattle.build_replies.specs.Builds.{BuildValue, NamedBuild, each_build, wanted_id, wanted_of, wants_of}
 use Rattle.build_replies.specs.BuildsWords.{with_build}
-use Rattle.case_info.specs.Wants.{AddsExactly, AreOnce, has_id, is_id, wants_id, with_each}
+use Rattle.case_info.specs.Wants.{AddsExactly, AreOnce, has_id, is_id, wanted_if, wanted_of_file, wants_id, wants_with, with_all, with_each}
 
 -- a build of another ID
 abbrev is_another : NamedBuild → NamedBuild → Bool
@@ -37,7 +41,7 @@ or_none true = refl
 or_none false = refl
 
 -- with one build more at the end
-has_more : (ws : List NamedBuild) (w : NamedBuild) (id : List ℕ) → has_id (ws ++ w ∷ []) id ≡ (has_id ws id || bytes_eq w.1 id)
+pub has_more : (ws : List NamedBuild) (w : NamedBuild) (id : List ℕ) → has_id (ws ++ w ∷ []) id ≡ (has_id ws id || bytes_eq w.1 id)
 has_more [] w id = sym (or_none (bytes_eq w.1 id))
 has_more (v ∷ vs) w id = ap (λ t. bytes_eq v.1 id || t) (has_more vs w id) ∙ or_next (bytes_eq v.1 id) (has_id vs id) (bytes_eq w.1 id)
 
@@ -140,3 +144,73 @@ values_have id (v ∷ vs) = of (wanted_id v.chosen v.core) (values_have id vs)
 
 pub wants_exactly : (id : List ℕ) (values : List BuildValue) → has_id (wants_of values) id ≡ list_any (wants_id id) values
 wants_exactly id values = each_has id (filter_map wanted_of values) ∙ values_have id values
+
+-- ---- By the files that are kept.
+
+-- a build whose ID is there adds nothing
+known : (ws : List NamedBuild) (w : NamedBuild) → has_id ws w.1 ≡ true → with_build ws (Some w) ≡ ws
+known ws w had = ap (λ t. cond (not t) (ws ++ w ∷ []) ws) had
+
+or_true : (t : Bool) → (t || true) ≡ true
+or_true true = refl
+or_true false = refl
+
+-- a build that was put after others is there
+has_with : (ws : List NamedBuild) (w : NamedBuild) → has_id (with_build ws (Some w)) w.1 ≡ true
+has_with ws w = added ws w w.1 (has_id ws w.1) refl ∙ ap (λ t. has_id ws w.1 || t) ((bytes_eq-Decides w.1 w.1).1 refl) ∙ or_true (has_id ws w.1)
+
+-- an ID stays there
+stays_had : (ws : List NamedBuild) (w : NamedBuild) (id : List ℕ) → has_id ws id ≡ true → has_id (with_build ws (Some w)) id ≡ true
+stays_had ws w id had = added ws w id (has_id ws w.1) refl ∙ ap (λ t. t || bytes_eq w.1 id) had
+
+-- builds of an ID that is there may be left out
+skips : (w : NamedBuild) (ys ws : List NamedBuild) → has_id ws w.1 ≡ true → with_each ws (filter (is_another w) ys) ≡ with_each ws ys
+unfolding with_each
+skips w [] ws had = refl
+skips w (y ∷ ys) ws had = of (bytes_eq w.1 y.1) refl (skips w ys ws had) (skips w ys (with_build ws (Some y)) (stays_had ws y w.1 had))
+  where
+    of : (t : Bool) → bytes_eq w.1 y.1 ≡ t → with_each ws (filter (is_another w) ys) ≡ with_each ws ys
+        → with_each (with_build ws (Some y)) (filter (is_another w) ys) ≡ with_each (with_build ws (Some y)) ys
+        → with_each ws (cond (not t) (y ∷ filter (is_another w) ys) (filter (is_another w) ys)) ≡ with_each (with_build ws (Some y)) ys
+    of true same here there = here ∙ ap (λ vs. with_each vs ys) (sym (known ws y (ap (has_id ws) (sym ((bytes_eq-Decides w.1 y.1).0 same)) ∙ had)))
+    of false apart here there = there
+
+each_same : (xs ws : List NamedBuild) → with_each ws (each_build xs) ≡ with_each ws xs
+unfolding with_each each_build
+each_same [] ws = refl
+each_same (x ∷ xs) ws = skips x (each_build xs) (with_build ws (Some x)) (has_with ws x) ∙ each_same xs (with_build ws (Some x))
+
+file_wanted : (name : List ℕ) (k : Chosen) (o : Option (List ℕ)) → wanted_if name (is_some (used_executable k)) o ≡ option_map (λ i. (name, i)) (wanted_id k o)
+file_wanted name k None = refl
+file_wanted name k (Some id) = of (used_executable k)
+  where
+    pushed : (t : Bool) → cond {A = Option NamedBuild} t (Some (name, id)) None ≡ option_map (λ i. (name, i)) (cond t (Some id) None)
+    pushed true = refl
+    pushed false = refl
+
+    of : (u : Option ExecutableView) → cond {A = Option NamedBuild} (has_name id && not (is_some u)) (Some (name, id)) None ≡ option_map (λ i. (name, i)) (cond (has_name id && is_none u) (Some id) None)
+    of None = pushed (has_name id && true)
+    of (Some x) = pushed (has_name id && false)
+
+values_same : (values : List BuildValue) (ws : List NamedBuild) → with_all ws (map file_of values) ≡ with_each ws (filter_map wanted_of values)
+unfolding with_all with_each
+values_same [] ws = refl
+values_same (v ∷ vs) ws =
+    values_same vs (with_build ws (wanted_of_file (file_of v)))
+    ∙ ap (λ o. with_each (with_build ws o) (filter_map wanted_of vs)) (file_wanted v.name v.chosen v.core)
+    ∙ one (wanted_of v)
+  where
+    one : (o : Option NamedBuild) → with_each (with_build ws o) (filter_map wanted_of vs) ≡ with_each ws (cons_option o (filter_map wanted_of vs))
+    one None = refl
+    one (Some w) = refl
+
+pub keeps_wants : (ws : List NamedBuild) (values : Option (List BuildValue)) → with_all ws (files_with values) ≡ with_each ws (wants_with values)
+unfolding with_all with_each
+keeps_wants ws None = refl
+keeps_wants ws (Some values) = values_same values ws ∙ sym (each_same (filter_map wanted_of values) ws)
+
+pub inserted : (t old : Bool) → cond t true old ≡ (old || t)
+inserted true true = refl
+inserted true false = refl
+inserted false true = refl
+inserted false false = refl

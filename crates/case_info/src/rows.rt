@@ -1,7 +1,7 @@
 // The rows of a line that asks an image, as JSON.
 use crate::telling::{shown, write_json};
 use archive_files::{ArchivePath, Collected, Failure, ask};
-use case_listing::ask_case;
+use case_listing::{NamedLine, ask_case};
 use case_screens::{refusal_json, rows_json};
 use diagnostics::Onlooker;
 use line_help::rows_of;
@@ -12,7 +12,7 @@ use std::fs::File;
 use std::rt::Files;
 use std::time::Clock;
 
-/// Answers the line of these words, which asks an image, and tells its rows as JSON: an array of objects. If it is refused an object
+/// Answers a line that asks an image, and tells its rows as JSON: an array of objects. If it is refused an object
 /// says why.
 ///
 /// # Errors
@@ -21,7 +21,7 @@ use std::time::Clock;
 pub fn ask_rows<R: AllocGlobal + Files<File = File> + Clock, O: Output, W: Onlooker>(
     rt: &R,
     place: ArchivePath<'_>,
-    words: &[&str],
+    line: NamedLine<'_>,
     question: Option<Question>,
     output: &mut O,
     onlooker: &mut W,
@@ -30,10 +30,10 @@ pub fn ask_rows<R: AllocGlobal + Files<File = File> + Clock, O: Output, W: Onloo
     let mut reply = Collected::new(alloc);
     let asked = match question {
         Some(question) => ask(rt, place, question, &mut reply, onlooker),
-        None => ask_case(rt, place, words, &mut reply, onlooker),
+        None => ask_case(rt, place, line, &mut reply, onlooker),
     };
     let done = match asked {
-        Ok(()) => tell_rows(alloc, words, reply.text(), output),
+        Ok(()) => tell_rows(alloc, line.words, reply.text(), output),
         Err(Failure::Told) => tell_refused(alloc, reply.text(), output),
         Err(failure) => Err(failure),
     };

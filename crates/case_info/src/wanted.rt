@@ -1,120 +1,131 @@
-// The builds that cores want, kept when the cores are looked at no longer.
+// The builds that cores want: they tell their IDs for mapped files for which no executable is used.
 ghost use Rattle.std.specs.Prelude.{◌≡◌, ◌++◌, ◌∷◌, [], IfOk, OnOk, Some, map};
-ghost use Rattle.std.specs.List.{flat_map, list_any};
+ghost use Rattle.std.specs.List.{flat_map};
 ghost use Rattle.std.specs.Option.{option_map};
-ghost use Rattle.std.specs.Str.{bytes_eq};
 ghost use Rattle.build_replies.specs.Builds.{wants_line};
 ghost use Rattle.build_replies.specs.BuildsWords.{wanted_view, with_build};
-ghost use Rattle.build_replies.specs.Mapped.{build_view};
 ghost use Rattle.script_streams.specs.Replies.{TellsText, telling};
-ghost use Rattle.case_info.specs.Wants.{kept_view, wants_with, with_each};
-ghost use Rattle.case_info.specs.declared.wanted.KeptBuild.{KeptBuild};
+ghost use Rattle.case_info.specs.Gathering.{file_view, files_view};
+ghost use Rattle.case_info.specs.Wants.{AreIdsOf, id_line, wanted_of_file, with_all, with_each_core};
 
-use build_replies::{BuildAnswer, WantedBuild, wanted_builds};
+use crate::kept_files::KeptFile;
+use build_ids::has_name;
+use build_replies::WantedBuild;
 use script_streams::{Output, Reply};
 use std::alloc::{AllocError, Global};
+use std::collections::BTreeSet;
 
-// A build that a core wants.
+// The build that a mapped file wants.
+fn wanted_of(file: &KeptFile) -> Option<WantedBuild<'_>>
+    ensures { option_map wanted_view result ≡ wanted_of_file (file_view file.now) }
+{
+    let Some(id) = &file.told else {
+        return None;
+    };
+    if has_name(id) && !file.is_used {
+        Some(WantedBuild {
+            name: &file.name,
+            id,
+        })
+    } else {
+        None
+    }
+}
+
+// Builds, each ID once. Whether an ID is there is looked up in logarithmic time.
 #[derive(Drop)]
-pub(crate) struct KeptBuild {
-    // The name of a mapped file of that build for which no executable is used.
-    name: Vec<u8>,
-    // Its build ID.
-    id: Vec<u8>,
+pub(crate) struct WantedBuilds<'a> {
+    pub(crate) builds: Vec<WantedBuild<'a>>,
+    ids: BTreeSet<&'a [u8]>,
+    // They are their IDs.
+    ghost same: { AreIdsOf ids (map wanted_view builds.items) },
 }
 
-// Puts a build after the others.
-fn push_build(
-    alloc: Global,
-    builds: &mut Vec<KeptBuild>,
-    name: &[u8],
-    id: &[u8],
-) -> Result<(), AllocError>
-    ensures { OnOk result (map kept_view builds.new.items ≡ map kept_view builds.old.items ++ (name.now, id.now) ∷ []) }
-{
-    let name = name.to_vec(alloc)?;
-    let id = id.to_vec(alloc)?;
-    builds.push(KeptBuild { name, id })?;
-    Ok(())
-}
+impl<'a> WantedBuilds<'a> {
+    ghost use Rattle.case_info.specs.WantWords.{builds_in};
 
-// Keeps these builds.
-fn kept_builds(alloc: Global, wanted: &[WantedBuild<'_>]) -> Result<Vec<KeptBuild>, AllocError>
-    ensures { IfOk result (λ builds. map kept_view builds.items ≡ map wanted_view wanted.now) }
-{
-    let mut builds = Vec::new(alloc);
-    for build in wanted {
-        push_build(alloc, &mut builds, build.name, build.id)?;
+    // None.
+    fn new(alloc: Global) -> WantedBuilds<'a>
+        ensures { builds_in result ≡ [] }
+    {
+        WantedBuilds {
+            builds: Vec::new(alloc),
+            ids: BTreeSet::new(alloc),
+        }
     }
-    Ok(builds)
-}
 
-// The builds that a core wants, by what is told of its mapped files. A core without NT_FILE wants none.
-pub(crate) fn wanted_by(
-    alloc: Global,
-    rows: Option<&[BuildAnswer<'_>]>,
-) -> Result<Vec<KeptBuild>, AllocError>
-    ensures { IfOk result (λ builds. map kept_view builds.items ≡ wants_with (option_map (λ rows. map build_view rows.now) rows.entry)) }
-{
-    match rows {
-        Some(rows) => Ok(kept_builds(alloc, &wanted_builds(alloc, rows)?)?),
-        None => Ok(Vec::new(alloc)),
+    // Puts a build after the others, if there is one and none has its ID.
+    fn add(&mut self, build: Option<WantedBuild<'a>>) -> Result<(), AllocError>
+        ensures { OnOk result (builds_in self.new ≡ with_build (builds_in self.old) (option_map wanted_view build.entry)) }
+    {
+        let Some(build) = build else {
+            return Ok(());
+        };
+        self.builds.reserve(1)?;
+        let is_new = self.ids.insert(build.id)?;
+        if is_new {
+            self.builds.push(build).unwrap();
+        }
+        Ok(())
     }
-}
 
-// Whether one of these builds has this ID.
-fn has_id(builds: &[KeptBuild], id: &[u8]) -> bool
-    ensures { result ≡ list_any (λ (b : KeptBuild). bytes_eq b.id.items id.now) builds.now }
-{
-    builds.iter().any(|build| is_of_id(build, id))
-}
-
-fn is_of_id(build: &KeptBuild, id: &[u8]) -> bool
-    ensures { result ≡ bytes_eq build.now.id.items id.now }
-{
-    build.id.as_slice() == id
-}
-
-// Puts a build after the others, if none has its ID.
-fn add_build(alloc: Global, builds: &mut Vec<KeptBuild>, more: &KeptBuild) -> Result<(), AllocError>
-    ensures { OnOk result (map kept_view builds.new.items ≡ with_build (map kept_view builds.old.items) (Some (kept_view more.now))) }
-{
-    if has_id(builds, &more.id) {
-        return Ok(());
+    // Adds what the files that a core maps want.
+    fn add_files(&mut self, files: &'a [KeptFile]) -> Result<(), AllocError>
+        ensures { OnOk result (builds_in self.new ≡ with_all (builds_in self.old) (map file_view files.entry.now)) }
+    {
+        for file in files {
+            self.add(wanted_of(file))?;
+        }
+        Ok(())
     }
-    push_build(alloc, builds, &more.name, &more.id)?;
-    Ok(())
-}
 
-// Puts those after the others whose IDs none has.
-pub(crate) fn add_each(
-    alloc: Global,
-    builds: &mut Vec<KeptBuild>,
-    more: &[KeptBuild],
-) -> Result<(), AllocError>
-    ensures { OnOk result (map kept_view builds.new.items ≡ with_each (map kept_view builds.old.items) (map kept_view more.now)) }
-{
-    for build in more {
-        add_build(alloc, builds, build)?;
+    // What these cores want, each ID once over all.
+    pub(crate) fn of(
+        alloc: Global,
+        cores: &'a [Vec<KeptFile>],
+    ) -> Result<WantedBuilds<'a>, AllocError>
+        ensures { IfOk result (λ wanted. builds_in wanted ≡ with_each_core [] (map files_view cores.entry.now)) }
+    {
+        let mut wanted = WantedBuilds::new(alloc);
+        for files in cores {
+            wanted.add_files(files)?;
+        }
+        Ok(wanted)
     }
-    Ok(())
 }
 
 // Tells the line of a build.
-fn tell_build<O: Output>(reply: &mut Reply<'_, O>, build: &KeptBuild)
-    ensures { TellsText (telling O.Output reply.old reply.new) (wants_line (kept_view build.now)) }
+fn tell_build<O: Output>(reply: &mut Reply<'_, O>, build: &WantedBuild<'_>)
+    ensures { TellsText (telling O.Output reply.old reply.new) (wants_line (wanted_view build.now)) }
 {
-    reply.tell_text(&build.name);
+    reply.tell_text(build.name);
     reply.tell(b" ");
-    reply.tell_hex(&build.id);
+    reply.tell_hex(build.id);
     reply.tell(b"\n");
 }
 
 // Tells a line for each build.
-pub(crate) fn tell_builds<O: Output>(reply: &mut Reply<'_, O>, builds: &[KeptBuild])
-    ensures { TellsText (telling O.Output reply.old reply.new) (flat_map wants_line (map kept_view builds.now)) }
+pub(crate) fn tell_builds<O: Output>(reply: &mut Reply<'_, O>, builds: &[WantedBuild<'_>])
+    ensures { TellsText (telling O.Output reply.old reply.new) (flat_map wants_line (map wanted_view builds.now)) }
 {
     for build in builds {
         tell_build(reply, build);
+    }
+}
+
+// Tells the ID of a build.
+fn tell_id<O: Output>(reply: &mut Reply<'_, O>, build: &WantedBuild<'_>)
+    ensures { TellsText (telling O.Output reply.old reply.new) (id_line (wanted_view build.now)) }
+{
+    reply.tell_hex(build.id);
+    reply.tell(b"\n");
+}
+
+// Tells the ID of each build.
+pub(crate) fn tell_ids<O: Output>(reply: &mut Reply<'_, O>, builds: &[WantedBuild<'_>])
+    ensures { TellsText (telling O.Output reply.old reply.new) (flat_map id_line (map wanted_view builds.now)) }
+{
+    for build in builds {
+        tell_id(reply, build);
     }
 }

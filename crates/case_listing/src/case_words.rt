@@ -151,7 +151,16 @@ pub fn extract_case<R: AllocGlobal + Files<File = File>, O: Output, W: Onlooker>
     }
 }
 
-/// Answers the line of these words, whose second word names a case.
+/// A line whose second word may name a case, instead of giving its number.
+#[derive(Clone, Copy)]
+pub struct NamedLine<'w> {
+    /// Its words.
+    pub words: &'w [&'w str],
+    /// Whether executables are chosen by build.
+    pub by_build: bool,
+}
+
+/// Answers a line whose second word names a case.
 ///
 /// # Errors
 ///
@@ -159,15 +168,21 @@ pub fn extract_case<R: AllocGlobal + Files<File = File>, O: Output, W: Onlooker>
 pub fn ask_case<R: AllocGlobal + Files<File = File> + Clock, O: Output, W: Onlooker>(
     rt: &R,
     place: ArchivePath<'_>,
-    words: &[&str],
+    line: NamedLine<'_>,
     output: &mut O,
     onlooker: &mut W,
 ) -> Result<(), Failure> {
-    let name = words.get(1).copied().unwrap_or("");
+    let name = line.words.get(1).copied().unwrap_or("");
     let digits = print_decimal(u128::from(number_of(rt, place, name)?));
     let number = str::from_utf8(digits.as_slice()).unwrap_or("");
-    match numbered(rt.alloc(), words, number)? {
-        Some(question) => ask(rt, place, question, output, onlooker),
+    match numbered(rt.alloc(), line.words, number)? {
+        Some(question) => ask(
+            rt,
+            place,
+            question.choosing(line.by_build),
+            output,
+            onlooker,
+        ),
         None => Err(Failure::Refused(Refusal::BadLine)),
     }
 }

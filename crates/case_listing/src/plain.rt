@@ -1,7 +1,7 @@
 // The reply to a line as people read it.
 ghost use Rattle.case_listing.specs.Plain.{DeliversPlain};
 
-use crate::case_words::ask_case;
+use crate::case_words::{NamedLine, ask_case};
 use crate::dump::deliver_dump;
 use archive_files::{ArchivePath, Collected, Failure, ask};
 use diagnostics::Onlooker;
@@ -13,7 +13,7 @@ use std::fs::File;
 use std::rt::Files;
 use std::time::Clock;
 
-/// Answers the line of these words, and tells its reply as people read it; that of `dump` has the bytes as text too. Without a question its second word names a case. The reply is
+/// Answers a line, and tells its reply as people read it; that of `dump` has the bytes as text too. Without a question its second word names a case. The reply is
 /// held until the line is done.
 ///
 /// # Errors
@@ -22,7 +22,7 @@ use std::time::Clock;
 pub fn ask_plain<R: AllocGlobal + Files<File = File> + Clock, O: Output, W: Onlooker>(
     rt: &R,
     place: ArchivePath<'_>,
-    words: &[&str],
+    line: NamedLine<'_>,
     question: Option<Question>,
     output: &mut O,
     onlooker: &mut W,
@@ -30,9 +30,9 @@ pub fn ask_plain<R: AllocGlobal + Files<File = File> + Clock, O: Output, W: Onlo
     let mut reply = Collected::new(rt.alloc());
     let asked = match question {
         Some(question) => ask(rt, place, question, &mut reply, onlooker),
-        None => ask_case(rt, place, words, &mut reply, onlooker),
+        None => ask_case(rt, place, line, &mut reply, onlooker),
     };
-    if words.first().copied() == Some("dump") {
+    if line.words.first().copied() == Some("dump") {
         return deliver_dump(reply.text(), asked, output);
     }
     deliver_plain(reply.text(), asked, output)

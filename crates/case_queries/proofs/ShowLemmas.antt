@@ -8,7 +8,7 @@ use Rattle.elf_view.specs.Sound.{IsHeaderWhole, IsSound}
 use Rattle.elf_view.specs.declared.faults.Want.TheVariants.{Core}
 use Rattle.memory_replies.specs.Memory.{has_name, mapped_files}
 use Rattle.case_queries.specs.Fronts.{IsEnough}
-use Rattle.case_queries.specs.Collecting.{Wanted, debugs_for, is_exec, wanted_case, wanted_for, wanted_of}
+use Rattle.case_queries.specs.Collecting.{debugs_for, is_exec, wanted_case, wanted_for, wanted_of}
 use Rattle.case_queries.specs.Windows.{IsSeenBy}
 use Rattle.disk_model.specs.declared.disk.Disk as disk
 use Rattle.image_replies.specs.Core.{core_fault_of}

@@ -20,13 +20,13 @@ use Rattle.intake.specs.declared.faults.ArchiveFault.TheVariants.{Stopped, NoCas
 use Rattle.journal_layout.specs.Soundness.{case_numbered}
 use Rattle.journal_layout.specs.Case.{Case}
 use Rattle.journal_layout.specs.declared.entry.Kind.{Kind}
-use Rattle.script_lines.specs.Queries.{QuerySaid, ask_symbol}
+use Rattle.script_lines.specs.Queries.{QuerySaid, ask_symbol, ask_by_build}
 use Rattle.script_streams.specs.Replies.{no_reply, reply_of}
 use Rattle.memory_replies.specs.Answers.{Answers, memory_reply}
 use Rattle.case_queries.specs.Collecting.{Collects, CollectsAll, Gathered, Wanted, debugs_for, gathered_with, is_for, is_named_by, is_wanted, wanted_case, wanted_for}
 use Rattle.build_replies.specs.Choosing.{told_files}
 use Rattle.build_replies.specs.NameWords.{wanted_debugs}
-use Rattle.script_lines.specs.Queries.{ask_header, ask_notes, ask_threads, ask_registers, ask_process, ask_signal, ask_auxiliary_vector, ask_files, ask_maps, ask_dump, ask_find, ask_strings, ask_backtrace, ask_unwind, ask_frame, ask_builds, ask_symbol}
+use Rattle.script_lines.specs.Queries.{ask_header, ask_notes, ask_threads, ask_registers, ask_process, ask_signal, ask_auxiliary_vector, ask_files, ask_maps, ask_dump, ask_find, ask_strings, ask_backtrace, ask_unwind, ask_frame, ask_builds, ask_symbol, ask_by_build}
 use Rattle.script_lines.specs.declared.query.BuildQuery.TheVariants as builds
 use Rattle.case_queries.specs.InspectLaws.{asked_kind, steps_of}
 use Rattle.case_queries.specs.Inspecting.{MayAsk, Told, answer_of, reads_executables}
@@ -88,6 +88,7 @@ wanted_there (ask_unwind t) b cases = picked_there (is_for (told_files b)) cases
 wanted_there (ask_frame t i) b cases = picked_there (is_for (told_files b)) cases
 wanted_there (ask_builds query) b cases = picked_there (is_for (told_files b)) cases
 wanted_there (ask_symbol x) b cases = picked_there (is_wanted b) cases
+wanted_there (ask_by_build query) b cases = picked_there (is_for (told_files b)) cases
 
 debugs_there : (q : QuerySaid) (b : List ℕ) (cases : List Case) (xs : List ExecutableView) → All (IsThere cases) (debugs_for q b cases xs)
 debugs_there ask_header b cases xs = All-nil (IsThere cases)
@@ -109,6 +110,7 @@ debugs_there (ask_builds builds.Compared) b cases xs = All-nil (IsThere cases)
 debugs_there (ask_builds builds.Used) b cases xs = picked_there (is_named_by (wanted_debugs (told_files b) xs)) cases
 debugs_there (ask_builds builds.Wanted) b cases xs = All-nil (IsThere cases)
 debugs_there (ask_symbol x) b cases xs = All-nil (IsThere cases)
+debugs_there (ask_by_build query) b cases xs = All-nil (IsThere cases)
 
 -- a count that rose since a moment rose since each moment before
 risen_since : (a b c : ℕ) → a ≤ b → HasRisen b c → HasRisen a c

@@ -13,7 +13,7 @@ use Rattle.journal_layout.specs.Case.{Case}
 use Rattle.journal_layout.specs.declared.entry.Kind.{Kind}
 use Rattle.journal_layout.specs.declared.entry.Kind.TheVariants.{Core, Exec}
 use Rattle.memory_replies.specs.Memory.{is_mapped}
-use Rattle.script_lines.specs.Queries.{QuerySaid, ask_builds, ask_frame, ask_unwind}
+use Rattle.script_lines.specs.Queries.{QuerySaid, ask_builds, ask_by_build, ask_frame, ask_unwind}
 use Rattle.script_lines.specs.declared.query.BuildQuery.TheVariants.{Used}
 use Rattle.case_queries.specs.Seeing.{LooksAt}
 
@@ -59,6 +59,7 @@ abbrev pub wanted_for : QuerySaid → List ℕ → List Case → List Wanted
 wanted_for (ask_unwind thread) b cases = wanted_by (told_files b) cases
 wanted_for (ask_frame thread frame) b cases = wanted_by (told_files b) cases
 wanted_for (ask_builds query) b cases = wanted_by (told_files b) cases
+wanted_for (ask_by_build query) b cases = wanted_by (told_files b) cases
 wanted_for q b cases = wanted_of b cases
 
 -- The debug files that a line reads after these executables: lines over call frames do, and that over what is used.

@@ -5,6 +5,7 @@ use Rattle.disk_model.specs.declared.disk.Disk as disk
 use Rattle.elf_view.specs.declared.faults.Want.{Want}
 use Rattle.elf_view.specs.declared.faults.Want.TheVariants as want
 use Rattle.build_replies.specs.Builds.{BuildsAsking, builds_answer, compares, uses, wants}
+use Rattle.build_replies.specs.Choosing.{told_files, used_of}
 use Rattle.frame_replies.specs.FrameLines.{unwind_answer}
 use Rattle.frame_replies.specs.FrameRegisters.{frame_answer}
 use Rattle.image_replies.specs.Header.{header_answer}
@@ -34,7 +35,7 @@ use Rattle.memory_replies.specs.Texts.{strings_answer}
 use Rattle.memory_replies.specs.Symbol.{symbol_answer, executable_fault}
 use Rattle.script_lines.specs.declared.query.BuildQuery.{BuildQuery}
 use Rattle.script_lines.specs.declared.query.BuildQuery.TheVariants as builds
-use Rattle.script_lines.specs.Queries.{QuerySaid, ask_header, ask_notes, ask_threads, ask_registers, ask_process, ask_signal, ask_auxiliary_vector, ask_files, ask_maps, ask_dump, ask_find, ask_strings, ask_backtrace, ask_unwind, ask_frame, ask_builds, ask_symbol}
+use Rattle.script_lines.specs.Queries.{QuerySaid, ask_header, ask_notes, ask_threads, ask_registers, ask_process, ask_signal, ask_auxiliary_vector, ask_files, ask_maps, ask_dump, ask_find, ask_strings, ask_backtrace, ask_unwind, ask_frame, ask_builds, ask_symbol, ask_by_build}
 use Rattle.script_streams.specs.Replies.{no_reply, reply_of}
 use Rattle.case_queries.specs.Collecting.{Gathered, GathersFor, Wanted}
 use Rattle.archive_replies.specs.Reasons.{reason_of}
@@ -60,6 +61,10 @@ asking_by builds.Compared cases = compares
 asking_by builds.Used cases = uses cases
 asking_by builds.Wanted cases = wants
 
+-- of the executables that are read for a core, those that are used for its mapped files, each under the name of its file
+abbrev pub used_for : List ℕ → List ExecutableView → List ExecutableView
+used_for b xs = used_of xs (told_files b)
+
 -- what a query's answer shows of the bytes of an image, and of the executables of these cases, which are read for a core's mapped files;
 -- or why it shows nothing
 abbrev pub answer_of : Kind → QuerySaid → List ℕ → List Wanted → List ExecutableView → Result (List ℕ) (List ℕ)
@@ -80,6 +85,7 @@ answer_of kind (ask_unwind thread) b cases xs = unwind_answer b xs thread
 answer_of kind (ask_frame thread frame) b cases xs = frame_answer b xs thread frame
 answer_of kind (ask_builds query) b cases xs = builds_answer (asking_by query cases) b xs
 answer_of kind (ask_symbol address) b cases xs = symbol_answer b address
+answer_of kind (ask_by_build query) b cases xs = answer_of kind query b cases (used_for b xs)
 
 -- the lines that read the executables whose names the core's NT_FILE has
 abbrev pub reads_executables : QuerySaid → Bool
@@ -90,6 +96,7 @@ reads_executables (ask_backtrace thread) = true
 reads_executables (ask_unwind thread) = true
 reads_executables (ask_frame thread frame) = true
 reads_executables (ask_builds query) = true
+reads_executables (ask_by_build query) = true
 reads_executables _ = false
 
 -- The reply where no executable is read: that of the answer. The table of an executable's symbols takes memory.

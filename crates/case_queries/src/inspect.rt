@@ -11,6 +11,7 @@ ghost use Rattle.case_queries.specs.Seeing.{IsKept};
 use crate::by_front::answer_by_front;
 use crate::kept_image::{Images, kept_if, see_image};
 use crate::memory::answer_by_memory;
+use crate::with_builds::answer_with_builds;
 use archive_replies::reason;
 use disk_model::Disk;
 use intake::Archive;
@@ -46,6 +47,7 @@ pub fn answer_query<O: Output, D: Disk>(
     match query {
         Query::Image(query) => answer_by_front(seq, kind, query, images, reply, archive),
         Query::Memory(query) => answer_by_memory(seq, kind, query, images, reply, archive),
+        Query::ByBuild(query) => answer_with_builds(seq, kind, query, images, reply, archive),
         Query::Symbol { address } => answer_symbol(seq, kind, *address, images, reply, archive),
     }
 }
@@ -96,6 +98,7 @@ fn kind_for(query: &Query, kind: Kind) -> Result<Kind, &'static [u8]>
     match query {
         Query::Image(query) => image_kind(query, kind),
         Query::Memory(_) => core_kind(kind),
+        Query::ByBuild(_) => core_kind(kind),
         Query::Symbol { .. } => match kind {
             Kind::Core => Err(b"NotExec"),
             Kind::Exec => Ok(Kind::Exec),

@@ -21,6 +21,7 @@ mod told;
 mod walk;
 mod wanted;
 mod window;
+mod with_builds;
 
 pub use collect_executables::{StoredExecutable, stored_debug_files, stored_executables};
 pub use facts::{CoreFacts, core_facts};

@@ -241,7 +241,7 @@ fn wanted_for<D: Disk>(
 }
 
 // Those of a core of which all bytes are at hand, by the builds that it tells.
-fn wanted_for_builds<D: Disk>(
+pub(crate) fn wanted_for_builds<D: Disk>(
     alloc: Global,
     core: &CoreImage<'_>,
     archive: &Archive<D>,
@@ -367,7 +367,7 @@ fn tell_with_executables<O: Output>(
     }
 }
 
-fn tell_memory<O: Output>(
+pub(crate) fn tell_memory<O: Output>(
     alloc: Global,
     kind: Kind,
     query: &MemoryQuery,

@@ -1,11 +1,12 @@
 -- What the words of a command ask for, but for those of `store` and `handle`.
-use Rattle.std.specs.Prelude.{◌≡◌, ℕ, ◌<◌, ◌==◌, Bool, false, not, List, [], ◌∷◌, ◌++◌, length, map, Option, None, Some, String, codes, option_map, string_bytes, unwrap_or, if◌then◌else◌}
+use Rattle.std.specs.Prelude.{◌≡◌, ℕ, ◌<◌, ◌==◌, Bool, false, not, List, [], ◌∷◌, ◌++◌, length, map, Ok, Option, None, Some, String, codes, option_map, string_bytes, unwrap_or, if◌then◌else◌}
 use Rattle.std.specs.Option.{option_copied, option_map_or}
 use Rattle.archive_files.specs.declared.archive_path.ArchivePath.{ArchivePath}
 use Rattle.archive_files.specs.declared.archives.NewArchive.{NewArchive}
 use Rattle.archive_files.specs.declared.copies.CopyWords.{CopyWords}
 use Rattle.salvage.specs.declared.mending.ShapeWish.{ShapeWish}
 use Rattle.archive_files.specs.declared.failures.Refusal.{Refusal}
+use Rattle.case_info.specs.declared.prune.PruneWords.{PruneWords}
 use Rattle.case_listing.specs.Foreseeing.{IsPolicyOf}
 use Rattle.case_tables.specs.Filters.{SaysSignal}
 use Rattle.case_listing.specs.declared.listing.ListWords.{ListWords}
@@ -18,10 +19,11 @@ use Rattle.journal_layout.specs.declared.entry.Kind.{Kind}
 use Rattle.journal_layout.specs.declared.entry.Kind.TheVariants.{Core, Exec}
 use Rattle.journal_layout.specs.declared.shape.Shape.{Shape}
 use Rattle.script_lines.specs.Commands.{question_said}
-use Rattle.script_lines.specs.Said.{is_question, said}
+use Rattle.script_lines.specs.Said.{is_question, said, said_choosing}
 use Rattle.script_lines.specs.declared.question.Question.{Question}
 use Rattle.script_words.specs.Hex.{hex_of}
-use Rattle.command_line.specs.Requesting.{AsksOfStore, Handles, IsGiven, IsGivenToHandle, IsUnspelled}
+use Rattle.stream_names.specs.declared.naming.Naming.{Naming}
+use Rattle.command_line.specs.Requesting.{AsksOfStore, Handles, IsGiven, IsGivenToHandle, IsUnspelled, number_said}
 use Rattle.command_line.specs.declared.ask_words.AskedLine.{AskedLine}
 use Rattle.command_line.specs.declared.ask_words.Form.{Form}
 use Rattle.command_line.specs.declared.ask_words.Form.TheVariants.{Plain, Reply, Rows}
@@ -77,6 +79,10 @@ pub record AreSettings (given : Given) (settings : SessionWords) : Type 0 where
   pub process : settings.uses_pid ≡ flag_in given (codes "uses-pid")
   pub limit : settings.limit ≡ unwrap_or (number_in given (codes "limit")) 0
 
+-- how cases are named in a session, by its words
+abbrev pub naming_by : SessionWords → Bool → Naming
+naming_by settings by_build = record { template = record { bytes = record { items = settings.template.now } }; uses_pid = settings.uses_pid; by_build = by_build }
+
 -- what stands under a name is what clap found there
 abbrev pub found_under : named.Ghosts Given
 found_under = record {
@@ -96,11 +102,11 @@ digits_behind (Some digits) = string_bytes digits ∷ []
 abbrev pub words_of : AskedLine → List (List ℕ)
 words_of line = map (λ word. word.now) line.words.items ++ digits_behind line.digits
 
--- What a line asks is what the script says of its words with a space between them. If it asks nothing with them, there is no question:
+-- What a line asks is what the script says of its words with a space between them; `--builds` has executables chosen by build. If it asks nothing with them, there is no question:
 -- then its second word names a case.
-abbrev pub IsAsked : List ℕ → Option Question → Type 0
-IsAsked line None = is_question (said line) ≡ false
-IsAsked line (Some question) = question_said question ≡ said line
+abbrev pub IsAsked : Bool → List ℕ → Option Question → Type 0
+IsAsked by_build line None = is_question (said line) ≡ false
+IsAsked by_build line (Some question) = question_said question ≡ said_choosing by_build (said line)
 
 -- Why a line is refused: it is too long, or asks nothing, or is no line.
 abbrev pub IsNoQuestion : List ℕ → Refusal → Type 0
@@ -121,6 +127,7 @@ digits_meant (Some text) = hex_of (bytes_meant text) ∷ []
 pub record IsLine (given : Given) (line : AskedLine) : Type 0 where
   pub words : words_of line ≡ words_in given ++ digits_meant (text_in given (codes "text"))
   pub form : line.form ≡ form_said given
+  pub by_build : line.by_build ≡ flag_in given (codes "builds")
 
 -- ---- What `list` is to show.
 
@@ -150,6 +157,15 @@ pub record IsListed (given : Given) (words : ListWords) : Type 0 where
   pub until : option_copied words.until ≡ text_in given (codes "until")
   pub json : words.is_json ≡ flag_in given (codes "json")
 
+-- ---- What `prune` is to drop.
+
+-- The limits of the cores that stay, each as its word says it, and whether the cases are deleted.
+pub record IsPruned (given : Given) (words : PruneWords) : Type 0 where
+  pub cores : number_said (text_in given (codes "cores")) ≡ Ok words.policy.keep
+  pub bytes : number_said (text_in given (codes "bytes")) ≡ Ok words.policy.bytes
+  pub before : number_said (text_in given (codes "before")) ≡ Ok words.policy.before
+  pub deletes : words.deletes ≡ flag_in given (codes "yes")
+
 -- ---- What each command asks for.
 
 -- an archive in a new file
@@ -159,14 +175,14 @@ IsFormat given _ = ⊥
 
 -- One line, or which cases `retire` would drop.
 abbrev pub IsAsk : Given → ArchivePath → Asked → Type 0
-IsAsk given archive (asked.Ask place line question) = (place ≡ archive) × IsLine given line × IsAsked (joined (words_of line)) question
+IsAsk given archive (asked.Ask place line question) = (place ≡ archive) × IsLine given line × IsAsked line.by_build (joined (words_of line)) question
 IsAsk given archive (asked.WouldRetire place policy) = (place ≡ archive) × IsPolicyOf (words_in given) (Some policy)
 IsAsk given archive _ = ⊥
 
 -- the commands over the archive in a file
 abbrev pub names_over : List (List ℕ)
 names_over =
-    codes "run" ∷ codes "store" ∷ codes "extract" ∷ codes "list" ∷ codes "ask" ∷ codes "info" ∷ codes "wants" ∷ codes "look" ∷ codes "check" ∷ codes "copy" ∷ codes "resize" ∷ codes "salvage" ∷ []
+    codes "run" ∷ codes "store" ∷ codes "extract" ∷ codes "list" ∷ codes "ask" ∷ codes "info" ∷ codes "wants" ∷ codes "prune" ∷ codes "look" ∷ codes "check" ∷ codes "copy" ∷ codes "resize" ∷ codes "salvage" ∷ []
 
 -- a command that has none of these names
 abbrev pub IsNoneOf : List ℕ → List (List ℕ) → Type 0
@@ -175,7 +191,7 @@ IsNoneOf command (name ∷ names) = (command ≡ name → ⊥) × IsNoneOf comma
 
 -- what a command over an archive asks for
 abbrev pub IsOver : Given → ArchivePath → Asked → Type 0
-IsOver given archive (asked.Run place settings) = (given.command.now ≡ codes "run") × (place ≡ archive) × AreSettings given settings
+IsOver given archive (asked.Run place settings by_build) = (given.command.now ≡ codes "run") × (place ≡ archive) × AreSettings given settings × (by_build ≡ flag_in given (codes "builds"))
 IsOver given archive (asked.Store place file stall request log spool) =
     (given.command.now ≡ codes "store") × (store : GivenStore) × IsGiven found_under given store × (store.pairs.now ≡ given.words.items) × AsksOfStore store archive (asked.Store place file stall request log spool)
 IsOver given archive (asked.StoreBuild place file build log) =
@@ -191,7 +207,8 @@ IsOver given archive (asked.Info place case wanted) =
 IsOver given archive (asked.Wants place case wanted) =
     (given.command.now ≡ codes "wants") × (place ≡ archive) × (option_copied case ≡ text_in given (codes "case"))
     × (wanted.ids_alone ≡ flag_in given (codes "ids")) × (wanted.is_json ≡ flag_in given (codes "json"))
-IsOver given archive (asked.Look place) = (given.command.now ≡ codes "look") × (place ≡ archive)
+IsOver given archive (asked.Prune place wanted) = (given.command.now ≡ codes "prune") × (place ≡ archive) × IsPruned given wanted
+IsOver given archive (asked.Look place by_build) = (given.command.now ≡ codes "look") × (place ≡ archive) × (by_build ≡ flag_in given (codes "builds"))
 IsOver given archive (asked.Check place sees_images) = (given.command.now ≡ codes "check") × (place ≡ archive) × (sees_images ≡ flag_in given (codes "images"))
 IsOver given archive (asked.Copy place new wanted) = (given.command.now ≡ codes "copy") × (place ≡ archive) × (new.now ≡ text_said given (codes "new")) × IsCopy given wanted
 IsOver given archive (asked.Resize place wanted) = (given.command.now ≡ codes "resize") × (place ≡ archive) × IsCopy given wanted
@@ -203,7 +220,7 @@ IsOver given archive _ = ⊥
 -- what the words of a command ask for
 abbrev pub IsAskedBy : Given → Asked → Type 0
 IsAskedBy given (asked.Format archive wanted) = (given.command.now ≡ codes "format") × IsFormat given (asked.Format archive wanted)
-IsAskedBy given (asked.Memory shape settings) = (given.command.now ≡ codes "memory") × IsShape given shape × AreSettings given settings
+IsAskedBy given (asked.Memory shape settings by_build) = (given.command.now ≡ codes "memory") × IsShape given shape × AreSettings given settings × (by_build ≡ flag_in given (codes "builds"))
 IsAskedBy given (asked.Handle words) =
     (given.command.now ≡ codes "handle") × (handle : GivenHandle) × IsGivenToHandle found_under given handle × (handle.words.now ≡ given.words.items) × Handles handle words
 IsAskedBy given other = (archive : ArchivePath) × IsPlace given archive × IsOver given archive other

@@ -42,6 +42,8 @@ pub(crate) struct AskedLine<'a> {
     // The last word of the line, if its bytes are said as a text: their digits.
     digits: Option<String>,
     pub(crate) form: Form,
+    // Executables are chosen by build.
+    pub(crate) by_build: bool,
 }
 
 impl AskedLine<'_> {
@@ -61,7 +63,7 @@ impl AskedLine<'_> {
 
     // What the line asks, if it has a number for the case. If it has none its second word names a case.
     fn question(&self, alloc: Global) -> Result<Option<Question>, Refusal>
-        ensures asked { IfOk result (asking.IsAsked (joined (asking.words_of self.now))) }
+        ensures asked { IfOk result (asking.IsAsked self.now.by_build (joined (asking.words_of self.now))) }
         ensures refused { IfErr result (asking.IsNoQuestion (joined (asking.words_of self.now))) }
     {
         check_all(&self.words)?;
@@ -70,7 +72,7 @@ impl AskedLine<'_> {
             return Err(Refusal::LineTooLong);
         }
         match parse_question(&line) {
-            Some(question) => Ok(Some(question)),
+            Some(question) => Ok(Some(question.choosing(self.by_build))),
             None => self.named_case(alloc),
         }
     }
@@ -149,6 +151,7 @@ fn line_said<'a>(alloc: Global, given: &Given<'a>) -> Result<AskedLine<'a>, Refu
         words: given.words.to_vec(alloc)?,
         digits: digits_said(alloc, given)?,
         form: form_of(given),
+        by_build: given.flag("builds"),
     })
 }
 

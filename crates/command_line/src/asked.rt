@@ -12,12 +12,13 @@ use crate::ask_words::{AskedLine, ask_words};
 use crate::endings::Ending;
 use crate::handle_words::{GivenHandle, handle_words};
 use crate::list_words::list_words;
+use crate::prune_words::prune_words;
 use crate::store_words::{GivenStore, store_words};
 use archive_files::{
     ArchivePath, BuildRequest, CopyWords, NewArchive, Refusal, Salvaged, ShapeWish, StoreRequest,
     WordPart,
 };
-use case_info::{InfoWords, WantsWords};
+use case_info::{InfoWords, PruneWords, WantsWords};
 use case_listing::ListWords;
 use command_words::{Given, is_text};
 use core_handler::{HandleWords, SpoolWords};
@@ -40,11 +41,14 @@ pub(crate) enum Asked<'a> {
     Run {
         archive: ArchivePath<'a>,
         settings: SessionWords<'a>,
+        // Executables are chosen by build.
+        by_build: bool,
     },
     // A session over a fresh archive in memory.
     Memory {
         shape: Shape,
         settings: SessionWords<'a>,
+        by_build: bool,
     },
     // A file as a case of an archive.
     Store {
@@ -91,6 +95,11 @@ pub(crate) enum Asked<'a> {
         case: Option<&'a str>,
         wanted: WantsWords,
     },
+    // The cores that go by a policy, and the builds that no other core needs.
+    Prune {
+        archive: ArchivePath<'a>,
+        wanted: PruneWords,
+    },
     // What one line of a script asks, and its reply. Without a question its second word names a case.
     Ask {
         archive: ArchivePath<'a>,
@@ -105,6 +114,7 @@ pub(crate) enum Asked<'a> {
     // The lines of the input that only look, and their replies.
     Look {
         archive: ArchivePath<'a>,
+        by_build: bool,
     },
     // Whether an archive is sound.
     Check {
@@ -174,6 +184,7 @@ fn asked_of<'a>(alloc: Global, given: &Given<'a>) -> Result<Asked<'a>, Refusal>
         "memory" => Ok(Asked::Memory {
             settings: settings_of(given)?,
             shape: shape_of(given),
+            by_build: given.flag("builds"),
         }),
         "handle" => {
             let given = GivenHandle::of(given, given.words.as_slice());
@@ -195,6 +206,7 @@ fn over_archive<'a>(
         "run" => Ok(Asked::Run {
             archive,
             settings: settings_of(given)?,
+            by_build: given.flag("builds"),
         }),
         "store" => {
             let given = GivenStore::of(given, given.words.as_slice());
@@ -226,7 +238,14 @@ fn over_archive<'a>(
                 is_json: given.flag("json"),
             },
         }),
-        "look" => Ok(Asked::Look { archive }),
+        "prune" => Ok(Asked::Prune {
+            archive,
+            wanted: prune_words(given)?,
+        }),
+        "look" => Ok(Asked::Look {
+            archive,
+            by_build: given.flag("builds"),
+        }),
         "check" => Ok(Asked::Check {
             archive,
             sees_images: given.flag("images"),
@@ -365,9 +384,9 @@ fn settings_of<'a>(given: &Given<'a>) -> Result<SessionWords<'a>, Refusal>
     })
 }
 
-// How cores are named.
-pub(crate) fn naming_of(settings: SessionWords<'_>) -> Result<Naming, Refusal>
-    ensures named { IfOk result (λ naming. naming ≡ named_by settings.entry.template.now settings.entry.uses_pid) }
+// How cases are named.
+pub(crate) fn naming_of(settings: SessionWords<'_>, by_build: bool) -> Result<Naming, Refusal>
+    ensures named { IfOk result (λ naming. naming ≡ asking.naming_by settings.entry by_build) }
     ensures sound { OnOk result (template_fault settings.entry.template.now ≡ None) }
     ensures refused { IfErr result (λ why. (fault : TemplateFault) × (template_fault settings.entry.template.now ≡ Some fault)) }
 {
@@ -375,5 +394,6 @@ pub(crate) fn naming_of(settings: SessionWords<'_>) -> Result<Naming, Refusal>
     Ok(Naming {
         template,
         uses_pid: settings.uses_pid,
+        by_build,
     })
 }

@@ -8,6 +8,7 @@ mod endings;
 mod handle_words;
 mod list_words;
 mod named_words;
+mod prune_words;
 mod store_words;
 mod words;
 

@@ -133,7 +133,7 @@ fn build_of(alloc: Global, given: &GivenStore<'_, '_>) -> Result<BuildRequest, R
     if let Some(log) = given.log {
         checked(log)?;
     }
-    let naming = naming_of(given.settings)?;
+    let naming = naming_of(given.settings, false)?;
     Ok(BuildRequest {
         id,
         is_debug: given.is_debug,
@@ -194,7 +194,7 @@ fn request_of(alloc: Global, given: &GivenStore<'_, '_>) -> Result<StoreRequest,
     if let Some(log) = given.log {
         checked(log)?;
     }
-    let naming = naming_of(given.settings)?;
+    let naming = naming_of(given.settings, false)?;
     Ok(StoreRequest::of(words, &naming, given.settings.limit))
 }
 
@@ -247,7 +247,7 @@ fn policy_of(given: &GivenStore<'_, '_>) -> Result<Option<Policy>, Refusal>
 }
 
 // The number of a word, if it is there, as a script has it.
-fn number_of(word: Option<&str>) -> Result<Option<u64>, Refusal>
+pub(crate) fn number_of(word: Option<&str>) -> Result<Option<u64>, Refusal>
     ensures said { result ≡ spec.number_said (option_copied word.entry) }
     ensures refused { IfErr result (λ why. (why ≡ BadLine) × (spec.number_said (option_copied word.entry) ≡ Err BadLine)) }
 {

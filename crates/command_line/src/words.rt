@@ -10,8 +10,10 @@ use archive_files::{
     look, make_archive, names_output, note_file_system, note_gap, note_shared, resize_archive_file,
     run_over, salvage, take_disk, tell_trouble,
 };
-use case_info::{ask_rows, info_archive, info_case, tell_wants};
-use case_listing::{ask_case, ask_plain, extract_case, list, named_question, would_retire};
+use case_info::{PruneWords, ask_rows, info_archive, info_case, prune_archive, tell_wants};
+use case_listing::{
+    NamedLine, ask_case, ask_plain, extract_case, list, named_question, would_retire,
+};
 use command_words::{
     Context, Watched, asked_help, context_of, in_order, line_in_place_of_a_command, tell_help,
     tell_notes, words_of,
@@ -85,6 +87,8 @@ pub fn run_program<
 /// - `ask ARCHIVE WORD..` carries out one line of a script, with `--plain` so that people read its reply, and `find N --text TEXT` looks
 ///   for these bytes. `extract ARCHIVE N [FILE]` writes the image of a case. A line that changes no case, and `extract`, need no right to write the archive's file, and hold its lock only while they
 ///   read its journal.
+/// - `prune ARCHIVE` tells which executables and debug files are of builds that no core needs, and with `--cores K`, `--bytes B` or
+///   `--before T` which cores go first; with `--yes` it deletes them.
 /// - `look ARCHIVE` answers the lines of `input` that change no case, each as `ask` does.
 /// - `check ARCHIVE` tells what an archive holds and that it is sound, or where it is damaged.
 /// - `copy ARCHIVE NEW` copies it into a new file, and `resize ARCHIVE` into one that takes its place; `--half N` and `--data N` give
@@ -207,10 +211,16 @@ fn answer_asked<
 ) -> Result<(), Failure> {
     match asked {
         Asked::Format { archive, wanted } => make_noting(rt, archive, wanted, notes, onlooker),
-        Asked::Run { archive, settings } => run_file(
-            rt, archive, settings, input, output, onlooker,
-        ),
-        Asked::Memory { shape, settings } => run_memory(rt, shape, settings, input, output),
+        Asked::Run {
+            archive,
+            settings,
+            by_build,
+        } => run_file(rt, archive, settings, by_build, input, output, onlooker),
+        Asked::Memory {
+            shape,
+            settings,
+            by_build,
+        } => run_memory(rt, shape, settings, by_build, input, output),
         Asked::Store {
             archive,
             file,
@@ -263,8 +273,11 @@ fn answer_asked<
             case,
             wanted,
         } => tell_wants(rt, archive, case, wanted, output, onlooker),
+        Asked::Prune { archive, wanted } => prune(rt, archive, wanted, output, onlooker),
         Asked::WouldRetire { archive, policy } => would_retire(rt, archive, &policy, output),
-        Asked::Look { archive } => look(rt, archive, &mut ReadInput::new(input), output),
+        Asked::Look { archive, by_build } => {
+            look(rt, archive, by_build, &mut ReadInput::new(input), output)
+        }
         Asked::Check {
             archive,
             sees_images,
@@ -369,11 +382,15 @@ fn answer_line<R: AllocGlobal + Files<File = File> + Clock, O: Output, W: Onlook
     if changes(rt.alloc(), &question, &words)? {
         refuse_unwritten(rt, place.path, onlooker)?;
     }
+    let named = NamedLine {
+        words: &words,
+        by_build: line.by_build,
+    };
     match (line.form, question) {
-        (Form::Rows, question) => ask_rows(rt, place, &words, question, output, onlooker),
-        (Form::Plain, question) => ask_plain(rt, place, &words, question, output, onlooker),
+        (Form::Rows, question) => ask_rows(rt, place, named, question, output, onlooker),
+        (Form::Plain, question) => ask_plain(rt, place, named, question, output, onlooker),
         (Form::Reply, Some(question)) => ask(rt, place, question, output, onlooker),
-        (Form::Reply, None) => ask_case(rt, place, &words, output, onlooker),
+        (Form::Reply, None) => ask_case(rt, place, named, output, onlooker),
     }
 }
 
@@ -386,6 +403,20 @@ fn changes(alloc: Global, question: &Option<Question>, words: &[&str]) -> Result
             Ok(named.is_some_and(|question| !question.only_looks()))
         }
     }
+}
+
+// Prunes an archive, or tells which cases would go.
+fn prune<R: AllocGlobal + Files<File = File> + Clock, O: Output, W: Onlooker>(
+    rt: &R,
+    place: ArchivePath<'_>,
+    wanted: PruneWords,
+    output: &mut O,
+    onlooker: &mut W,
+) -> Result<(), Failure> {
+    if wanted.deletes {
+        refuse_unwritten(rt, place.path, onlooker)?;
+    }
+    prune_archive(rt, place, wanted, output, onlooker)
 }
 
 // Refuses to change an archive whose file has more bytes than the process may write, as if a write had failed.
@@ -423,11 +454,12 @@ fn run_file<R: AllocGlobal + Files<File = File> + Clock, I: Read, O: Output, W: 
     rt: &R,
     place: ArchivePath<'_>,
     settings: SessionWords<'_>,
+    by_build: bool,
     input: &mut I,
     output: &mut O,
     onlooker: &mut W,
 ) -> Result<(), Failure> {
-    let naming = naming_of(settings)?;
+    let naming = naming_of(settings, by_build)?;
     refuse_unwritten(rt, place.path, onlooker)?;
     let disk = take_disk(rt, place, Access::Changing, onlooker)?;
     let mut script = ReadInput::new(input);
@@ -448,10 +480,11 @@ fn run_memory<R: AllocGlobal, I: Read, O: Output>(
     rt: &R,
     shape: Shape,
     settings: SessionWords<'_>,
+    by_build: bool,
     input: &mut I,
     output: &mut O,
 ) -> Result<(), Failure> {
-    let naming = naming_of(settings)?;
+    let naming = naming_of(settings, by_build)?;
     let mut script = ReadInput::new(input);
     let limit = settings.limit;
     let ended = memory_session(

@@ -1,13 +1,13 @@
 // The words of `ask`.
 use crate::ask_help::ASK_HELP;
 use crate::list_tables::JSON;
-use crate::tables::{ARCHIVE, CommandWords, NO_WAIT, Takes, Word};
+use crate::tables::{ARCHIVE, BUILDS, CommandWords, NO_WAIT, Takes, Word};
 
 pub(crate) static ASK: CommandWords = CommandWords {
     name: "ask",
     about: "Carry out one line of a script over an archive, and print its reply; the status is 1 if it is refused",
     after_help: Some(ASK_HELP),
-    words: &[ARCHIVE, LINE, JSON, NO_WAIT, TEXT, PLAIN],
+    words: &[ARCHIVE, LINE, JSON, NO_WAIT, TEXT, PLAIN, BUILDS],
 };
 
 // The words of a line.

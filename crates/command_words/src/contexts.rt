@@ -17,6 +17,8 @@ pub enum Context {
     Listing,
     /// Another command only looked at an archive.
     Looking,
+    /// `prune` picked cases.
+    Pruning,
     /// `copy` or `resize` made a new archive.
     Copying,
     /// Anything else.
@@ -79,6 +81,12 @@ static LIST_MEANINGS: [Meaning; 2] = [
     },
 ];
 
+// The same of `prune`.
+static PRUNE_MEANINGS: [Meaning; 1] = [Meaning {
+    reason: b"BadLine",
+    words: b"a limit can't be read: --cores, --bytes and --before each take a number, and --before the seconds since 1970",
+}];
+
 // The same of what else only looks.
 static LOOK_MEANINGS: [Meaning; 1] = [Meaning {
     reason: b"Disk",
@@ -110,6 +118,7 @@ pub fn context_of(words: &[String], line: &LastLine) -> Context {
         "store" => Context::Storing,
         "list" => Context::Listing,
         "info" | "wants" | "look" | "extract" | "check" => Context::Looking,
+        "prune" => Context::Pruning,
         "copy" | "resize" => Context::Copying,
         _ => Context::Other,
     }
@@ -136,6 +145,7 @@ fn meanings_of(context: Context) -> &'static [Meaning] {
         Context::Handling => &HANDLER_MEANINGS,
         Context::Listing => &LIST_MEANINGS,
         Context::Looking => &LOOK_MEANINGS,
+        Context::Pruning => &PRUNE_MEANINGS,
         Context::Copying => &COPY_MEANINGS,
         Context::Other => &[],
     }

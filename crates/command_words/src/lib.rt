@@ -14,6 +14,7 @@ mod info_tables;
 mod line_texts;
 mod list_tables;
 mod notes;
+mod prune_tables;
 mod raw_words;
 mod reasons;
 mod tables;

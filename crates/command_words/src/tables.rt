@@ -60,7 +60,7 @@ pub(crate) static RUN: CommandWords = CommandWords {
     name: "run",
     about: "Run the script on standard input over an archive, and write its replies to standard output",
     after_help: None,
-    words: &[ARCHIVE, NO_WAIT, TEMPLATE, USES_PID, LIMIT],
+    words: &[ARCHIVE, NO_WAIT, TEMPLATE, USES_PID, LIMIT, BUILDS],
 };
 
 pub(crate) static STORE: CommandWords = CommandWords {
@@ -86,7 +86,7 @@ pub(crate) static LOOK: CommandWords = CommandWords {
     after_help: Some(
         "It ends with its input: on a terminal, with Ctrl-D. `ask --help` lists the lines.",
     ),
-    words: &[ARCHIVE, NO_WAIT],
+    words: &[ARCHIVE, NO_WAIT, BUILDS],
 };
 
 pub(crate) static EXTRACT: CommandWords = CommandWords {
@@ -100,7 +100,7 @@ pub(crate) static MEMORY: CommandWords = CommandWords {
     name: "memory",
     about: "Run the script on standard input over a fresh archive in memory, which is gone at its end",
     after_help: None,
-    words: &[HALF, DATA, TEMPLATE, USES_PID, LIMIT],
+    words: &[HALF, DATA, TEMPLATE, USES_PID, LIMIT, BUILDS],
 };
 
 // The file of an archive to be made.
@@ -164,6 +164,15 @@ pub(crate) const NO_WAIT: Word = Word {
     takes: Takes::Flag,
     default: None,
     help: "Be refused (`no Busy`) if another process has the archive, instead of waiting for it",
+};
+
+// How executables are chosen.
+pub(crate) const BUILDS: Word = Word {
+    id: "builds",
+    shown: "",
+    takes: Takes::Flag,
+    default: None,
+    help: "For `dump`, `find`, `strings` and `bt`: use the executables of the builds that the core tells, as `unwind` does, not those under its paths alone",
 };
 
 // How cores are named.

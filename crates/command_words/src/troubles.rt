@@ -59,8 +59,8 @@ static ERRORS: [SystemError; 9] = [
     },
 ];
 
-/// Tells what a reason means when this was done. If the disk failed, and it is known which call of the system that was, it is told with
-/// the system's reason.
+/// Tells what a reason means when this was done. If the disk failed, now or before, so that the archive is stopped, and it is known which
+/// call of the system that was, it is told with the system's reason.
 pub fn tell_meaning<O: Output>(
     reply: &mut Reply<'_, O>,
     context: Context,
@@ -68,7 +68,9 @@ pub fn tell_meaning<O: Output>(
     trouble: Option<Trouble>,
 ) {
     match trouble {
-        Some(trouble) if reason == b"Disk".as_slice() => tell_trouble(reply, trouble),
+        Some(trouble) if reason == b"Disk".as_slice() || reason == b"Stopped".as_slice() => {
+            tell_trouble(reply, trouble);
+        }
         _ => reply.tell(meaning_when(context, reason)),
     }
 }

@@ -18,14 +18,14 @@ use Rattle.core_handler.specs.Requesting.{AsksBy, naming_template, template_if_f
 
 -- a template is known by its bytes
 pub named_by_is : (template : Template) (text : List ℕ) (uses_pid : Bool) (what : Said) → template_bytes template ≡ text
-    → line_stream (record { template = template; uses_pid = uses_pid }) what ≡ line_stream (named_by text uses_pid) what
+    → line_stream (record { template = template; uses_pid = uses_pid; by_build = false }) what ≡ line_stream (named_by text uses_pid) what
 named_by_is template text uses_pid what e =
-    let P : List ℕ → Type 0 = λ t. line_stream (record { template = template; uses_pid = uses_pid }) what ≡ line_stream (named_by t uses_pid) what in
+    let P : List ℕ → Type 0 = λ t. line_stream (record { template = template; uses_pid = uses_pid; by_build = false }) what ≡ line_stream (named_by t uses_pid) what in
     subst P e refl
 
 -- the front that a template gives
 pub front_found : (template : Template) (front : List ℕ) (what : Said) (found : Result StreamFacts (List ℕ)) → template_fault front ≡ None → template_bytes template ≡ front
-    → found ≡ line_stream (record { template = template; uses_pid = false }) what → name_or_none found ≡ front_unless (template_fault front) front what
+    → found ≡ line_stream (record { template = template; uses_pid = false; by_build = false }) what → name_or_none found ≡ front_unless (template_fault front) front what
 front_found template front what found none e f =
     ap name_or_none (f ∙ named_by_is template front false what e) ∙ ap (λ o. front_unless o front what) (sym none)
 

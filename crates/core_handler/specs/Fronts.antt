@@ -12,7 +12,7 @@ use Rattle.stream_names.specs.declared.naming.Naming.{Naming}
 
 -- cores are named by a template of these bytes
 abbrev pub named_by : List ℕ → Bool → Naming
-named_by template uses_pid = record { template = record { bytes = record { items = template } }; uses_pid = uses_pid }
+named_by template uses_pid = record { template = record { bytes = record { items = template } }; uses_pid = uses_pid; by_build = false }
 
 -- the letter is that of a process, a thread or a time: p, P, i, I or t
 abbrev pub tells_one_core : ℕ → Bool

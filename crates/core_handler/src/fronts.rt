@@ -19,6 +19,7 @@ pub(crate) fn program_front(begin: &[u8], template: &str) -> Name
     let naming = Naming {
         template,
         uses_pid: false,
+        by_build: false,
     };
     match line_stream(begin, &naming) {
         Ok(stream) => {

@@ -33,6 +33,7 @@ pub(crate) fn request_of(
     let naming = Naming {
         template: Template::parse(template.as_bytes())?,
         uses_pid: config.uses_pid,
+        by_build: false,
     };
     let options = StoreOptions {
         label,

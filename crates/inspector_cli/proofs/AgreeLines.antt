@@ -20,7 +20,7 @@ use Rattle.script_streams.specs.Replies.{no_reply, ok_reply}
 use Rattle.script_lines.specs.Said.{silence, bad_line, long_line, begin_exec, begin_core, part_of, end_of, drop_of, delete_of, pin_of, label_of, retire_by, list_all_cases, count_free, upgrade_archive, inspect_of}
 use Rattle.stream_names.specs.Streams.{exec_stream, core_stream}
 use Rattle.inspector_cli.specs.Agreement.{HoldSame, IsFree, LinesAgree}
-use Rattle.inspector_cli.specs.Reply.{Begins, Drops, Deletes, Ends, Feeds, Frees, Labels, Pins, Retires, TakeBytes, TakeStep, Upgrades}
+use Rattle.inspector_cli.specs.Reply.{Begins, Drops, Deletes, Ends, Feeds, Frees, Labels, Pins, Retires, TakeBytes, TakeStep, Upgrades, query_by}
 use Rattle.inspector_cli.proofs.AgreeLemmas.{SameBytes, begin_decided, end_decided, plain_decided, retire_decided, same_begun, same_dropped, same_as, same_finished, same_gone, same_took, same_unmoved, take_one}
 use Rattle.inspector_cli.proofs.AgreeLooks.{decided_as, held_still, inspects_agree}
 
@@ -220,4 +220,4 @@ lines_agree g h one naming old new old' new' list_all_cases raw reply reply' hon
     (r'.0 ∙ ap (λ (s : ArchiveState). list_reply s.stopped s.version s.cases) same.state ∙ sym r.0, held_still g h old new old' new' same r.1 r'.1)
 lines_agree g h one naming old new old' new' count_free raw reply reply' honest honest' same r r' bound bound' = frees g h one old new old' new' reply reply' honest honest' same bound bound' r r'
 lines_agree g h one naming old new old' new' upgrade_archive raw reply reply' honest honest' same r r' bound bound' = upgrades g h one old new old' new' reply reply' honest honest' same bound bound' r r'
-lines_agree g h one naming old new old' new' (inspect_of seq query) raw reply reply' honest honest' same r r' bound bound' = inspects_agree g h old new old' new' seq query reply reply' honest honest' same r r' bound bound'
+lines_agree g h one naming old new old' new' (inspect_of seq query) raw reply reply' honest honest' same r r' bound bound' = inspects_agree g h old new old' new' seq (query_by naming query) reply reply' honest honest' same r r' bound bound'

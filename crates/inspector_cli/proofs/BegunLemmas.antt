@@ -16,7 +16,7 @@ use Rattle.stream_names.specs.Streams.{exec_stream, core_stream}
 use Rattle.script_lines.specs.Said.{Said, silence, bad_line, long_line, begin_exec, begin_core, part_of, end_of, drop_of, delete_of, pin_of, label_of, retire_by, list_all_cases, count_free, upgrade_archive, inspect_of}
 use Rattle.case_queries.specs.InspectLaws.{inspects_leaves}
 use Rattle.inspector_cli.specs.Headline.{begins_as, begun_then, empty_stream}
-use Rattle.inspector_cli.specs.Reply.{Begins, Replies, TakeStep}
+use Rattle.inspector_cli.specs.Reply.{Begins, Replies, TakeStep, query_by}
 use Rattle.inspector_cli.specs.Told.{is_no}
 use Rattle.inspector_cli.proofs.HeldLemmas.{chosen, same_set, other_set, cleared}
 use Rattle.inspector_cli.proofs.SlotLemmas.{at_set}
@@ -203,7 +203,7 @@ module _ {D : Type 0} (g : disk.Ghosts D) (slot : ℕ) where
   line_begun naming old new upgrade_archive raw reply r = kept slot (state_of old) (state_of new) (upgrade_keeps (state_of old) (state_of new) r.0 r.1.step)
   line_begun naming old new list_all_cases raw reply r = unmoved slot old new r.1
   line_begun naming old new count_free raw reply r = unmoved slot old new r.3
-  line_begun naming old new (inspect_of seq query) raw reply r = kept slot (state_of old) (state_of new) (inspects_leaves g old seq query reply new r).streams
+  line_begun naming old new (inspect_of seq query) raw reply r = kept slot (state_of old) (state_of new) (inspects_leaves g old seq (query_by naming query) reply new r).streams
 
   pub then_begun : (naming : Naming) (old new : Parts D) (what : Said) (raw reply : List ℕ) (o : Option StreamFacts) → (old.stopped ≡ true → new.stopped ≡ true) → Replies g naming old what raw reply new → IsBegun slot (state_of old) o
       → IsBegun slot (state_of new) (begun_then (begins_as naming) slot what (is_no reply) o)

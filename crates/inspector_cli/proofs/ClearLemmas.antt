@@ -17,7 +17,7 @@ use Rattle.retention.specs.declared.Policy.{Policy}
 use Rattle.stream_names.specs.declared.naming.Naming.{Naming}
 use Rattle.script_lines.specs.Said.{Said, silence, bad_line, long_line, begin_exec, begin_core, part_of, end_of, drop_of, delete_of, pin_of, label_of, retire_by, list_all_cases, count_free, upgrade_archive, inspect_of, said, raw_length}
 use Rattle.script_streams.specs.Replies.{no_reply, ok_reply}
-use Rattle.inspector_cli.specs.Reply.{Begins, Replies, TakeStep}
+use Rattle.inspector_cli.specs.Reply.{Begins, Replies, TakeStep, query_by}
 use Rattle.archive_replies.specs.Texts.{end_reply, plain_reply, retire_reply, dropped_line, unmet_line}
 use Rattle.stream_names.specs.Streams.{exec_stream, core_stream}
 use Rattle.archive_replies.specs.Reasons.{reason_of}
@@ -240,7 +240,7 @@ module _ {D : Type 0} (g : disk.Ghosts D) where
   )
   line_halts naming old new list_all_cases raw reply r = still old new list_all_cases reply (λ x none. none) (same_stops old new r.1)
   line_halts naming old new count_free raw reply r = still old new count_free reply (λ x none. none) (same_stops old new r.3)
-  line_halts naming old new (inspect_of seq query) raw reply r = still old new (inspect_of seq query) reply (λ x none. none) (inspects_leaves g old seq query reply new r).halts
+  line_halts naming old new (inspect_of seq query) raw reply r = still old new (inspect_of seq query) reply (λ x none. none) (inspects_leaves g old seq (query_by naming query) reply new r).halts
 
   cut_halts : (old new : Parts D) (what : Said) (raw reply : List ℕ) → Truncates g old what raw reply new → Halts old what reply new
   cut_halts old new (part_of slot n) raw reply cut =

@@ -20,7 +20,7 @@ use Rattle.script_streams.specs.Replies.{TellsText}
 use Rattle.script_streams.specs.Telling.{Sink}
 use Rattle.script_streams.specs.TellLaws.{tells_then, tells_as, tells_nothing}
 use Rattle.inspector_cli.specs.declared.session.Order.{Order}
-use Rattle.inspector_cli.specs.declared.session.Order.TheVariants.{Oldest, Fair}
+use Rattle.inspector_cli.specs.declared.session.Order.TheVariants.{Oldest}
 use Rattle.inspector_cli.specs.declared.store.TakeStop.{TakeStop}
 use Rattle.inspector_cli.specs.declared.store.TakeStop.TheVariants.{File, Refused, Cut, Length}
 use Rattle.inspector_cli.specs.declared.store.LengthFault.TheVariants.{Short, Long}

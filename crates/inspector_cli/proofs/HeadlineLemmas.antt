@@ -30,7 +30,7 @@ use Rattle.script_streams.specs.Replies.{no_reply, ok_reply}
 use Rattle.archive_replies.specs.Reasons.{reason_of}
 use Rattle.archive_replies.specs.Texts.{end_reply}
 use Rattle.case_queries.specs.InspectLaws.{inspects_leaves}
-use Rattle.inspector_cli.specs.Reply.{Replies, Deletes, Ends}
+use Rattle.inspector_cli.specs.Reply.{Replies, Deletes, Ends, query_by}
 use Rattle.inspector_cli.specs.declared.session.SessionFault.{SessionFault}
 use Rattle.inspector_cli.specs.declared.session.SessionFault.TheVariants.{ReadFailed, WriteFailed, TooManyReads}
 use Rattle.inspector_cli.specs.declared.session.LifeFault.{LifeFault}
@@ -113,7 +113,7 @@ module _ {D : Type 0} (g : disk.Ghosts D) (naming : Naming) (lasts : LastingLaws
   line_leads earlier old new list_all_cases raw reply honest has r = inl (same_archive old new r.1)
   line_leads earlier old new count_free raw reply honest has r = inl (same_archive old new r.3)
   line_leads earlier old new (inspect_of seq query) raw reply honest has r =
-      inl ((inspects_leaves g old seq query reply new r).stays.durable honest)
+      inl ((inspects_leaves g old seq (query_by naming query) reply new r).stays.durable honest)
 
   -- an archive that a disk fault has stopped is changed no more
   line_frozen : (old new : Parts D) (what : Said) (raw reply : List ℕ) → IsTrue (g.is_honest old.disk) → old.stopped ≡ true → Replies g naming old what raw reply new → held new ≡ held old
@@ -138,7 +138,7 @@ module _ {D : Type 0} (g : disk.Ghosts D) (naming : Naming) (lasts : LastingLaws
   line_frozen old new (retire_by policy) raw reply honest stopped (Err f, call, told) = lasts.refusals old new f honest (inr (inr (inr (inl (policy, call)))))
   line_frozen old new list_all_cases raw reply honest stopped r = same_archive old new r.1
   line_frozen old new count_free raw reply honest stopped r = same_archive old new r.3
-  line_frozen old new (inspect_of seq query) raw reply honest stopped r = (inspects_leaves g old seq query reply new r).stays.durable honest
+  line_frozen old new (inspect_of seq query) raw reply honest stopped r = (inspects_leaves g old seq (query_by naming query) reply new r).stays.durable honest
 
   -- where something is in doubt, the archive is stopped
   is_frozen : (old new : Stage D) → IsClear old → (old.archive.stopped ≡ true → held new.archive ≡ held old.archive) → (old.in_doubt ≡ [] → ⊥) → held new.archive ≡ held old.archive

@@ -14,7 +14,7 @@ use Rattle.intake.specs.declared.faults.ArchiveFault.{ArchiveFault}
 use Rattle.intake.specs.declared.faults.ArchiveFault.TheVariants.{Stopped, NoStream, Disk}
 use Rattle.stream_names.specs.declared.naming.Naming.{Naming}
 use Rattle.script_lines.specs.Said.{Said, silence, bad_line, long_line, begin_exec, begin_core, part_of, end_of, drop_of, delete_of, pin_of, label_of, retire_by, list_all_cases, count_free, upgrade_archive, inspect_of}
-use Rattle.inspector_cli.specs.Reply.{Begins, Feeds, Ends, Drops, Replies, TakeStep}
+use Rattle.inspector_cli.specs.Reply.{Begins, Feeds, Ends, Drops, Replies, TakeStep, query_by}
 use Rattle.stream_names.specs.Streams.{exec_stream, core_stream}
 use Rattle.inspector_cli.specs.Told.{is_no, begun, fed, held_then}
 use Rattle.case_queries.specs.InspectLaws.{inspects_leaves}
@@ -188,7 +188,7 @@ module _ {D : Type 0} (g : disk.Ghosts D) (slot : ℕ) where
   line_held naming old new count_free raw reply honest stays r = unmoved old new r.3
   line_held naming old new (inspect_of seq query) raw reply honest stays r =
       ⊎_elim (λ same. inr (ap (λ (xs : List (Option Taken)). bytes_in xs slot) same)) (λ stopped. inl stopped)
-      ((inspects_leaves g old seq query reply new r).taken honest)
+      ((inspects_leaves g old seq (query_by naming query) reply new r).taken honest)
 
   pub then_held : (naming : Naming) (old new : Parts D) (what : Said) (raw reply : List ℕ) (held : Option (List ℕ)) → IsTrue (g.is_honest old.disk) → (old.stopped ≡ true → new.stopped ≡ true) → Replies g naming old what raw reply new
       → IsHeld old held → IsHeld new (held_then slot what raw (is_no reply) held)

@@ -12,7 +12,7 @@ use Rattle.intake.specs.QuietLaws.{quiet_none, quiet_then}
 use Rattle.stream_names.specs.declared.naming.Naming.{Naming}
 use Rattle.script_lines.specs.Said.{Said, silence, bad_line, long_line, begin_exec, begin_core, part_of, end_of, drop_of, delete_of, pin_of, label_of, retire_by, list_all_cases, count_free, upgrade_archive, inspect_of, said, raw_length}
 use Rattle.inspector_cli.specs.Headline.{is_idle}
-use Rattle.inspector_cli.specs.Reply.{Replies}
+use Rattle.inspector_cli.specs.Reply.{Replies, query_by}
 use Rattle.inspector_cli.specs.Session.{Ending, complete, last_line, cut_part, said_last, last_stage, LastReplies, EndReplies, Truncates}
 use Rattle.inspector_cli.specs.Stages.{Stage}
 use Rattle.inspector_cli.specs.Told.{Answer, Answers, what_of}
@@ -34,7 +34,7 @@ module _ {D : Type 0} (g : disk.Ghosts D) (only : (d : D) (c : List ℕ) → g.l
   line_idle old new upgrade_archive raw reply idle r = absurd (false≢true idle)
   line_idle old new list_all_cases raw reply idle r = quiet_as g only old new r.1
   line_idle old new count_free raw reply idle r = quiet_as g only old new r.3
-  line_idle old new (inspect_of seq query) raw reply idle r = inspects_quiet g old seq query reply new only r
+  line_idle old new (inspect_of seq query) raw reply idle r = inspects_quiet g old seq (query_by naming query) reply new only r
 
   cut_idle : (old new : Parts D) (what : Said) (raw reply : List ℕ) → is_idle what ≡ true → Truncates g old what raw reply new → OnlyReads g old.disk new.disk
   cut_idle old new (part_of slot n) raw reply idle cut = absurd (false≢true idle)

@@ -16,7 +16,7 @@ use Rattle.intake.specs.State.{StreamFacts}
 use Rattle.stream_names.specs.declared.naming.Naming.{Naming}
 use Rattle.script_lines.specs.Said.{Said, silence, bad_line, long_line, begin_exec, begin_core, part_of, end_of, drop_of, delete_of, pin_of, label_of, retire_by, list_all_cases, count_free, upgrade_archive, inspect_of, said, raw_length}
 use Rattle.script_streams.specs.Replies.{no_reply, ok_reply}
-use Rattle.inspector_cli.specs.Reply.{Replies}
+use Rattle.inspector_cli.specs.Reply.{Replies, query_by}
 use Rattle.archive_replies.specs.Texts.{dropped_line, unmet_line}
 use Rattle.stream_names.specs.Streams.{exec_stream, core_stream}
 use Rattle.inspector_cli.specs.Session.{Ending, complete, last_line, cut_part, said_last, last_stage, LastReplies, EndReplies}
@@ -171,7 +171,7 @@ module _ (n : ℕ) (bytes : List ℕ) where
         same_keeps old new (lasts.refusals old new f honest (inr (inr (inr (inl (policy, call)))))) has
     line_keeps old new list_all_cases raw reply honest r spares has = as_it_was old new r.1 has
     line_keeps old new count_free raw reply honest r spares has = as_it_was old new r.3 has
-    line_keeps old new (inspect_of seq query) raw reply honest r spares has = stays_keeps old new honest (inspects_leaves g old seq query reply new r).stays has
+    line_keeps old new (inspect_of seq query) raw reply honest r spares has = stays_keeps old new honest (inspects_leaves g old seq (query_by naming query) reply new r).stays has
 
     -- what a line would have left, had the disk not failed, has the case
     doubt_keeps : (old : Parts D) (what : Said) (reply : List ℕ) (x : Durable) → reply ≡ no_reply (codes "Disk") → (MayDrop n what reply → ⊥) → Has old → MayLeave g old what x → HasImage n bytes x

@@ -36,3 +36,4 @@ pub mod AgreeLemmas
 pub mod AgreeLooks
 pub mod AgreeLines
 pub mod AgreeScripts
+pub mod DeletingLemmas

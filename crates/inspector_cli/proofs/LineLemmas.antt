@@ -1,5 +1,5 @@
 -- How a line is answered, with what stands behind it.
-use Rattle.std.proofs.Common.{◌≡◌, inr, ℕ, zero, suc, true, false, Bool, List, [], ◌∷◌, ◌++◌, Option, Result, Ok, Err, refl, sym, subst, ◌∙◌, append_assoc}
+use Rattle.std.proofs.Common.{◌≡◌, inr, ℕ, zero, suc, true, false, Bool, cond, List, [], ◌∷◌, ◌++◌, Option, Result, Ok, Err, refl, sym, subst, ◌∙◌, append_assoc}
 use Rattle.disk_model.specs.declared.disk.Disk as disk
 use Rattle.intake.specs.Parts.{Parts}
 use Rattle.script_streams.specs.Lines.{IsLine}
@@ -12,7 +12,7 @@ use Rattle.script_streams.specs.declared.reader.ReadStop.TheVariants.{ReadFailed
 use Rattle.inspector_cli.specs.declared.script.ScriptStop.{ScriptStop}
 use Rattle.inspector_cli.specs.declared.script.ScriptStop.TheVariants.{Read}
 use Rattle.stream_names.specs.declared.naming.Naming.{Naming}
-use Rattle.script_lines.specs.Said.{Said, said, raw_length}
+use Rattle.script_lines.specs.Said.{Said, said, raw_length, said_by_build, said_choosing, silence, bad_line, long_line, begin_exec, begin_core, part_of, end_of, drop_of, delete_of, pin_of, label_of, retire_by, list_all_cases, count_free, upgrade_archive, inspect_of}
 use Rattle.script_lines.specs.Commands.{asked_by, call_said, question_said}
 use Rattle.script_lines.specs.declared.command.Request.{Request}
 use Rattle.script_lines.specs.declared.command.Request.TheVariants.{Silence, BadLine, LineTooLong, BeginExec, BeginCore, End, Drop}
@@ -20,7 +20,10 @@ use Rattle.script_lines.specs.declared.question.Call.{Call}
 use Rattle.script_lines.specs.declared.question.Call.TheVariants.{Delete, Pin, Label, Retire, ListCases, CountFree, Upgrade}
 use Rattle.script_lines.specs.declared.question.Question.{Question}
 use Rattle.script_lines.specs.declared.question.Question.TheVariants as asked
-use Rattle.inspector_cli.specs.Reply.{Replies}
+use Rattle.case_queries.specs.Inspecting.{Inspects}
+use Rattle.stream_names.specs.Streams.{core_stream}
+use Rattle.script_lines.specs.Queries.{by_build}
+use Rattle.inspector_cli.specs.Reply.{Begins, Replies, RepliesByPath, query_by}
 use Rattle.inspector_cli.specs.Session.{cut_part, LastReplies, Truncates}
 use Rattle.script_streams.specs.Replies.{Telling}
 use Rattle.inspector_cli.specs.Answering.{Halts, AnswersTo, PartAnswers, LastAnswers, CommandEnds}
@@ -77,17 +80,46 @@ module _ {D : Type 0} (g : disk.Ghosts D) where
       subst (λ (w : Said). LastAnswers g naming t old w new) is
       (answers.0, last_whole g naming (raw_length (asked_by r)) old new (asked_by r) answers.0 (no_raw r) answers.1, answers.2)
 
+  -- what is said replies so, where executables are chosen by build
+  chosen_so : (naming by_path : Naming) (old new : Parts D) (what : Said) (raw reply : List ℕ) → naming.by_build ≡ true → by_path ≡ record { template = naming.template; uses_pid = naming.uses_pid; by_build = false }
+      → Replies g by_path old (said_by_build what) raw reply new → Replies g naming old what raw reply new
+  chosen_so naming by_path old new silence raw reply chosen is r = r
+  chosen_so naming by_path old new bad_line raw reply chosen is r = r
+  chosen_so naming by_path old new long_line raw reply chosen is r = r
+  chosen_so naming by_path old new (begin_exec slot name) raw reply chosen is r = r
+  chosen_so naming by_path old new (begin_core slot process) raw reply chosen is r = subst (λ (n : Naming). (accepted : Bool) × Begins g old slot (core_stream n process) reply new accepted) is r
+  chosen_so naming by_path old new (part_of slot n) raw reply chosen is r = r
+  chosen_so naming by_path old new (end_of slot) raw reply chosen is r = r
+  chosen_so naming by_path old new (drop_of slot) raw reply chosen is r = r
+  chosen_so naming by_path old new (delete_of seq) raw reply chosen is r = r
+  chosen_so naming by_path old new (pin_of seq flag) raw reply chosen is r = r
+  chosen_so naming by_path old new (label_of seq label) raw reply chosen is r = r
+  chosen_so naming by_path old new (retire_by policy) raw reply chosen is r = r
+  chosen_so naming by_path old new list_all_cases raw reply chosen is r = r
+  chosen_so naming by_path old new count_free raw reply chosen is r = r
+  chosen_so naming by_path old new upgrade_archive raw reply chosen is r = r
+  chosen_so naming by_path old new (inspect_of seq query) raw reply chosen is r =
+      let asked : Inspects g old seq (by_build query) reply new = subst (λ (n : Naming). Inspects g old seq (query_by n (by_build query)) reply new) is r in
+      rw chosen asked
+
+  -- a question replies as the session has it asked
+  asked_so : (naming : Naming) (b : Bool) (old new : Parts D) (what : Said) (reply : List ℕ) → naming.by_build ≡ b → RepliesByPath g old (cond b (said_by_build what) what) reply new → Replies g naming old what [] reply new
+  asked_so naming false old new what reply is told = told naming is
+  asked_so naming true old new what reply is told =
+      let by_path : Naming = record { template = naming.template; uses_pid = naming.uses_pid; by_build = false } in
+      chosen_so naming by_path old new what [] reply is refl (told by_path refl)
+
   -- a question is answered as any line
-  pub question_answers : (naming : Naming) (a : Option (List ℕ)) (b : ScriptBuffer) (t : Telling) (old new : Parts D) (q : Question) (what : Said) (done : Bool) → question_said q ≡ what → AnswersAsked g t old (question_said q) done new
+  pub question_answers : (naming : Naming) (a : Option (List ℕ)) (b : ScriptBuffer) (t : Telling) (old new : Parts D) (q : Question) (what : Said) (done : Bool) → question_said q ≡ what → AnswersAsked g t old (said_choosing naming.by_build (question_said q)) done new
       → PartAnswers g naming (record { before = a; after = a; buffer = b; buffer' = b }) t old what new (Ok true)
   question_answers naming a b t old new q what done is told =
       subst (λ (w : Said). PartAnswers g naming (record { before = a; after = a; buffer = b; buffer' = b }) t old w new (Ok true)) is
-      ([], sym (no_raw_asked q), gives_nothing a b, (told.0, told.1 naming, told.3))
+      ([], sym (no_raw_asked q), gives_nothing a b, (told.0, asked_so naming naming.by_build old new (question_said q) told.0 refl told.1, told.3))
 
-  pub question_last : (naming : Naming) (t : Telling) (old new : Parts D) (q : Question) (what : Said) (done : Bool) → question_said q ≡ what → AnswersAsked g t old (question_said q) done new → LastAnswers g naming t old what new
+  pub question_last : (naming : Naming) (t : Telling) (old new : Parts D) (q : Question) (what : Said) (done : Bool) → question_said q ≡ what → AnswersAsked g t old (said_choosing naming.by_build (question_said q)) done new → LastAnswers g naming t old what new
   question_last naming t old new q what done is told =
       subst (λ (w : Said). LastAnswers g naming t old w new) is
-      (told.0, last_whole g naming (raw_length (question_said q)) old new (question_said q) told.0 (no_raw_asked q) (told.1 naming), told.3)
+      (told.0, last_whole g naming (raw_length (question_said q)) old new (question_said q) told.0 (no_raw_asked q) (asked_so naming naming.by_build old new (question_said q) told.0 refl told.1), told.3)
 
   module _ (naming : Naming) (a b c : Option (List ℕ)) (buf mid buf' : ScriptBuffer) (old new : Parts D) (line : List ℕ) (one : IsLine line)
       (gives : Gives a b buf mid (line ++ 10 ∷ [])) (o p q : Sink) (first : Tells o p []) (ready : IsReady p) where

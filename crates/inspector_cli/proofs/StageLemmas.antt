@@ -17,7 +17,7 @@ use Rattle.retention.specs.declared.Policy.{Policy}
 use Rattle.stream_names.specs.declared.naming.Naming.{Naming}
 use Rattle.script_lines.specs.Said.{Said, silence, bad_line, long_line, begin_exec, begin_core, part_of, end_of, drop_of, delete_of, pin_of, label_of, retire_by, list_all_cases, count_free, upgrade_archive, inspect_of, said, raw_length}
 use Rattle.script_streams.specs.Replies.{no_reply}
-use Rattle.inspector_cli.specs.Reply.{Begins, Ends, Deletes, Pins, Labels, Retires, Replies}
+use Rattle.inspector_cli.specs.Reply.{Begins, Ends, Deletes, Pins, Labels, Retires, Replies, query_by}
 use Rattle.archive_replies.specs.Texts.{end_reply, plain_reply, retire_reply}
 use Rattle.stream_names.specs.Streams.{exec_stream, core_stream}
 use Rattle.archive_replies.specs.Reasons.{reason_of}
@@ -140,7 +140,7 @@ module _ {D : Type 0} (g : disk.Ghosts D) (laws : Laws g) (old : Stage D) (new :
   line_moves naming (retire_by policy) raw reply r = retires_moves policy reply r
   line_moves naming list_all_cases raw reply r = still list_all_cases reply (stays_as g old.archive new r.1)
   line_moves naming count_free raw reply r = still count_free reply (stays_as g old.archive new r.3)
-  line_moves naming (inspect_of seq query) raw reply r = still (inspect_of seq query) reply (inspects_leaves g old.archive seq query reply new r).stays
+  line_moves naming (inspect_of seq query) raw reply r = still (inspect_of seq query) reply (inspects_leaves g old.archive seq (query_by naming query) reply new r).stays
 
   last_moves : (naming : Naming) (n : ℕ) (what : Said) (reply : List ℕ) → LastReplies g naming n old.archive what reply new → Reaches what reply
   last_moves naming zero what reply r = line_moves naming what [] reply r

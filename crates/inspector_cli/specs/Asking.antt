@@ -5,22 +5,21 @@ use Rattle.disk_model.specs.declared.disk.Disk as disk
 use Rattle.intake.specs.Parts.{Parts}
 use Rattle.script_lines.specs.Said.{Said}
 use Rattle.script_streams.specs.Replies.{IsOutcome, Telling, TellsOutcome}
-use Rattle.stream_names.specs.declared.naming.Naming.{Naming}
-use Rattle.inspector_cli.specs.Reply.{Replies}
+use Rattle.inspector_cli.specs.Reply.{RepliesByPath}
 use Rattle.inspector_cli.specs.Session.{DropsStreams, Streams}
 use Rattle.inspector_cli.specs.declared.session.LifeFault.{LifeFault}
 use Rattle.inspector_cli.specs.declared.session.LifeFault.TheVariants.{Open, Session}
 use Rattle.inspector_cli.specs.declared.session.SessionFault.{SessionFault}
 use Rattle.inspector_cli.specs.declared.session.SessionFault.TheVariants.{WriteFailed}
 
--- A question is answered, however cores are named, and that is its outcome.
+-- A question is answered, and that is its outcome.
 abbrev pub AnswersAsked : {D : Type 0} → disk.Ghosts D → Telling → Parts D → Said → Bool → Parts D → Type 0
-AnswersAsked g t old what done new = TellsOutcome t (λ text. (naming : Naming) → Replies g naming old what [] text new) done
+AnswersAsked g t old what done new = TellsOutcome t (λ text. RepliesByPath g old what text new) done
 
 -- The outcome of the one line is that of its reply, which is written. Or the output has failed.
 abbrev pub AsksAlone : {D : Type 0} → disk.Ghosts D → Said → Option (List ℕ) → Option (List ℕ) → Result Bool SessionFault → Parts D → Parts D → Type 0
 AsksAlone {D} g what taken taken' (Ok done) opened closed =
-    (text : List ℕ) × (mid : Parts D) × ((naming : Naming) → Replies g naming opened what [] text mid) × IsOutcome done text × DropsStreams g mid closed
+    (text : List ℕ) × (mid : Parts D) × RepliesByPath g opened what text mid × IsOutcome done text × DropsStreams g mid closed
     × Appends taken taken' text
 AsksAlone g what taken taken' (Err f) opened closed = f ≡ WriteFailed
 

@@ -19,3 +19,4 @@ pub mod Kept
 pub mod Agreement
 pub mod Fitting
 pub mod Bursts
+pub mod Deleting

@@ -1,5 +1,5 @@
 -- The reply to what a line says, and what it does to the archive.
-use Rattle.std.specs.Prelude.{◌≡◌, ℕ, ◌+◌, ◌-◌, ◌/◌, ◌%◌, ◌<◌, ◌≤◌, Bool, true, false, List, [], ◌++◌, length, Option, None, Some, Result, Ok, Err, is_ok, IsTrue, codes}
+use Rattle.std.specs.Prelude.{◌≡◌, ℕ, ◌+◌, ◌-◌, ◌/◌, ◌%◌, ◌<◌, ◌≤◌, Bool, true, false, List, [], ◌++◌, length, Option, None, Some, Result, Ok, Err, is_ok, IsTrue, codes, if◌then◌else◌}
 use Rattle.std.specs.Result.{result_ok}
 use Rattle.script_streams.specs.Replies.{no_reply}
 use Rattle.intake.specs.declared.faults.ArchiveFault.{ArchiveFault}
@@ -18,6 +18,7 @@ use Rattle.archive_replies.specs.Texts.{plain_reply, begin_reply, end_reply, ret
 use Rattle.stream_names.specs.Streams.{exec_stream, core_stream}
 use Rattle.stream_names.specs.declared.naming.Naming.{Naming}
 use Rattle.case_queries.specs.Inspecting.{Inspects}
+use Rattle.script_lines.specs.Queries.{QuerySaid, by_build}
 use Rattle.script_lines.specs.Said.{Said, silence, bad_line, long_line, begin_exec, begin_core, part_of, end_of, drop_of, delete_of, pin_of, label_of, retire_by, list_all_cases, count_free, upgrade_archive, inspect_of}
 
 -- `begin`: what is wrong with the name comes first. It is accepted or not.
@@ -104,6 +105,10 @@ Retires g old policy reply new = (result : Result Decision ArchiveFault) × Reti
 abbrev pub Frees : {D : Type 0} → Parts D → List ℕ → Parts D → Type 0
 Frees old reply new = (result : Result Space ArchiveFault) × FreeReply (state_of old) result × (reply ≡ free_reply result) × (new ≡ old)
 
+-- what a line asks of an image, where the session has executables chosen by build
+abbrev pub query_by : Naming → QuerySaid → QuerySaid
+query_by naming query = if naming.by_build then by_build query else query
+
 -- the reply, and the archive after it, where these bytes followed the line, as many as it says
 abbrev pub Replies : {D : Type 0} → disk.Ghosts D → Naming → Parts D → Said → List ℕ → List ℕ → Parts D → Type 0
 Replies g naming old silence raw reply new = (reply ≡ []) × (new ≡ old)
@@ -121,4 +126,8 @@ Replies g naming old (retire_by policy) raw reply new = Retires g old policy rep
 Replies g naming old list_all_cases raw reply new = (reply ≡ list_reply (state_of old).stopped (state_of old).version (state_of old).cases) × (new ≡ old)
 Replies g naming old count_free raw reply new = Frees old reply new
 Replies g naming old upgrade_archive raw reply new = Upgrades g old reply new
-Replies g naming old (inspect_of seq query) raw reply new = Inspects g old seq query reply new
+Replies g naming old (inspect_of seq query) raw reply new = Inspects g old seq (query_by naming query) reply new
+
+-- the reply where executables are chosen by path, however cores are named
+abbrev pub RepliesByPath : {D : Type 0} → disk.Ghosts D → Parts D → Said → List ℕ → Parts D → Type 0
+RepliesByPath g old what reply new = (naming : Naming) → naming.by_build ≡ false → Replies g naming old what [] reply new

@@ -1,5 +1,5 @@
 // One line, asked alone from the opening of its archive on.
-ghost use Rattle.std.specs.Prelude.{◌≡◌, [], List, ℕ};
+ghost use Rattle.std.specs.Prelude.{◌≡◌, [], List, ℕ, false};
 ghost use Rattle.intake.specs.Durable.{Durable};
 ghost use Rattle.script_lines.specs.Commands.{question_said};
 ghost use Rattle.script_lines.specs.Said.{said};
@@ -37,9 +37,9 @@ pub fn open_and_ask<O: Output, D: Disk>(
 ) -> (Result<bool, LifeFault>, D)
     ensures outcome { LifeEnds D.Disk settings.limit (line_streams [] result.0 (O.taken output.old) (O.taken output.new) (O.failures output.old) (O.failures output.new))
         disk result.0 result.1 (AsksAlone D.Disk (question_said question) (O.taken output.old) (O.taken output.new)) }
-    ensures crash_safe { (naming : Naming) (line : List ℕ) → IsLine line → said line ≡ question_said question
+    ensures crash_safe { (naming : Naming) (line : List ℕ) → naming.by_build ≡ false → IsLine line → said line ≡ question_said question
         → let streams = line_streams line result.0 (O.taken output.old) (O.taken output.new) (O.failures output.old) (O.failures output.new) in LifeEnds D.Disk settings.limit streams disk (as_session result.0) result.1 (RunsOver D.Disk naming streams) }
-    ensures headline { (naming : Naming) (line : List ℕ) → IsLine line → said line ≡ question_said question
+    ensures headline { (naming : Naming) (line : List ℕ) → naming.by_build ≡ false → IsLine line → said line ≡ question_said question
         → Headline (Unit {0}) D.Disk naming (line_streams line result.0 (O.taken output.old) (O.taken output.new) (O.failures output.old) (O.failures output.new)) disk (as_session result.0) result.1 }
 {
     a_session_is_crash_safe::<D>();
@@ -56,7 +56,7 @@ fn open_then_ask<O: Output, D: Disk>(
 ) -> (Result<bool, LifeFault>, D)
     ensures outcome { LifeEnds D.Disk settings.limit (line_streams [] result.0 (O.taken output.old) (O.taken output.new) (O.failures output.old) (O.failures output.new))
         disk result.0 result.1 (AsksAlone D.Disk (question_said question) (O.taken output.old) (O.taken output.new)) }
-    ensures crash_safe { (naming : Naming) (line : List ℕ) → IsLine line → said line ≡ question_said question
+    ensures crash_safe { (naming : Naming) (line : List ℕ) → naming.by_build ≡ false → IsLine line → said line ≡ question_said question
         → let streams = line_streams line result.0 (O.taken output.old) (O.taken output.new) (O.failures output.old) (O.failures output.new) in LifeEnds D.Disk settings.limit streams disk (as_session result.0) result.1 (RunsOver D.Disk naming streams) }
 {
     match Archive::open(alloc, disk, settings) {
@@ -81,7 +81,7 @@ fn ask_alone<O: Output, D: Disk>(
     archive: &mut Archive<D>,
 ) -> Result<bool, SessionFault>
     ensures outcome { AsksAlone D.Disk (question_said question) (O.taken output.old) (O.taken output.new) result archive.old archive.new }
-    ensures session { (naming : Naming) (line : List ℕ) (before : List Durable) → IsLine line → said line ≡ question_said question
+    ensures session { (naming : Naming) (line : List ℕ) (before : List Durable) → naming.by_build ≡ false → IsLine line → said line ≡ question_said question
         → SessionEnds D.Disk naming (line_streams line (as_life result) (O.taken output.old) (O.taken output.new) (O.failures output.old) (O.failures output.new))
         (record { archive = archive.old; in_doubt = before }) archive.new (as_session result) }
 {

@@ -179,7 +179,7 @@ fn is_loose_core(case: &Entry) -> bool
 }
 
 // Tells a case that went.
-fn tell_gone<O: Output>(reply: &mut Reply<'_, O>, seq: u32)
+pub(crate) fn tell_gone<O: Output>(reply: &mut Reply<'_, O>, seq: u32)
     ensures { TellsText (telling O.Output reply.old reply.new) (dropped_line seq) }
 {
     reply.tell(b"dropped ");

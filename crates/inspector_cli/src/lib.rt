@@ -6,6 +6,7 @@ mod ask;
 mod begin;
 mod burst;
 mod copying;
+mod deleting;
 mod extract;
 mod fitting;
 mod front;
@@ -26,6 +27,7 @@ pub use ask::open_and_ask;
 pub use begin::line_stream;
 pub use burst::Burst;
 pub use copying::{CopyFault, copy_image};
+pub use deleting::open_and_delete;
 pub use extract::{ImageFault, read_image, write_image};
 pub use laws::{
     a_script_has_one_cut, a_session_is_crash_safe, a_store_is_crash_safe, a_text_is_one,

@@ -140,7 +140,7 @@ fn answer_line<I: Input, O: Output, D: Disk>(
             answer_part(slot, count, buffer, input, reply, archive)
         }
         Command::Ask(question) => {
-            let _ = answer_question(question, images, reply, archive);
+            let _ = answer_question(question.choosing(naming.by_build), images, reply, archive);
             Ok(true)
         }
         Command::Plain(request) => {
@@ -174,7 +174,7 @@ fn answer_last<O: Output, D: Disk>(
             answer_cut(slot, count, reply, archive)
         }
         Command::Ask(question) => {
-            let _ = answer_question(question, images, reply, archive);
+            let _ = answer_question(question.choosing(naming.by_build), images, reply, archive);
         }
         Command::Plain(request) => {
             images.kept = None;

@@ -5,7 +5,7 @@ use Rattle.script_words.specs.Hex.{needle_of}
 use Rattle.script_words.specs.Number.{number_of, number_within}
 use Rattle.script_lines.specs.declared.names.Needle.{Needle}
 use Rattle.script_lines.specs.declared.query.Query.{Query}
-use Rattle.script_lines.specs.declared.query.Query.TheVariants.{Image, Memory, Symbol}
+use Rattle.script_lines.specs.declared.query.Query.TheVariants.{Image, Memory, ByBuild, Symbol}
 use Rattle.script_lines.specs.declared.query.ImageQuery.{ImageQuery}
 use Rattle.script_lines.specs.declared.query.ImageQuery.TheVariants.{Header, Notes, Threads, Registers, Process, Signal, AuxiliaryVector, Files, Maps}
 use Rattle.script_lines.specs.declared.query.BuildQuery.{BuildQuery}
@@ -50,6 +50,8 @@ pub data QuerySaid : Type 0 where
   ask_builds : BuildQuery → QuerySaid
   -- the function of an executable that covers this address
   ask_symbol : ℕ → QuerySaid
+  -- the same of a core's memory, to which the executables are attached of the builds that were mapped; no line says it by itself
+  ask_by_build : QuerySaid → QuerySaid
 
 -- a query with nothing after the case
 abbrev pub alone : QuerySaid → List (List ℕ) → Option QuerySaid
@@ -157,7 +159,16 @@ memory_query (Builds asked) = ask_builds asked
 abbrev pub query_of : Query → QuerySaid
 query_of (Image query) = image_query query
 query_of (Memory query) = memory_query query
+query_of (ByBuild query) = ask_by_build (memory_query query)
 query_of (Symbol address) = ask_symbol address
+
+-- what is asked where executables are chosen by build: the lines over memory that attach them by path do so by build
+abbrev pub by_build : QuerySaid → QuerySaid
+by_build (ask_dump first length) = ask_by_build (ask_dump first length)
+by_build (ask_find needle) = ask_by_build (ask_find needle)
+by_build (ask_strings least) = ask_by_build (ask_strings least)
+by_build (ask_backtrace thread) = ask_by_build (ask_backtrace thread)
+by_build query = query
 
 -- the numbers in a query have 64 bits, a text has 1 to 1,024 bytes at least, and 1 to 64 bytes are looked for
 abbrev pub IsSayable : QuerySaid → Type 0
@@ -169,4 +180,5 @@ IsSayable (ask_backtrace thread) = thread < 2 ^ 64
 IsSayable (ask_unwind thread) = thread < 2 ^ 64
 IsSayable (ask_frame thread frame) = (thread < 2 ^ 64) × (frame < 2 ^ 64)
 IsSayable (ask_symbol address) = address < 2 ^ 64
+IsSayable (ask_by_build query) = ⊥
 IsSayable _ = Unit {0}

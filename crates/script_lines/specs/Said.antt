@@ -6,7 +6,7 @@ use Rattle.script_words.specs.Words.{words_of, is_plain_line, is_blank_or_commen
 use Rattle.script_words.specs.Number.{number_within}
 use Rattle.script_words.specs.Text.{text_of}
 use Rattle.script_lines.specs.declared.keys.Keys.TheVariants.{Core, Retire}
-use Rattle.script_lines.specs.Queries.{QuerySaid, query_rows, query_in}
+use Rattle.script_lines.specs.Queries.{QuerySaid, by_build, query_rows, query_in}
 use Rattle.script_lines.specs.Keys.{are_pairs, text_at, small_at, large_at, number_or_zero}
 
 -- what a line tells of a process that dumped core: what it leaves out is empty or 0
@@ -294,3 +294,11 @@ only_looks list_all_cases = true
 only_looks count_free = true
 only_looks (inspect_of seq query) = true
 only_looks _ = false
+
+-- what is said where executables are chosen by build, and if they are
+abbrev pub said_by_build : Said → Said
+said_by_build (inspect_of seq query) = inspect_of seq (by_build query)
+said_by_build what = what
+
+abbrev pub said_choosing : Bool → Said → Said
+said_choosing by_build what = if by_build then said_by_build what else what

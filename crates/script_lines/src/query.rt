@@ -3,7 +3,7 @@ ghost use Rattle.std.specs.Prelude.{◌≡◌, option_map};
 ghost use Rattle.script_words.specs.WordsLeft.{words_left};
 ghost use Rattle.script_words.specs.Hex.{needle_of};
 ghost use Rattle.script_words.specs.Number.{number_of, number_within};
-ghost use Rattle.script_lines.specs.Queries.{ask_dump, ask_frame, query_rows, memory_rows, build_rows, query_in, query_of, needle_bytes, alone, one_word, ranged};
+ghost use Rattle.script_lines.specs.Queries.{ask_dump, ask_frame, query_rows, memory_rows, build_rows, by_build, query_in, query_of, memory_query, needle_bytes, alone, one_word, ranged};
 
 use crate::names::Needle;
 use script_words::{Words, decode_hex, parse_number, parse_number_within};
@@ -15,11 +15,38 @@ pub enum Query {
     Image(ImageQuery),
     /// What a core and the executables that its process had mapped answer.
     Memory(MemoryQuery),
+    /// The same, where the executables are attached of the builds that were mapped, not those under the paths.
+    ByBuild(MemoryQuery),
     /// The function of an executable that covers an address.
     Symbol {
         /// The address.
         address: u64,
     },
+}
+
+impl Query {
+    /// The same query where executables are chosen by build: `dump`, `find`, `strings` and `bt` attach those of the builds that were
+    /// mapped. Any other query chooses so already, or reads no executable for a core.
+    pub(crate) fn by_build(self) -> Query
+        ensures { query_of result ≡ by_build (query_of self) }
+    {
+        match self {
+            Query::Memory(query) => memory_by_build(query),
+            query => query,
+        }
+    }
+}
+
+/// The same of a query of a core's memory.
+fn memory_by_build(query: MemoryQuery) -> Query
+    ensures { query_of result ≡ by_build (memory_query query) }
+{
+    match query {
+        MemoryQuery::Unwind { .. } => Query::Memory(query),
+        MemoryQuery::Frame { .. } => Query::Memory(query),
+        MemoryQuery::Builds(_) => Query::Memory(query),
+        _ => Query::ByBuild(query),
+    }
 }
 
 /// What an image alone answers.

@@ -2,7 +2,7 @@
 ghost use Rattle.std.specs.Prelude.{◌≡◌, ◌≤◌, length, option_map};
 ghost use Rattle.script_words.specs.WordsLeft.{words_left};
 ghost use Rattle.script_words.specs.Text.{text_of};
-ghost use Rattle.script_lines.specs.Said.{only_looks, case_alone, pins, label_text, short_label, label_said, retire_said, list_said, free_said, upgrade_said, inspect_said, case_words_said};
+ghost use Rattle.script_lines.specs.Said.{only_looks, said_choosing, case_alone, pins, label_text, short_label, label_said, retire_said, list_said, free_said, upgrade_said, inspect_said, case_words_said};
 ghost use Rattle.script_lines.specs.Commands.{question_said, call_said, label_bytes};
 ghost use Rattle.script_lines.specs.LineWords.{AreWords};
 
@@ -71,6 +71,20 @@ impl Call {
 }
 
 impl Question {
+    /// The same question where executables are chosen by build, if they are: then `dump`, `find`, `strings` and `bt` attach those of the
+    /// builds that were mapped, not those that are stored under the paths. Any other question stays.
+    pub fn choosing(self, by_build: bool) -> Question
+        ensures { question_said result ≡ said_choosing by_build (question_said self) }
+    {
+        match self {
+            Question::Inspect { seq, query } if by_build => Question::Inspect {
+                seq,
+                query: query.by_build(),
+            },
+            other => other,
+        }
+    }
+
     /// Whether the question only looks at an archive: `list`, `free` and the lines that inspect do, whatever they are answered. Any
     /// other may change what is in it.
     pub fn only_looks(&self) -> bool

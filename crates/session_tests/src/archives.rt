@@ -56,6 +56,7 @@ pub(crate) fn named(template: &[u8]) -> Result<Naming, Fail> {
     Ok(Naming {
         template: Template::parse(template)?,
         uses_pid: false,
+        by_build: false,
     })
 }
 

@@ -1,11 +1,14 @@
-// How cores are named.
+// How cases are named.
 use name_template::Template;
 
-/// How the core files that are stored are named (core(5), "Naming of core dump files").
+/// How cases are named: the core files that are stored (core(5), "Naming of core dump files"), and the executables that are looked for.
 #[derive(Drop)]
 pub struct Naming {
     /// The template of their names.
     pub template: Template,
     /// Whether `.` and the process are added to a name whose template does not show the process.
     pub uses_pid: bool,
+    /// Whether the lines over a core's memory look for executables under the names of the builds that the core tells, and not under
+    /// those of its paths alone.
+    pub by_build: bool,
 }

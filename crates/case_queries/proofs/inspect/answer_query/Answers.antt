@@ -1,6 +1,6 @@
 use Rattle.std.proofs.Common.{refl}
 use Rattle.intake.specs.Parts.{state_of}
-use Rattle.script_lines.specs.Queries.{query_of, image_query, memory_query, ask_symbol}
+use Rattle.script_lines.specs.Queries.{query_of, image_query, memory_query, ask_by_build, ask_symbol}
 use Rattle.script_streams.specs.Replies.{no_reply}
 use Rattle.case_queries.specs.InspectLaws.{inspected}
 use Rattle.case_queries.specs.Steps.{kind_asked}
@@ -27,6 +27,13 @@ returns-in-Memory-clause-answers g c =
     let told = c.answer_by_memory.ensures.answers in
     let asked = rw c.in-Memory.is at c.in-Ok.ensures.asked in
     rw c.in-Memory.is (told.0, inspected g.D.Disk c.args.archive.now c.args.seq (memory_query c.in-Memory.query) told.0 c.answer_by_memory.new.archive (kind_told g.D.Disk c.args.archive.now c.answer_by_memory.new.archive c.args.seq (memory_query c.in-Memory.query) c.in-Ok.kind _ told.0 asked told.1), told.2, told.3)
+
+pub returns-in-ByBuild-clause-answers : goal.returns-in-ByBuild-clause-answers
+returns-in-ByBuild-clause-answers g c =
+    let told = c.answer_with_builds.ensures.answers in
+    let asked = rw c.in-ByBuild.is at c.in-Ok.ensures.asked in
+    let query = ask_by_build (memory_query c.in-ByBuild.query) in
+    rw c.in-ByBuild.is (told.0, inspected g.D.Disk c.args.archive.now c.args.seq query told.0 c.answer_with_builds.new.archive (kind_told g.D.Disk c.args.archive.now c.answer_with_builds.new.archive c.args.seq query c.in-Ok.kind _ told.0 asked told.1), told.2, told.3)
 
 pub returns-in-Symbol-clause-answers : goal.returns-in-Symbol-clause-answers
 returns-in-Symbol-clause-answers g c =

@@ -1,4 +1,4 @@
-use Rattle.std.proofs.Common.{Some, Ok, Err, map, List, refl, ap, subst, ◌∙◌}
+use Rattle.std.proofs.Common.{Ok, Err, Some, map, List, refl, ap, subst, ◌∙◌}
 use Rattle.script_streams.specs.Replies.{no_reply}
 use Rattle.archive_replies.specs.Reasons.{reason_of}
 use Rattle.image_replies.specs.CoreWords.{core_bytes}

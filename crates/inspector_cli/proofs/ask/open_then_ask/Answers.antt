@@ -12,13 +12,13 @@ returns-in-Ok-asked g c = record {
     disk = c.close-disk.ensures.disk;
     goes = c.in-Ok-asked.ensures.outcome;
   };
-  crash_safe = λ naming line one is. record {
+  crash_safe = λ naming line by_path one is. record {
     opened = c.in-Ok.archive;
     opening = c.in-Ok.ensures;
     settled = λ honest b may. (durable_of g.D.Disk.seen c.in-Ok.archive, c.in-Ok.ensures.settled honest b may, inl refl);
     closed = c.ask_alone-asked.new.archive;
     disk = c.close-disk.ensures.disk;
-    goes = c.in-Ok-asked.ensures.session naming line [] one is;
+    goes = c.in-Ok-asked.ensures.session naming line [] by_path one is;
   };
 }
 
@@ -32,18 +32,18 @@ returns-in-Err-asked g c = record {
     disk = c.close-disk.ensures.disk;
     goes = c.in-Err-asked.ensures.outcome;
   };
-  crash_safe = λ naming line one is. record {
+  crash_safe = λ naming line by_path one is. record {
     opened = c.in-Ok.archive;
     opening = c.in-Ok.ensures;
     settled = λ honest b may. (durable_of g.D.Disk.seen c.in-Ok.archive, c.in-Ok.ensures.settled honest b may, inl refl);
     closed = c.ask_alone-asked.new.archive;
     disk = c.close-disk.ensures.disk;
-    goes = c.in-Err-asked.ensures.session naming line [] one is;
+    goes = c.in-Err-asked.ensures.session naming line [] by_path one is;
   };
 }
 
 pub returns-in-Err : goal.returns-in-Err
 returns-in-Err g c = record {
   outcome = (record { opening = c.in-Err.ensures; kind = λ x honest stands. c.in-Err.ensures.found_again x honest stands }, (refl, refl, refl, refl));
-  crash_safe = λ naming line one is. (record { opening = c.in-Err.ensures; kind = λ x honest stands. c.in-Err.ensures.found_again x honest stands }, (refl, refl, refl, refl));
+  crash_safe = λ naming line by_path one is. (record { opening = c.in-Err.ensures; kind = λ x honest stands. c.in-Err.ensures.found_again x honest stands }, (refl, refl, refl, refl));
 }

@@ -28,4 +28,4 @@ returns-in-Plain-clause-answers g c = λ text keeps.
 pub returns-in-Ask-clause-answers : goal.returns-in-Ask-clause-answers
 returns-in-Ask-clause-answers g c = λ text keeps.
     question_answers g.D.Disk c.args.naming.now (g.I.Input.remaining c.args.input.now) c.args.buffer.now _ c.args.archive.now c.answer_question.new.archive c.in-Ask.question (said text) c.answer_question.result
-    (c.in-Ask.ensures text keeps) c.answer_question.ensures.answers
+    (c.in-Ask.ensures text keeps) (rw c.choosing.ensures at c.answer_question.ensures.answers)

@@ -1,0 +1,10 @@
+use Rattle.std.proofs.Common.{refl}
+use Rattle.image_replies.specs.CoreWords.{core_bytes}
+use Rattle.memory_replies.specs.Answers.{memory_reply}
+use Rattle.case_queries.proofs.with_builds.tell_with_used.Goals as goal
+
+pub returns-in-Ok : goal.returns-in-Ok
+returns-in-Ok g c = rw c.in-Ok.ensures.cases at (rw c.in-Ok.ensures.attached at (c.tell_memory.ensures (core_bytes c.args.core.now) (c.whole_window.ensures c.args.query.now)))
+
+pub returns-in-Err : goal.returns-in-Err
+returns-in-Err g c = (memory_reply, refl, c.tell_no.ensures)

@@ -1,0 +1,172 @@
+// The answers to lines over a core's memory to which the executables are attached of the builds that were mapped. All of the image is read.
+ghost use Rattle.std.specs.Prelude.{◌≡◌, Ok, false, map, IfOk};
+ghost use Rattle.build_replies.specs.BuildsWords.{numbered_view};
+ghost use Rattle.image_replies.specs.CoreWords.{core_bytes};
+ghost use Rattle.memory_replies.specs.Answers.{AnswersWith, is_done};
+ghost use Rattle.memory_replies.specs.Memory.{attached_view};
+ghost use Rattle.script_lines.specs.declared.query.MemoryQuery.{MemoryQuery};
+ghost use Rattle.script_lines.specs.Queries.{ask_by_build, memory_query};
+ghost use Rattle.script_streams.specs.Replies.{TellsOutcome, TellsReply, telling};
+ghost use Rattle.case_queries.specs.CollectingWords.{executable_view, read_as};
+ghost use Rattle.case_queries.specs.Inspecting.{answer_of, used_for};
+ghost use Rattle.case_queries.specs.Keeping.{AreKept, StayCollected};
+ghost use Rattle.case_queries.specs.Seeing.{IsKept};
+ghost use Rattle.case_queries.specs.Steps.{Asks, Shows, ShowsCore};
+ghost use Rattle.case_queries.specs.Windows.{IsSeenBy};
+
+use crate::collect_executables::{LentExecutables, StoredExecutable, collect, lent};
+use crate::kept_image::{Images, kept_if, see_image};
+use crate::memory::{refused_by, tell_memory, wanted_for_builds};
+use archive_replies::reason;
+use build_replies::{ChosenExecutables, listed, told_ids};
+use disk_model::Disk;
+use image_replies::{CoreImage, tell_core_fault};
+use intake::Archive;
+use journal_layout::Kind;
+use memory_replies::{Outcome, Window};
+use script_lines::MemoryQuery;
+use script_streams::{Output, Reply, tell_no};
+use std::alloc::{AllocError, Global};
+
+// Of these executables, which are read for a core, those that are used for its mapped files, each under the name of its file; lent. The
+// error is that there is no memory.
+fn lent_used<'a>(
+    alloc: Global,
+    core: &CoreImage<'a>,
+    executables: &'a [StoredExecutable],
+) -> Result<LentExecutables<'a>, AllocError>
+    ensures attached { IfOk result (λ l. map attached_view l.attached.items ≡ used_for (core_bytes core.now) (map executable_view executables.now)) }
+    ensures cases { IfOk result (λ l. map numbered_view l.cases.items ≡ map read_as executables.now) }
+{
+    let all = lent(alloc, executables)?;
+    let told = told_ids(alloc, core)?;
+    let chosen = ChosenExecutables::of(alloc, listed(&told), &all.attached)?;
+    Ok(LentExecutables {
+        attached: chosen.used,
+        cases: all.cases,
+    })
+}
+
+// Tells what a core answers with those of these executables that are used for its mapped files.
+fn tell_with_used<O: Output>(
+    alloc: Global,
+    kind: Kind,
+    query: &MemoryQuery,
+    core: &CoreImage<'_>,
+    executables: &[StoredExecutable],
+    reply: &mut Reply<'_, O>,
+) -> Outcome
+    ensures { TellsReply (telling O.Output reply.old reply.new) (AnswersWith result (answer_of kind (ask_by_build (memory_query query.now)) (core_bytes core.now) (map read_as executables.now) (map executable_view executables.now))) }
+{
+    match lent_used(alloc, core, executables) {
+        Ok(used) => { tell_memory(alloc, kind, query, core, whole_window(core), &used, reply) }
+        Err(_) => {
+            tell_no(reply, b"OutOfMemory");
+            Outcome::OutOfMemory
+        }
+    }
+}
+
+// All bytes of a core that is read whole.
+fn whole_window<'a>(core: &CoreImage<'a>) -> Window<'a>
+    ensures { (query : MemoryQuery) → IsSeenBy query (core_bytes core.now) result.size result.at result.bytes.now (core_bytes core.now) }
+{
+    let bytes = core.elf().image();
+    Window {
+        size: bytes.len() as u64,
+        at: 0,
+        bytes,
+    }
+}
+
+// Answers a line of a core that has no fault.
+fn answer_in_core<O: Output, D: Disk>(
+    alloc: Global,
+    kind: Kind,
+    query: &MemoryQuery,
+    core: &CoreImage<'_>,
+    kept: &mut Option<Vec<StoredExecutable>>,
+    reply: &mut Reply<'_, O>,
+    archive: &mut Archive<D>,
+) -> Outcome
+    requires runs { archive.old.stopped ≡ false }
+    requires kept { StayCollected D.Disk archive.old kept.old }
+    ensures answers { TellsOutcome (telling O.Output reply.old reply.new) (λ text. ShowsCore D.Disk archive.old kind (ask_by_build (memory_query query.now)) (core_bytes core.now) text archive.new) (is_done result) }
+    ensures kept { StayCollected D.Disk archive.new kept.new }
+{
+    let wanted = wanted_for_builds(alloc, core, archive);
+    match collect(alloc, wanted, kept.take(), archive) {
+        Ok(executables) => {
+            let outcome = tell_with_used(alloc, kind, query, core, &executables, reply);
+            *kept = Some(executables);
+            outcome
+        }
+        Err(refusal) => {
+            tell_no(reply, reason(refusal));
+            refused_by(refusal)
+        }
+    }
+}
+
+// The same of an image, of which these are all bytes.
+fn answer_image<O: Output, D: Disk>(
+    alloc: Global,
+    kind: Kind,
+    query: &MemoryQuery,
+    image: &[u8],
+    kept: &mut Option<Vec<StoredExecutable>>,
+    reply: &mut Reply<'_, O>,
+    archive: &mut Archive<D>,
+) -> Outcome
+    requires runs { archive.old.stopped ≡ false }
+    requires kept { StayCollected D.Disk archive.old kept.old }
+    ensures answers { TellsOutcome (telling O.Output reply.old reply.new) (λ text. Shows D.Disk archive.old kind (ask_by_build (memory_query query.now)) image.now text archive.new) (is_done result) }
+    ensures kept { StayCollected D.Disk archive.new kept.new }
+{
+    match CoreImage::read(image) {
+        Ok(core) => answer_in_core(alloc, kind, query, &core, kept, reply, archive),
+        Err(fault) => {
+            tell_core_fault(reply, fault);
+            Outcome::Refused
+        }
+    }
+}
+
+// Answers a line over a core's memory of a case of this kind, to which the executables are attached of the builds that were mapped. Says
+// whether it was done; if not, it was refused.
+pub(crate) fn answer_with_builds<O: Output, D: Disk>(
+    seq: u32,
+    kind: Kind,
+    query: &MemoryQuery,
+    images: &mut Images,
+    reply: &mut Reply<'_, O>,
+    archive: &mut Archive<D>,
+) -> bool
+    requires runs { archive.old.stopped ≡ false }
+    requires kept { IsKept D.Disk archive.old images.old.kept }
+    requires are_kept { AreKept D.Disk archive.old images.old.kept }
+    ensures answers { TellsOutcome (telling O.Output reply.old reply.new) (λ text. Asks D.Disk archive.old seq (ask_by_build (memory_query query.now)) (Ok kind) text archive.new) result }
+    ensures kept { IsKept D.Disk archive.new images.new.kept }
+    ensures are_kept { AreKept D.Disk archive.new images.new.kept }
+{
+    match see_image(seq, images.kept.take(), archive) {
+        Ok(seen) => {
+            let mut seen = seen;
+            let outcome = answer_image(
+                images.alloc,
+                kind,
+                query,
+                &seen.image,
+                &mut seen.executables,
+                reply,
+                archive,
+            );
+            images.kept = kept_if(outcome.had_memory(), seen);
+            outcome.is_done()
+        }
+        Err(fault) => {
+            tell_no(reply, reason(fault));
+            false
+        }
+    }
+}
