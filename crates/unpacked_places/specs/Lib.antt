@@ -1,0 +1,5 @@
+pub mod Names
+pub mod Places
+pub mod PlaceViews
+pub mod PlaceLaws
+pub mod Commands
