@@ -20,6 +20,6 @@ answer None None = Err Uncovered
 abbrev pub entry_for : ℕ → TableView → TableView → Result EntryView NoEntry
 entry_for v t u = answer (option_or (first_covering v t) (first_covering v u)) (option_or (first_fault t) (first_fault u))
 
--- the same of an image
-abbrev pub entry_of : List ℕ → ℕ → Result EntryView NoEntry
-entry_of b v = entry_for v (eh_frame_of b) (debug_frame_of b)
+-- the same of an executable, and of its debug file, if there is one
+abbrev pub entry_of : List ℕ → Option (List ℕ) → ℕ → Result EntryView NoEntry
+entry_of b debug v = entry_for v (eh_frame_of b) (debug_frame_of b debug)

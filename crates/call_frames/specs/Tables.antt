@@ -58,6 +58,11 @@ no_table format = record { format = format; address = 0; bytes = [] }
 unfoldable pub eh_frame_of : List ℕ → TableView
 eh_frame_of b = unwrap_or (option_or (section_table EhFrame b (codes ".eh_frame")) (segment_table b)) (no_table EhFrame)
 
--- the section .debug_frame, else none
-unfoldable pub debug_frame_of : List ℕ → TableView
-debug_frame_of b = unwrap_or (section_table DebugFrame b (codes ".debug_frame")) (no_table DebugFrame)
+-- the section .debug_frame of an image
+abbrev pub debug_frame_in_image : List ℕ → Option TableView
+debug_frame_in_image b = section_table DebugFrame b (codes ".debug_frame")
+
+-- The section .debug_frame of an executable; if it has none, that of its debug file, if there is one; else none. The addresses in a debug file
+-- are the executable's own (GDB, "Debugging Information in Separate Files").
+unfoldable pub debug_frame_of : List ℕ → Option (List ℕ) → TableView
+debug_frame_of b debug = unwrap_or (option_or (debug_frame_in_image b) (option_and_then debug_frame_in_image debug)) (no_table DebugFrame)

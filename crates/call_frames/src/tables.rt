@@ -120,12 +120,25 @@ pub(crate) fn eh_frame<'a>(elf: &Elf<'a>) -> Table<'a>
     }
 }
 
-/// The table of the section `.debug_frame`, else one without entries.
-#[tactic(auto, unfolding(crate::specs::Tables::debug_frame_of))]
-pub(crate) fn debug_frame<'a>(elf: &Elf<'a>) -> Table<'a>
-    ensures { table_view result ≡ spec.debug_frame_of (image_of elf.now) }
+/// The section `.debug_frame` of an image, as a table.
+fn debug_frame_in<'a>(elf: &Elf<'a>) -> Option<Table<'a>>
+    ensures { option_map table_view result ≡ spec.debug_frame_in_image (image_of elf.now) }
 {
-    match section_table(elf, Format::DebugFrame, b".debug_frame") {
+    section_table(elf, Format::DebugFrame, b".debug_frame")
+}
+
+/// The table of the section `.debug_frame` of an executable, else of its debug file, else one without entries.
+#[tactic(auto, unfolding(crate::specs::Tables::debug_frame_of))]
+pub(crate) fn debug_frame<'a>(elf: &Elf<'a>, debug: Option<Elf<'a>>) -> Table<'a>
+    ensures { table_view result ≡ spec.debug_frame_of (image_of elf.now) (option_map image_of debug.entry) }
+{
+    if let Some(table) = debug_frame_in(elf) {
+        return table;
+    }
+    let Some(debug) = debug else {
+        return no_table(Format::DebugFrame);
+    };
+    match debug_frame_in(&debug) {
         Some(table) => table,
         None => no_table(Format::DebugFrame),
     }

@@ -12,7 +12,7 @@ use Rattle.build_replies.specs.ChoosingLaws.{IsDebugOf, choice_plain, each_debug
 use Rattle.memory_replies.specs.Memory.{is_attached, mapped_files, memory_of}
 use Rattle.memory_replies.specs.Naming.{NamedFile, with_debug}
 use Rattle.symbols.specs.Offsets.{address_of}
-use Rattle.unwind.specs.Code.{CodeView, ProcessView, code_at, code_of, missing}
+use Rattle.unwind.specs.Code.{CodeFile, CodeView, ProcessView, code_at, code_of, has_path, missing}
 use Rattle.unwind.specs.Reasons.{checked}
 use Rattle.unwind.specs.Unwinding.{unwound}
 use Rattle.unwind.specs.declared.faults.Stop.{Stop}
@@ -21,7 +21,7 @@ use Rattle.unwind.specs.declared.frame.Frame.{Frame}
 use Rattle.frame_replies.specs.Choices.{AreNoDebugFiles, IsBuildOf, IsOwnBuild, by_path_alone, frame_by_path, process_of, spot_of_frame, unwind_by_path}
 use Rattle.frame_replies.specs.FrameLines.{unwind_answer, unwound_answer, unwound_lines}
 use Rattle.frame_replies.specs.FrameRegisters.{frame_answer, one_frame_answer, registers_of}
-use Rattle.frame_replies.specs.Processes.{named_among, of_thread, process_in, start_of, state_of}
+use Rattle.frame_replies.specs.Processes.{named_among, of_thread, process_in, start_of, state_of, with_code}
 
 module _ {A : Type 0} (P : A → Type 0) where
   all_passed : (p : A → Bool) (xs : List A) → AllByRecursion P xs → AllByRecursion P (filter p xs)
@@ -43,6 +43,9 @@ module _ {A : Type 0} (P : A → Type 0) where
         | inr failed ↦ all_found p ys x all.1 (sym (ap (λ t. cond t (Some y) (find p ys)) failed) ∙ is)
       ]
 
+abbrev IsOwnCode : List ℕ → CodeFile → Type 0
+IsOwnCode b x = IsOwnBuild b x.file
+
 used_own : (b : List ℕ) (stored : List ExecutableView) → AllByRecursion (IsOwnBuild b) (choice_for b stored).used
 unfolding choice_for
 used_own b stored = each_own (core_fronts b) stored (once (map name_of (mapped_files b)))
@@ -55,9 +58,14 @@ pub debugs_own : (b : List ℕ) (stored : List ExecutableView) → AllByRecursio
 unfolding choice_for
 debugs_own b stored = each_debug stored (told_files b)
 
-pub attached_own : (b : List ℕ) (stored : List ExecutableView) → AllByRecursion (IsOwnBuild b) (process_of b stored).executables
+each_code : (b : List ℕ) (debugs xs : List ExecutableView) → AllByRecursion (IsOwnBuild b) xs → AllByRecursion (IsOwnCode b) (map (with_code debugs) xs)
+each_code b debugs [] all = tt
+each_code b debugs (x ∷ xs) all = (all.0, each_code b debugs xs all.1)
+
+pub attached_own : (b : List ℕ) (stored : List ExecutableView) → AllByRecursion (IsOwnCode b) (process_of b stored).executables
 unfolding process_in memory_of
-attached_own b stored = all_passed (IsOwnBuild b) is_attached (choice_for b stored).used (used_own b stored)
+attached_own b stored =
+    each_code b (choice_for b stored).debugs (filter is_attached (choice_for b stored).used) (all_passed (IsOwnBuild b) is_attached (choice_for b stored).used (used_own b stored))
 
 each_named : (b : List ℕ) (debugs xs : List ExecutableView) → AllByRecursion (IsOwnBuild b) xs → AllByRecursion (λ (n : NamedFile). IsOwnBuild b n.file) (map (with_debug debugs) xs)
 each_named b debugs [] all = tt
@@ -66,23 +74,25 @@ each_named b debugs (x ∷ xs) all = (all.0, each_named b debugs xs all.1)
 pub named_own : (b : List ℕ) (stored : List ExecutableView) → AllByRecursion (λ (n : NamedFile). IsOwnBuild b n.file) (named_among (choice_for b stored))
 named_own b stored = each_named b (choice_for b stored).debugs (filter is_attached (choice_for b stored).used) (all_passed (IsOwnBuild b) is_attached (choice_for b stored).used (used_own b stored))
 
-abbrev code_by : ExecutableView → ℕ → Result CodeView Stop
-code_by x v = Ok (record { image = x.image; address = v })
+abbrev code_by : CodeFile → ℕ → Result CodeView Stop
+code_by x v = Ok (record { image = x.file.image; debug = x.debug; address = v })
 
-abbrev in_executable : SpotView → ExecutableView → Result CodeView Stop
-in_executable spot x = checked (address_of x.image spot.offset) NoAddress (code_by x)
+abbrev in_executable : SpotView → CodeFile → Result CodeView Stop
+in_executable spot x = checked (address_of x.file.image spot.offset) NoAddress (code_by x)
 
-image_in : (x : ExecutableView) (o : Option ℕ) (code : CodeView) → checked o NoAddress (code_by x) ≡ Ok code → x.image ≡ code.image
+image_in : (x : CodeFile) (o : Option ℕ) (code : CodeView) → checked o NoAddress (code_by x) ≡ Ok code → x.file.image ≡ code.image
 image_in x None code is = absurd (false≢true (ap is_ok is))
-image_in x (Some v) code is = let same : code_by x v ≡ Ok code = is in let one : record { image = x.image; address = v } ≡ code = cc in ap (λ (k : CodeView). k.image) one
+image_in x (Some v) code is =
+    let same : code_by x v ≡ Ok code = is in
+    let one : record { image = x.file.image; debug = x.debug; address = v } ≡ code = cc in ap (λ (k : CodeView). k.image) one
 
-code_found : (o : Option ExecutableView) (stop : Stop) (spot : SpotView) (code : CodeView) → checked o stop (in_executable spot) ≡ Ok code → (x : ExecutableView) × (o ≡ Some x) × (x.image ≡ code.image)
+code_found : (o : Option CodeFile) (stop : Stop) (spot : SpotView) (code : CodeView) → checked o stop (in_executable spot) ≡ Ok code → (x : CodeFile) × (o ≡ Some x) × (x.file.image ≡ code.image)
 code_found None stop spot code is = absurd (false≢true (ap is_ok is))
-code_found (Some x) stop spot code is = (x, refl, image_in x (address_of x.image spot.offset) code is)
+code_found (Some x) stop spot code is = (x, refl, image_in x (address_of x.file.image spot.offset) code is)
 
-code_in : (xs others : List ExecutableView) (spot : SpotView) (code : CodeView) → code_at xs others spot ≡ Ok code → (x : ExecutableView) × (find (is_named spot.name) xs ≡ Some x) × (x.image ≡ code.image)
+code_in : (xs : List CodeFile) (others : List ExecutableView) (spot : SpotView) (code : CodeView) → code_at xs others spot ≡ Ok code → (x : CodeFile) × (find (has_path spot.name) xs ≡ Some x) × (x.file.image ≡ code.image)
 unfolding code_at
-code_in xs others spot code is = code_found (find (is_named spot.name) xs) (missing others spot.name) spot code is
+code_in xs others spot code is = code_found (find (has_path spot.name) xs) (missing others spot.name) spot code is
 
 code_there : (p : ProcessView) (f : Frame) (spot : SpotView) (code : CodeView) → spot_of_frame p f ≡ Some spot → code_of p f ≡ Ok code → code_at p.executables p.others spot ≡ Ok code
 unfolding code_of
@@ -93,9 +103,9 @@ pub code_own : (b : List ℕ) (stored : List ExecutableView) (f : Frame) (spot :
 code_own b stored f spot code at is =
     let p = process_of b stored in
     let found = code_in p.executables p.others spot code (code_there p f spot code at is) in
-    let own = all_found (IsOwnBuild b) (is_named spot.name) p.executables found.0 (attached_own b stored) found.1 in
-    let named : found.0.path ≡ spot.name = (bytes_eq-Decides found.0.path spot.name).0 own.1 in
-    subst (λ image. IsBuildOf b spot.name image) found.2 (subst (λ path. IsBuildOf b path found.0.image) named own.0)
+    let own = all_found (IsOwnCode b) (has_path spot.name) p.executables found.0 (attached_own b stored) found.1 in
+    let named : found.0.file.path ≡ spot.name = (bytes_eq-Decides found.0.file.path spot.name).0 own.1 in
+    subst (λ image. IsBuildOf b spot.name image) found.2 (subst (λ path. IsBuildOf b path found.0.file.image) named own.0)
 
 -- those that pass one test are among those that pass another
 filter_within : {A : Type 0} (p q : A → Bool) → ((x : A) → p x ≡ true → q x ≡ true) → (xs : List A) → filter p (filter q xs) ≡ filter p xs
@@ -114,10 +124,10 @@ filter_within p q in_all (x ∷ xs) =
           ])
     ]
 
-process_from : List ℕ → List ExecutableView → ProcessView
-process_from b attached = record {
+process_from : List ℕ → List ExecutableView → List ExecutableView → ProcessView
+process_from b debugs attached = record {
   space = record { segments = segments_of b; files = mapped_files b; executables = attached };
-  executables = attached;
+  executables = map (with_code debugs) attached;
   others = [];
   start = start_of b;
 }
@@ -139,7 +149,7 @@ module _ (b : List ℕ) (stored : List ExecutableView) (unknown : (path : List �
 
   process_plain : process_in b plain ≡ process_in b (by_path_alone b stored)
   unfolding process_in memory_of process_from
-  process_plain = ap (process_from b) (filter_within is_attached is_attached (λ x h. h) under)
+  process_plain = ap (process_from b plain.debugs) (filter_within is_attached is_attached (λ x h. h) under)
 
   named_plain : named_among plain ≡ named_among (by_path_alone b stored)
   named_plain = ap (map (with_debug plain.debugs)) (filter_within is_attached is_attached (λ x h. h) under)

@@ -1,15 +1,16 @@
 -- The process of a core, as its frames are unwound.
-use Rattle.std.specs.Prelude.{ℕ, ◌==◌, Bool, List, find, slice_get, Option, None, Some, Result, Err, codes}
-use Rattle.std.specs.Option.{option_map}
+use Rattle.std.specs.Prelude.{ℕ, ◌==◌, if◌then◌else◌, Bool, List, find, map, slice_get, Option, None, Some, Result, Err, codes}
+use Rattle.std.specs.Option.{option_and_then, option_map}
+use Rattle.address_space.specs.Source.{ExecutableView, is_named}
 use Rattle.build_replies.specs.Choosing.{Choice}
 use Rattle.core_notes.specs.Descriptor.{pairs_of}
 use Rattle.core_notes.specs.Typed.{all_descs, first_desc}
 use Rattle.core_notes.specs.declared.auxiliary.AuxvPair.{AuxvPair}
 use Rattle.elf_view.specs.ViewWords.{notes_of}
 use Rattle.elf_view.specs.declared.faults.Want.TheVariants.{Core}
-use Rattle.memory_replies.specs.Memory.{memory_of}
+use Rattle.memory_replies.specs.Memory.{is_attached, memory_of}
 use Rattle.memory_replies.specs.Naming.{NamedFile, named_files}
-use Rattle.unwind.specs.Code.{ProcessView}
+use Rattle.unwind.specs.Code.{CodeFile, ProcessView}
 
 -- AT_ENTRY (9), the address where the program begins (getauxval(3))
 abbrev pub is_start : AuxvPair → Bool
@@ -28,12 +29,20 @@ start_by (Some desc) = start_among (pairs_of desc)
 abbrev pub start_of : List ℕ → Option ℕ
 start_of b = start_by (first_desc 6 (notes_of Core b))
 
--- The memory of the process, the executables that are attached to it, which are those that are used, those that aren't, since
--- they are of another build, and where the program begins.
+-- its image, if its headers have no fault
+abbrev pub sound_image : ExecutableView → Option (List ℕ)
+sound_image x = if is_attached x then Some x.image else None
+
+-- an executable with the debug file of its path
+abbrev pub with_code : List ExecutableView → ExecutableView → CodeFile
+with_code debugs x = record { file = x; debug = option_and_then sound_image (find (is_named x.path) debugs) }
+
+-- The memory of the process, the executables that are attached to it, which are those that are used, each with its debug file, those
+-- that aren't, since they are of another build, and where the program begins.
 unfoldable pub process_in : List ℕ → Choice → ProcessView
 process_in b choice = record {
   space = memory_of b choice.used;
-  executables = (memory_of b choice.used).executables;
+  executables = map (with_code choice.debugs) (memory_of b choice.used).executables;
   others = choice.others;
   start = start_of b;
 }

@@ -13,7 +13,7 @@ use Rattle.elf_view.specs.Header.{SegmentView, segments_of}
 use Rattle.image_replies.specs.Lines.{numbered_lines}
 use Rattle.memory_replies.specs.Memory.{is_attached, mapped_files, memory_of}
 use Rattle.memory_replies.specs.Naming.{NamedFile}
-use Rattle.unwind.specs.Code.{ProcessView}
+use Rattle.unwind.specs.Code.{CodeFile, ProcessView}
 use Rattle.unwind.specs.Unwinding.{unwound, stop_of}
 use Rattle.unwind.specs.declared.faults.Stop.{Stop}
 use Rattle.unwind.specs.declared.frame.Frame.{Frame}
@@ -21,7 +21,7 @@ use Rattle.frame_replies.specs.FrameLines.{printed, stop_line, unwind_answer, un
 use Rattle.frame_replies.specs.FrameRegisters.{frame_answer, one_frame_answer, registers_of}
 use Rattle.frame_replies.specs.FrameValues.{FrameValue, ThreadFrames, frame_value, frames_of, thread_frames, value_with}
 use Rattle.frame_replies.specs.ProcessWords.{described_view, named_in}
-use Rattle.frame_replies.specs.Processes.{named_among, of_thread, process_in, start_of, state_of}
+use Rattle.frame_replies.specs.Processes.{named_among, of_thread, process_in, start_of, state_of, with_code}
 use Rattle.frame_replies.specs.Walking.{AreMarked, BeginsAt, HasFound, IsProcessOf, IsWalkOf, IsWalked, WalksOn, found, process_by, walked_line, walked_value}
 use Rattle.frame_replies.specs.declared.process.UnwoundProcess.{UnwoundProcess}
 use Rattle.frame_replies.specs.declared.walk.Walk.{Walk}
@@ -97,10 +97,10 @@ module _ (image : List ℕ) (xs : List ExecutableView) (t : ℕ) (none : state_o
   unfolding frame_answer
   frame_missing i = sym (ap (of_thread (one_frame_answer image (choice_for image xs) i)) none)
 
-process_made : List SegmentView → List FileView → List ExecutableView → List ExecutableView → List ExecutableView → Option ℕ → ProcessView
+process_made : List SegmentView → List FileView → List ExecutableView → List CodeFile → List ExecutableView → Option ℕ → ProcessView
 process_made segments files attached executables others start = record { space = record { segments = segments; files = files; executables = attached }; executables = executables; others = others; start = start }
 
-process_of_space : Space → List ℕ → List ExecutableView → List ExecutableView → Option ℕ → ProcessView
+process_of_space : Space → List ℕ → List CodeFile → List ExecutableView → Option ℕ → ProcessView
 process_of_space space image executables others start = record { space = space_in image space; executables = executables; others = others; start = start }
 
 -- the process of an image, of which the core is the first bytes
@@ -108,11 +108,12 @@ process_is : (front image : List ℕ) (choice : Choice) (p : UnwoundProcess) →
 unfolding process_in memory_of process_made process_of_space
 process_is front image choice p is files starts =
     let attached = filter is_attached choice.used in
+    let codes = map (with_code choice.debugs) attached in
     ap (λ (s : Space). process_of_space s image (map described_view p.described.items) (map attached_view p.others.items) p.start) is.memory
     ∙ ap (λ (fs : List FileView). process_made (segments_of image) fs attached (map described_view p.described.items) (map attached_view p.others.items) p.start) files
-    ∙ ap (λ (xs : List ExecutableView). process_made (segments_of image) (mapped_files image) attached xs (map attached_view p.others.items) p.start) is.described
-    ∙ ap (λ (xs : List ExecutableView). process_made (segments_of image) (mapped_files image) attached attached xs p.start) is.others
-    ∙ ap (process_made (segments_of image) (mapped_files image) attached attached choice.others) (is.start ∙ starts)
+    ∙ ap (λ (xs : List CodeFile). process_made (segments_of image) (mapped_files image) attached xs (map attached_view p.others.items) p.start) is.described
+    ∙ ap (λ (xs : List ExecutableView). process_made (segments_of image) (mapped_files image) attached codes xs p.start) is.others
+    ∙ ap (process_made (segments_of image) (mapped_files image) attached codes choice.others) (is.start ∙ starts)
 
 -- a walk that begins
 pub walk_begins : (front image : List ℕ) (xs : List ExecutableView) (choice : Choice) (t : ℕ) (p : UnwoundProcess) (w : Walk) → IsProcessOf front choice p → choice ≡ choice_for image xs → mapped_files front ≡ mapped_files image → start_of front ≡ start_of image → state_of front t ≡ state_of image t → BeginsAt (state_of front t) w → IsWalkOf image xs t p w

@@ -19,7 +19,7 @@ use Rattle.unwind.specs.declared.frame.Frame.{Frame}
 use Rattle.frame_replies.specs.FrameLines.{value_line}
 use Rattle.frame_replies.specs.FrameValues.{FrameValue, value_with}
 use Rattle.frame_replies.specs.ProcessWords.{described_view, named_in}
-use Rattle.frame_replies.specs.Processes.{named_among, process_in, start_of, state_of}
+use Rattle.frame_replies.specs.Processes.{named_among, process_in, start_of, state_of, with_code}
 use Rattle.frame_replies.specs.declared.process.UnwoundProcess.{UnwoundProcess}
 use Rattle.frame_replies.specs.declared.walk.Walk.{Walk}
 use Rattle.frame_replies.specs.declared.walk.WalkedFrame.{WalkedFrame}
@@ -31,7 +31,7 @@ pub record IsProcessOf (b : List ℕ) (choice : Choice) (p : UnwoundProcess) : T
   pub memory : space_of p.space ≡ memory_of b choice.used
   pub core : core_of p.space ≡ b
   pub named : named_in p.images ≡ named_among choice
-  pub described : map described_view p.described.items ≡ filter is_attached choice.used
+  pub described : map described_view p.described.items ≡ map (with_code choice.debugs) (filter is_attached choice.used)
   pub others : map attached_view p.others.items ≡ choice.others
   pub start : p.start ≡ start_of b
 

@@ -1,5 +1,6 @@
 // An executable with its call frame information.
 ghost use Rattle.std.specs.Prelude.{◌≡◌};
+ghost use Rattle.std.specs.Option.{option_map};
 ghost use Rattle.elf_view.specs.ViewWords.{image_of};
 ghost use Rattle.call_frames.specs.FindingWords.{debug_frame_in, eh_frame_in};
 ghost use Rattle.call_frames.specs.Tables.{debug_frame_of, eh_frame_of};
@@ -7,12 +8,14 @@ ghost use Rattle.call_frames.specs.Tables.{debug_frame_of, eh_frame_of};
 use call_frames::CallFrames;
 use elf_view::Elf;
 
-/// An executable whose headers have no fault, with its call frame information.
+/// An executable whose headers have no fault, with its debug file, if it has one whose headers have none, and the call frame information
+/// of both.
 #[derive(Drop)]
 pub(crate) struct Described<'a> {
     pub path: &'a [u8],
     pub elf: Elf<'a>,
+    pub debug: Option<Elf<'a>>,
     pub frames: CallFrames<'a>,
     ghost eh_frame: { eh_frame_in frames ≡ eh_frame_of (image_of elf) },
-    ghost debug_frame: { debug_frame_in frames ≡ debug_frame_of (image_of elf) },
+    ghost debug_frame: { debug_frame_in frames ≡ debug_frame_of (image_of elf) (option_map image_of debug) },
 }

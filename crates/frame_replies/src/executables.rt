@@ -1,9 +1,12 @@
-// The executables that are attached for mapped files, with their call frame information.
-ghost use Rattle.std.specs.Prelude.{◌≡◌, ◌++◌, ◌∷◌, [], IfOk, OnOk, filter, map};
-ghost use Rattle.std.specs.Option.{option_map};
+// The executables that are attached for mapped files, with their call frame information and that of their debug files.
+ghost use Rattle.std.specs.Prelude.{◌≡◌, ◌++◌, ◌∷◌, [], IfOk, OnOk, filter, find, map};
+ghost use Rattle.std.specs.Option.{option_and_then, option_map};
+ghost use Rattle.address_space.specs.Source.{is_named};
+ghost use Rattle.elf_view.specs.ViewWords.{image_of};
 ghost use Rattle.memory_replies.specs.Memory.{attached_view, is_attached};
 ghost use Rattle.unwind.specs.Words.{executable_view};
 ghost use Rattle.frame_replies.specs.ProcessWords.{described_view, if_attached};
+ghost use Rattle.frame_replies.specs.Processes.{sound_image, with_code};
 
 use crate::described::Described;
 use address_space::Attached;
@@ -12,21 +15,36 @@ use elf_view::{Elf, Want};
 use std::alloc::{AllocError, Global};
 use unwind::UnwoundExecutable;
 
-/// Reads the call frame information of an executable. `None` is one whose headers have a fault; the error is that there is no
-/// memory.
+/// The debug file of that path, if its headers have no fault.
+fn debug_file<'a>(path: &[u8], debugs: &[Attached<'a>]) -> Option<Elf<'a>>
+    ensures { option_map image_of result ≡ option_and_then sound_image (find (is_named path.now) (map attached_view debugs.now)) }
+{
+    for debug in debugs {
+        if debug.path == path {
+            return Elf::read(debug.image, Want::Exec).ok();
+        }
+    }
+    None
+}
+
+/// Reads the call frame information of an executable and of its debug file. `None` is one whose headers have a fault; the error is that
+/// there is no memory.
 fn read_described<'a>(
     alloc: Global,
     executable: Attached<'a>,
+    debugs: &[Attached<'a>],
 ) -> Result<Option<Described<'a>>, AllocError>
-    ensures { IfOk result (λ found. option_map described_view found ≡ if_attached (attached_view executable.entry)) }
+    ensures { IfOk result (λ found. option_map described_view found ≡ if_attached (map attached_view debugs.now) (attached_view executable.entry)) }
 {
     let Ok(elf) = Elf::read(executable.image, Want::Exec) else {
         return Ok(None);
     };
-    let frames = CallFrames::read(alloc, &elf)?;
+    let debug = debug_file(executable.path, debugs);
+    let frames = CallFrames::read(alloc, &elf, debug)?;
     Ok(Some(Described {
         path: executable.path,
         elf,
+        debug,
         frames,
     }))
 }
@@ -36,26 +54,30 @@ fn add<'a>(
     alloc: Global,
     list: &mut Vec<Described<'a>>,
     executable: Attached<'a>,
+    debugs: &[Attached<'a>],
 ) -> Result<(), AllocError>
     ensures { OnOk result (map described_view list.new.items
-        ≡ map described_view list.old.items ++ filter is_attached (attached_view executable.entry ∷ [])) }
+        ≡ map described_view list.old.items ++ map (with_code (map attached_view debugs.now)) (filter is_attached (attached_view executable.entry ∷ []))) }
 {
-    if let Some(image) = read_described(alloc, executable)? {
+    if let Some(image) = read_described(alloc, executable, debugs)? {
         list.push(image)?;
     }
     Ok(())
 }
 
-/// Those of the executables whose headers have no fault, in their order. The error is that there is no memory.
+/// Those of the executables whose headers have no fault, in their order, each with the debug file of its path. The error is that there is
+/// no memory.
 pub(crate) fn all_described<'a>(
     alloc: Global,
     attached: &[Attached<'a>],
+    debugs: &[Attached<'a>],
 ) -> Result<Vec<Described<'a>>, AllocError>
-    ensures { IfOk result (λ list. map described_view list.items ≡ filter is_attached (map attached_view attached.now)) }
+    ensures { IfOk result (λ list. map described_view list.items
+        ≡ map (with_code (map attached_view debugs.now)) (filter is_attached (map attached_view attached.now))) }
 {
     let mut list = Vec::new(alloc);
     for executable in attached {
-        add(alloc, &mut list, *executable)?;
+        add(alloc, &mut list, *executable, debugs)?;
     }
     Ok(list)
 }
@@ -72,6 +94,7 @@ pub(crate) fn lent<'e, 'a>(
         all.push(UnwoundExecutable {
             path: image.path,
             elf: image.elf,
+            debug: image.debug,
             frames: &image.frames,
         })?;
     }

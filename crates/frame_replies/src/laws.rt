@@ -5,7 +5,7 @@ ghost use Rattle.address_space.specs.Source.{ExecutableView, SpotView};
 ghost use Rattle.build_replies.specs.Choosing.{choice_for, told_id};
 ghost use Rattle.build_replies.specs.ChoosingLaws.{IsDebugOf};
 ghost use Rattle.memory_replies.specs.Naming.{NamedFile};
-ghost use Rattle.unwind.specs.Code.{CodeView, code_of};
+ghost use Rattle.unwind.specs.Code.{CodeFile, CodeView, code_of};
 ghost use Rattle.unwind.specs.declared.faults.Stop as stops;
 ghost use Rattle.unwind.specs.declared.frame.Frame as frames;
 ghost use Rattle.frame_replies.specs.Choices.{AreNoDebugFiles, IsBuildOf, IsOwnBuild, frame_by_path, process_of, spot_of_frame, unwind_by_path};
@@ -32,7 +32,7 @@ pub fn each_frame_shown_stands_on_a_rule()
 /// names its functions, has that ID, and so has the one in which the code of a frame is found. A debug file that names functions of a
 /// mapped file is that of the build of an executable that is used for it. It does nothing.
 pub fn never_another()
-    ensures attached { (b : List ℕ) (stored : List ExecutableView) → AllByRecursion (IsOwnBuild b) (process_of b stored).executables }
+    ensures attached { (b : List ℕ) (stored : List ExecutableView) → AllByRecursion (λ (x : CodeFile). IsOwnBuild b x.file) (process_of b stored).executables }
     ensures named { (b : List ℕ) (stored : List ExecutableView) → AllByRecursion (λ (n : NamedFile). IsOwnBuild b n.file) (named_among (choice_for b stored)) }
     ensures debugs { (b : List ℕ) (stored : List ExecutableView) → AllByRecursion (IsDebugOf (choice_for b stored).used) (choice_for b stored).debugs }
     ensures no_debug { (b : List ℕ) (stored : List ExecutableView) → AreNoDebugFiles (choice_for b stored).used }

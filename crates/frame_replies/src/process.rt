@@ -40,7 +40,7 @@ fn start_of(core: &CoreImage<'_>) -> Option<u64>
     start_among(vector.pairs())
 }
 
-/// The process of a core: its memory, the executables that are attached, with their call frame information, their symbols and those of
+/// The process of a core: its memory, the executables that are attached, with their call frame information and their symbols and those of
 /// their debug files, those that are not, since they are of another build, and where the program begins.
 #[derive(Drop)]
 pub struct UnwoundProcess<'a> {
@@ -65,7 +65,7 @@ impl<'a> UnwoundProcess<'a> {
     {
         let space = space_with(alloc, core, &chosen.used)?;
         let images = named_executables(alloc, &chosen.used, &chosen.debugs)?;
-        let described = all_described(alloc, &chosen.used)?;
+        let described = all_described(alloc, &chosen.used, &chosen.debugs)?;
         Ok(UnwoundProcess {
             space,
             images,

@@ -166,9 +166,9 @@ covering_led space start f g e v h =
 
 abbrev pub IsCovered : Space → Option ℕ → Frame → Frame → CodeView → Type 0
 IsCovered space start f g code =
-    (e : EntryView) × (row : Row) × (a : ℕ) × (entry_of code.image code.address ≡ Ok e) × (holds_start start f code.address e ≡ false) × IsLed space f g e code.address row a
+    (e : EntryView) × (row : Row) × (a : ℕ) × (entry_of code.image code.debug code.address ≡ Ok e) × (holds_start start f code.address e ≡ false) × IsLed space f g e code.address row a
 
-found_led : (space : Space) (start : Option ℕ) (f g : Frame) (code : CodeView) (r : Result EntryView entries.NoEntry) → entry_of code.image code.address ≡ r → led.by_found space start f code r ≡ Ok g → IsCovered space start f g code ⊎ ((entry_of code.image code.address ≡ Err Uncovered) × (calls.by_stub code f ≡ Some g))
+found_led : (space : Space) (start : Option ℕ) (f g : Frame) (code : CodeView) (r : Result EntryView entries.NoEntry) → entry_of code.image code.debug code.address ≡ r → led.by_found space start f code r ≡ Ok g → IsCovered space start f g code ⊎ ((entry_of code.image code.debug code.address ≡ Err Uncovered) × (calls.by_stub code f ≡ Some g))
 found_led space start f g code (Ok e) is h =
     let rest = covering_led space start f g e code.address h in inl (e, rest.0, rest.1, is, rest.2, rest.3)
 found_led space start f g code (Err (Faulty fault)) is h = cc
@@ -186,7 +186,7 @@ unfolding led.by_code
 code_led p f g code is h =
     ⊎_elim (λ covered. by_fde code is covered)
     (λ stub. let made = stub_made code f g stub.1 in by_bare_call (inr (code, is, (stub.0, made.0))) made.1)
-    (found_led p.space p.start f g code (entry_of code.image code.address) refl h)
+    (found_led p.space p.start f g code (entry_of code.image code.debug code.address) refl h)
 
 entry_led : (p : ProcessView) (f g : Frame) → led.by_entry p f ≡ Ok g → Led p f g
 unfolding led.by_entry
@@ -329,7 +329,7 @@ pub nothing_guessed : (p : ProcessView) (n : ℕ) (f : Frame) → trampolines.is
 nothing_guessed p n f none code bare = stopped_by p n f (next p n f) refl (λ g. not_led p f g none code bare)
 
 -- nothing called the code where the program begins
-pub start_last : (p : ProcessView) (n : ℕ) (f : Frame) (code : CodeView) (e : EntryView) → trampolines.is_trampoline p.space f.pc ≡ false → calls.is_no_code p.space f.pc ≡ false → code_of p f ≡ Ok code → entry_of code.image code.address ≡ Ok e → holds_start p.start f code.address e ≡ true → next p n f ≡ Err Outermost
+pub start_last : (p : ProcessView) (n : ℕ) (f : Frame) (code : CodeView) (e : EntryView) → trampolines.is_trampoline p.space f.pc ≡ false → calls.is_no_code p.space f.pc ≡ false → code_of p f ≡ Ok code → entry_of code.image code.debug code.address ≡ Ok e → holds_start p.start f code.address e ≡ true → next p n f ≡ Err Outermost
 unfolding next by_rules calls.by_call led.by_entry led.by_code
 start_last p n f code e none has is covers starts =
     ap (λ t. bounded n (cond t (trampolines.by_trampoline p.space f) (call_or (calls.by_call p.space f) (led.by_entry p f)))) none

@@ -7,7 +7,6 @@ use Rattle.std.specs.Option.{option_and_then, option_or}
 use Rattle.std.specs.Prelude.{find, is_some}
 use Rattle.address_space.specs.Source.{ExecutableView, Space, SpotView, entry_at, is_named, spot_of}
 use Rattle.call_frames.specs.Covering.{covers}
-use Rattle.call_frames.specs.Compressed.{has_compressed}
 use Rattle.call_frames.specs.Entry as entries
 use Rattle.call_frames.specs.Entry.{EntryView, TableView}
 use Rattle.call_frames.specs.Finding.{answer, entry_of}
@@ -26,8 +25,9 @@ use Rattle.frame_rows.specs.declared.rows.Rule.TheVariants.{Undefined, Same, Off
 use Rattle.symbols.specs.Offsets.{address_of}
 use Rattle.unwind.specs.ByCall as calls
 use Rattle.unwind.specs.ByEntry as led
+use Rattle.unwind.specs.ByEntry.{is_compressed}
 use Rattle.unwind.specs.ByTrampoline as trampolines
-use Rattle.unwind.specs.Code.{CodeView, ProcessView, code_at, code_of, looked_up, missing, missing_by}
+use Rattle.unwind.specs.Code.{CodeFile, CodeView, ProcessView, code_at, code_of, has_path, looked_up, missing, missing_by}
 use Rattle.unwind.specs.FrameWords.{frames_left, stop_left}
 use Rattle.unwind.specs.InTurn.{GiveInTurn, GiveLast, HasAddress, HasFault, IsCodeAt, IsUncovered, IsWritten, CallersAreOfTheirCalls, NoEntryIsPassedOver, NoFaultIsHidden, NoNextFunctionIsACaller, ReturnAddressesAreUnknown, ReturnAddressesAreUsedOnce}
 use Rattle.unwind.specs.Reasons.{checked, and_then, stop_if}
@@ -95,10 +95,10 @@ unfolding code_of code_at
 code_found p f code h =
     let spot = checked_ok (option_and_then (λ a. spot_of a (entry_at p.space.files a)) (looked_up f)) stops.NoFile (code_at p.executables p.others) code h in
     let at = spot_found (λ a. spot_of a (entry_at p.space.files a)) (looked_up f) spot.0 spot.1 in
-    let x = checked_ok (find (is_named spot.0.name) p.executables) (missing p.others spot.0.name) _ code spot.2 in
-    let v = checked_ok (address_of x.0.image spot.0.offset) stops.NoAddress _ code x.2 in
-    let same : ok_code (record { image = x.0.image; address = v.0 }) ≡ ok_code code = v.2 in
-    let is : (record { image = x.0.image; address = v.0 }) ≡ code = cc in (
+    let x = checked_ok (find (has_path spot.0.name) p.executables) (missing p.others spot.0.name) _ code spot.2 in
+    let v = checked_ok (address_of x.0.file.image spot.0.offset) stops.NoAddress _ code x.2 in
+    let same : ok_code (record { image = x.0.file.image; debug = x.0.debug; address = v.0 }) ≡ ok_code code = v.2 in
+    let is : (record { image = x.0.file.image; debug = x.0.debug; address = v.0 }) ≡ code = cc in (
       at.0,
       at.1,
       record {
@@ -107,6 +107,7 @@ code_found p f code h =
         executable = x.0;
         named = x.1;
         image = sym (ap (λ (k : CodeView). k.image) is);
+        debug = sym (ap (λ (k : CodeView). k.debug) is);
         placed = v.1 ∙ ap (λ (k : CodeView). Some k.address) is;
       },
     )
@@ -126,14 +127,17 @@ same_code : (p : ProcessView) (a : ℕ) (c d : CodeView) → IsCodeAt p a c → 
 same_code p a c d x y =
     let spots : Some x.spot ≡ Some y.spot = sym x.mapped ∙ y.mapped in
     let spot : x.spot ≡ y.spot = cc in
-    let found : Some x.executable ≡ Some y.executable = sym x.named ∙ ap (λ (s : SpotView). find (is_named s.name) p.executables) spot ∙ y.named in
+    let found : Some x.executable ≡ Some y.executable = sym x.named ∙ ap (λ (s : SpotView). find (has_path s.name) p.executables) spot ∙ y.named in
     let executable : x.executable ≡ y.executable = cc in
     let places : Some c.address ≡ Some d.address =
-    sym x.placed ∙ ap (λ (s : SpotView). address_of x.executable.image s.offset) spot ∙ ap (λ (e : ExecutableView). address_of e.image y.spot.offset) executable ∙ y.placed in
+    sym x.placed ∙ ap (λ (s : SpotView). address_of x.executable.file.image s.offset) spot ∙ ap (λ (e : CodeFile). address_of e.file.image y.spot.offset) executable ∙ y.placed in
     let address : c.address ≡ d.address = cc in
-    let image : c.image ≡ d.image = x.image ∙ ap (λ (e : ExecutableView). e.image) executable ∙ sym y.image in
-    let mid : CodeView = record { image = d.image; address = c.address } in
-    ◌∙◌ {b = mid} (ap (λ i. record { image = i; address = c.address }) image) (ap (λ v. record { image = d.image; address = v }) address)
+    let image : c.image ≡ d.image = x.image ∙ ap (λ (e : CodeFile). e.file.image) executable ∙ sym y.image in
+    let debug : c.debug ≡ d.debug = x.debug ∙ ap (λ (e : CodeFile). e.debug) executable ∙ sym y.debug in
+    let first : CodeView = record { image = d.image; debug = c.debug; address = c.address } in
+    let next : CodeView = record { image = d.image; debug = d.debug; address = c.address } in
+    ◌∙◌ {b = first} (ap (λ i. record { image = i; debug = c.debug; address = c.address }) image)
+    (◌∙◌ {b = next} (ap (λ o. record { image = d.image; debug = o; address = c.address }) debug) (ap (λ v. record { image = d.image; debug = d.debug; address = v }) address))
 
 -- what is found has the address
 found_passes : (v : ℕ) (es : List EntryView) (e : EntryView) → find (covers v) es ≡ Some e → covers v e ≡ true
@@ -189,15 +193,15 @@ unanswered (Some x) k h = absurd cc
 unanswered None (Some k) h = absurd cc
 unanswered None None h = (refl, refl)
 
-entry_has : (b : List ℕ) (v : ℕ) (e : EntryView) → entry_of b v ≡ Ok e → HasAddress e v
-entry_has b v e h =
+entry_has : (b : List ℕ) (debug : Option (List ℕ)) (v : ℕ) (e : EntryView) → entry_of b debug v ≡ Ok e → HasAddress e v
+entry_has b debug v e h =
     let some = answered _ _ e h in
-    has_address v e (⊎_elim (found_passes v (entries_of (eh_frame_of b)) e) (found_passes v (entries_of (debug_frame_of b)) e) (or_some _ _ e some))
+    has_address v e (⊎_elim (found_passes v (entries_of (eh_frame_of b)) e) (found_passes v (entries_of (debug_frame_of b debug)) e) (or_some _ _ e some))
 
-entry_apart : (code : CodeView) (e : EntryView) → IsUncovered code → entry_of code.image code.address ≡ Ok e → ⊥
+entry_apart : (code : CodeView) (e : EntryView) → IsUncovered code → entry_of code.image code.debug code.address ≡ Ok e → ⊥
 entry_apart code e apart h =
     let v = code.address in
-    ⊎_elim (not_found v (entries_of (eh_frame_of code.image)) e apart.0) (not_found v (entries_of (debug_frame_of code.image)) e apart.1)
+    ⊎_elim (not_found v (entries_of (eh_frame_of code.image)) e apart.0) (not_found v (entries_of (debug_frame_of code.image code.debug)) e apart.1)
     (or_some _ _ e (answered _ _ e h))
 
 -- an FDE led on from a caller
@@ -216,7 +220,7 @@ of_the_call p f g returns none turn =
       record {
         behind = before_of f.exact f.pc found.0 returns found.1;
         at = found.2;
-        has = entry_has is.0.image is.0.address is.1 is.4.covers;
+        has = entry_has is.0.image is.0.debug is.0.address is.1 is.4.covers;
         row = is.2;
         cfa = is.3;
         told = is.4;
@@ -229,7 +233,7 @@ no_next p f g last code returns none behind at apart turn =
     let same : is.0 ≡ last =
     (let one = is.3.behind in omega (arith, one, behind)) in
     let here = same_code p last is.1 code (subst (λ a. IsCodeAt p a is.1) same is.3.at) at in
-    entry_apart code is.2 apart (subst (λ (c : CodeView). entry_of c.image c.address ≡ Ok is.2) here is.3.told.covers)
+    entry_apart code is.2 apart (subst (λ (c : CodeView). entry_of c.image c.debug c.address ≡ Ok is.2) here is.3.told.covers)
 
 -- what is told where there is no frame
 checked_err : {A B : Type 0} (o : Option A) (s t : Stop) (others : A → Result B Stop) → checked o s others ≡ Err t → (s ≡ t) ⊎ ((x : A) × (o ≡ Some x) × (others x ≡ Err t))
@@ -275,8 +279,8 @@ unfolding code_of code_at
 code_not p f h =
     ⊎_elim (λ same. cc)
     (λ spot. ⊎_elim (missing_not (find (is_named spot.0.name) p.others))
-    (λ x. ⊎_elim (λ same. cc) (λ v. cc) (checked_err (address_of x.0.image spot.0.offset) stops.NoAddress stops.NoEntry _ x.2))
-    (checked_err (find (is_named spot.0.name) p.executables) (missing p.others spot.0.name) stops.NoEntry _ spot.2))
+    (λ x. ⊎_elim (λ same. cc) (λ v. cc) (checked_err (address_of x.0.file.image spot.0.offset) stops.NoAddress stops.NoEntry _ x.2))
+    (checked_err (find (has_path spot.0.name) p.executables) (missing p.others spot.0.name) stops.NoEntry _ spot.2))
     (checked_err _ stops.NoFile stops.NoEntry (code_at p.executables p.others) h)
 
 row_not : (i : ℕ) (r : Result Row RowField) → led.row_or i r ≡ Err stops.NoEntry → ⊥
@@ -330,14 +334,14 @@ plain_by true None h = absurd cc
 plain_by false o h = refl
 plain_by true (Some g) h = absurd cc
 
-found_plain : (space : Space) (start : Option ℕ) (f : Frame) (code : CodeView) (r : Result EntryView none.NoEntry) → led.by_found space start f code r ≡ Err stops.NoEntry → has_compressed code.image ≡ false
+found_plain : (space : Space) (start : Option ℕ) (f : Frame) (code : CodeView) (r : Result EntryView none.NoEntry) → led.by_found space start f code r ≡ Err stops.NoEntry → is_compressed code ≡ false
 found_plain space start f code (Ok e) h = absurd (covering_not space start f code.address e h)
 found_plain space start f code (Err (Faulty fault)) h = absurd cc
-found_plain space start f code (Err Uncovered) h = plain_by (has_compressed code.image) (calls.by_stub code f) h
+found_plain space start f code (Err Uncovered) h = plain_by (is_compressed code) (calls.by_stub code f) h
 
 abbrev HasNoEntry : ProcessView → Frame → Type 0
 HasNoEntry p f =
-    (code : CodeView) × (code_of p f ≡ Ok code) × (entry_of code.image code.address ≡ Err Uncovered) × (has_compressed code.image ≡ false)
+    (code : CodeView) × (code_of p f ≡ Ok code) × (entry_of code.image code.debug code.address ≡ Err Uncovered) × (is_compressed code ≡ false)
 
 entry_none : (p : ProcessView) (f : Frame) → led.by_entry p f ≡ Err stops.NoEntry → HasNoEntry p f
 unfolding led.by_entry led.by_code
@@ -345,8 +349,8 @@ entry_none p f h =
     ⊎_elim (λ err. absurd (code_not p f err)) (λ code. (
       code.0,
       code.1,
-      found_none p.space p.start f code.0 (entry_of code.0.image code.0.address) code.2,
-      found_plain p.space p.start f code.0 (entry_of code.0.image code.0.address) code.2,
+      found_none p.space p.start f code.0 (entry_of code.0.image code.0.debug code.0.address) code.2,
+      found_plain p.space p.start f code.0 (entry_of code.0.image code.0.debug code.0.address) code.2,
     ))
     (then_err (code_of p f) (led.by_code p.space p.start f) stops.NoEntry h)
 
@@ -389,8 +393,8 @@ no_fault p f code is fault last =
     let found = last_none p f last in
     let same : ok_code code ≡ ok_code found.0 = sym is ∙ found.1 in
     let here : found.0 ≡ code = cc in
-    let clean = or_none _ _ (unanswered _ _ (subst (λ (c : CodeView). entry_of c.image c.address ≡ Err Uncovered) here found.2)).1 in
-    ⊎_elim (fault_not (eh_frame_of code.image) clean.0) (fault_not (debug_frame_of code.image) clean.1) fault
+    let clean = or_none _ _ (unanswered _ _ (subst (λ (c : CodeView). entry_of c.image c.debug c.address ≡ Err Uncovered) here found.2)).1 in
+    ⊎_elim (fault_not (eh_frame_of code.image) clean.0) (fault_not (debug_frame_of code.image code.debug) clean.1) fault
 
 pub no_entry : NoEntryIsPassedOver
 no_entry p f last =
@@ -398,17 +402,17 @@ no_entry p f last =
     let code = found.0 in
     let v = code.address in
     let both = or_none _ _ (unanswered _ _ found.2).0 in
-    (code, found.1, (none_found v (entries_of (eh_frame_of code.image)) both.0, none_found v (entries_of (debug_frame_of code.image)) both.1), found.3)
+    (code, found.1, (none_found v (entries_of (eh_frame_of code.image)) both.0, none_found v (entries_of (debug_frame_of code.image code.debug)) both.1), found.3)
 
 -- what a call wrote over
 abbrev ok_entry : EntryView → Result EntryView none.NoEntry
 ok_entry e = Ok e
 
-column_of : (p : ProcessView) (f : Frame) (code other : CodeView) (e d : EntryView) → code_of p f ≡ Ok code → code_of p f ≡ Ok other → entry_of code.image code.address ≡ Ok e → entry_of other.image other.address ≡ Ok d → (other ≡ code) × (d ≡ e)
+column_of : (p : ProcessView) (f : Frame) (code other : CodeView) (e d : EntryView) → code_of p f ≡ Ok code → code_of p f ≡ Ok other → entry_of code.image code.debug code.address ≡ Ok e → entry_of other.image other.debug other.address ≡ Ok d → (other ≡ code) × (d ≡ e)
 column_of p f code other e d x y k l =
     let codes : ok_code other ≡ ok_code code = sym y ∙ x in
     let same : other ≡ code = cc in
-    let es : ok_entry d ≡ ok_entry e = sym (subst (λ (c : CodeView). entry_of c.image c.address ≡ Ok d) same l) ∙ k in
+    let es : ok_entry d ≡ ok_entry e = sym (subst (λ (c : CodeView). entry_of c.image c.debug c.address ≡ Ok d) same l) ∙ k in
     (same, cc)
 
 unknown_by : (p : ProcessView) (f g : Frame) (c : ℕ) (w : IsWritten p f g c) → StandsOn p f g → known g.registers c ≡ None
@@ -417,7 +421,7 @@ unknown_by p f g c w (inr (inl is)) =
     absurd (⊎_elim (λ no. both_ways _ w.has_code no)
     (λ stub. let same : ok_code stub.0 ≡ ok_code w.code = sym stub.1 ∙ w.looked_up in
     let here : stub.0 ≡ w.code = cc in
-    let bare : Err Uncovered ≡ ok_entry w.entry = sym (subst (λ (d : CodeView). entry_of d.image d.address ≡ Err Uncovered) here stub.2.0) ∙ w.covers in cc) is.bare)
+    let bare : Err Uncovered ≡ ok_entry w.entry = sym (subst (λ (d : CodeView). entry_of d.image d.debug d.address ≡ Err Uncovered) here stub.2.0) ∙ w.covers in cc) is.bare)
 unknown_by p f g c w (inr (inr (code, e, row, a, is))) =
     let same = column_of p f w.code code w.entry e w.looked_up is.looked_up w.covers is.covers in
     let column : e.cie.column ≡ c = ap (λ (x : EntryView). x.cie.column) same.1 ∙ w.column in

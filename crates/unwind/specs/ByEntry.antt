@@ -1,5 +1,6 @@
 -- The caller of a frame by call frame information (DWARF 5, 6.4).
-use Rattle.std.specs.Prelude.{ℕ, ◌==◌, ◌&&◌, ◌||◌, not, nat_lt, if◌then◌else◌, Bool, true, false, Option, None, Some, Result, Ok, Err}
+use Rattle.std.specs.Prelude.{ℕ, ◌==◌, ◌&&◌, ◌||◌, not, nat_lt, if◌then◌else◌, Bool, true, false, Option, None, Some, unwrap_or, Result, Ok, Err}
+use Rattle.std.specs.Option.{option_map}
 use Rattle.address_space.specs.Source.{Space}
 use Rattle.call_frames.specs.Compressed.{has_compressed}
 use Rattle.call_frames.specs.Entry.{EntryView}
@@ -71,9 +72,13 @@ return_in e = record { column = e.cie.column; signal = e.cie.signal }
 abbrev pub by_covering : Space → Option ℕ → Frame → ℕ → EntryView → Result Frame Stop
 by_covering space start f v e = stop_if (holds_start start f v e) Outermost (and_then (row_at e v) (by_row space f (return_in e)))
 
+-- an executable, or its debug file, has call frame information that is compressed
+abbrev pub is_compressed : CodeView → Bool
+is_compressed code = has_compressed code.image || unwrap_or (option_map has_compressed code.debug) false
+
 -- why no entry covers the code: those that are compressed are not read
 abbrev pub no_entry : CodeView → Stop
-no_entry code = if has_compressed code.image then Compressed else NoEntry
+no_entry code = if is_compressed code then Compressed else NoEntry
 
 -- by the entry that covers an address; where none does, and none is at fault, a stub of the procedure linkage table may be
 abbrev pub by_found : Space → Option ℕ → Frame → CodeView → Result EntryView entries.NoEntry → Result Frame Stop
@@ -83,7 +88,7 @@ by_found space start f code (Err Uncovered) = checked (by_stub code f) (no_entry
 
 -- by the first entry that covers the code's address
 unfoldable pub by_code : Space → Option ℕ → Frame → CodeView → Result Frame Stop
-by_code space start f code = by_found space start f code (entry_of code.image code.address)
+by_code space start f code = by_found space start f code (entry_of code.image code.debug code.address)
 
 unfoldable pub by_entry : ProcessView → Frame → Result Frame Stop
 by_entry p f = and_then (code_of p f) (by_code p.space p.start f)

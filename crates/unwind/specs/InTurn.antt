@@ -1,8 +1,7 @@
 -- What no two calls of `Frames::next` answer, one after the other, as statements. In each process that the memory can be of, what one answers is `GivesFrame` or
 -- `HaveEnded` (`NextFrame`).
 use Rattle.std.specs.Prelude.{◌≡◌, ◌<◌, ◌≤◌, ◌+◌, ◌⊎◌, ℕ, false, find, All, Contains, None, Some, Ok, Err}
-use Rattle.address_space.specs.Source.{ExecutableView, SpotView, entry_at, is_named, spot_of}
-use Rattle.call_frames.specs.Compressed.{has_compressed}
+use Rattle.address_space.specs.Source.{SpotView, entry_at, spot_of}
 use Rattle.call_frames.specs.Entry as entries
 use Rattle.call_frames.specs.Entry.{EntryView, TableView}
 use Rattle.call_frames.specs.Finding.{entry_of}
@@ -16,8 +15,9 @@ use Rattle.frame_rows.specs.declared.rows.Row.{Row}
 use Rattle.frame_rows.specs.declared.rows.Rule.TheVariants.{Register, Same}
 use Rattle.symbols.specs.Offsets.{address_of}
 use Rattle.unwind.specs.ByCall.{is_no_code}
+use Rattle.unwind.specs.ByEntry.{is_compressed}
 use Rattle.unwind.specs.ByTrampoline.{is_trampoline}
-use Rattle.unwind.specs.Code.{CodeView, ProcessView, code_of}
+use Rattle.unwind.specs.Code.{CodeFile, CodeView, ProcessView, code_of, has_path}
 use Rattle.unwind.specs.FrameWords.{GivesFrame, HaveEnded}
 use Rattle.unwind.specs.Registers.{known}
 use Rattle.unwind.specs.Stands.{IsReturn}
@@ -45,10 +45,11 @@ pub record GiveLast (p : ProcessView) (f : Frame) (stop : Stop) : Type 0 where
 pub record IsCodeAt (p : ProcessView) (a : ℕ) (code : CodeView) : Type 0 where
   pub spot : SpotView
   pub mapped : spot_of a (entry_at p.space.files a) ≡ Some spot
-  pub executable : ExecutableView
-  pub named : find (is_named spot.name) p.executables ≡ Some executable
-  pub image : code.image ≡ executable.image
-  pub placed : address_of executable.image spot.offset ≡ Some code.address
+  pub executable : CodeFile
+  pub named : find (has_path spot.name) p.executables ≡ Some executable
+  pub image : code.image ≡ executable.file.image
+  pub debug : code.debug ≡ executable.debug
+  pub placed : address_of executable.file.image spot.offset ≡ Some code.address
 
 -- an FDE has that address
 abbrev pub HasAddress : EntryView → ℕ → Type 0
@@ -59,7 +60,7 @@ abbrev pub HasNone : TableView → ℕ → Type 0
 HasNone t v = All (λ e. HasAddress e v → ⊥) (entries_of t)
 
 abbrev pub IsUncovered : CodeView → Type 0
-IsUncovered code = HasNone (eh_frame_of code.image) code.address × HasNone (debug_frame_of code.image) code.address
+IsUncovered code = HasNone (eh_frame_of code.image) code.address × HasNone (debug_frame_of code.image code.debug) code.address
 
 -- Frame g is told by an FDE that has the last byte of the call that f made. The pc of f is the address behind that byte.
 pub record IsOfTheCall (p : ProcessView) (f g : Frame) (last : ℕ) (code : CodeView) (e : EntryView) : Type 0 where
@@ -89,13 +90,13 @@ HasFault t = (s : Spot) × (fault : CfiField) × Contains (spots_of t.bytes) s �
 -- an entry has a fault, so it may be the one that is sought; and it is told that there is none
 abbrev pub NoFaultIsHidden : Type 0
 NoFaultIsHidden =
-    (p : ProcessView) (f : Frame) (code : CodeView) → code_of p f ≡ Ok code → HasFault (eh_frame_of code.image) ⊎ HasFault (debug_frame_of code.image)
+    (p : ProcessView) (f : Frame) (code : CodeView) → code_of p f ≡ Ok code → HasFault (eh_frame_of code.image) ⊎ HasFault (debug_frame_of code.image code.debug)
     → GiveLast p f NoEntry → ⊥
 
 -- where it is told that no FDE has the address, none has, and none is compressed
 abbrev pub NoEntryIsPassedOver : Type 0
 NoEntryIsPassedOver =
-    (p : ProcessView) (f : Frame) → GiveLast p f NoEntry → (code : CodeView) × (code_of p f ≡ Ok code) × IsUncovered code × (has_compressed code.image ≡ false)
+    (p : ProcessView) (f : Frame) → GiveLast p f NoEntry → (code : CodeView) × (code_of p f ≡ Ok code) × IsUncovered code × (is_compressed code ≡ false)
 
 -- A call led from g to f, whose code an FDE covers: it wrote its return address to column c.
 pub record IsWritten (p : ProcessView) (f g : Frame) (c : ℕ) : Type 0 where
@@ -105,7 +106,7 @@ pub record IsWritten (p : ProcessView) (f g : Frame) (c : ℕ) : Type 0 where
   pub code : CodeView
   pub looked_up : code_of p f ≡ Ok code
   pub entry : EntryView
-  pub covers : entry_of code.image code.address ≡ Ok entry
+  pub covers : entry_of code.image code.debug code.address ≡ Ok entry
   pub column : entry.cie.column ≡ c
 
 -- By the row of a frame, its return address is still in column c.
@@ -113,7 +114,7 @@ pub record IsStillThere (p : ProcessView) (g : Frame) (c : ℕ) : Type 0 where
   pub code : CodeView
   pub looked_up : code_of p g ≡ Ok code
   pub entry : EntryView
-  pub covers : entry_of code.image code.address ≡ Ok entry
+  pub covers : entry_of code.image code.debug code.address ≡ Ok entry
   pub column : entry.cie.column ≡ c
   pub row : Row
   pub executed : row_of entry code.address ≡ Ok row

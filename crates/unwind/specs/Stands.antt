@@ -25,7 +25,7 @@ pub record IsInterrupted (p : ProcessView) (f g : Frame) (s : ℕ) : Type 0 wher
 
 -- a stub of the procedure linkage table that no FDE covers, and none that has a fault may
 abbrev pub IsBareStub : CodeView → Type 0
-IsBareStub code = (entry_of code.image code.address ≡ Err Uncovered) × (is_stub code ≡ true)
+IsBareStub code = (entry_of code.image code.debug code.address ≡ Err Uncovered) × (is_stub code ≡ true)
 
 -- No code is at the pc, or such a stub.
 abbrev pub IsBareCall : ProcessView → Frame → Type 0
@@ -44,7 +44,7 @@ pub record IsCaller (p : ProcessView) (f g : Frame) : Type 0 where
 -- came where the CIE says so. The program does not begin in the code of that FDE.
 pub record IsReturn (p : ProcessView) (f g : Frame) (code : CodeView) (e : EntryView) (row : Row) (a : ℕ) : Type 0 where
   pub looked_up : code_of p f ≡ Ok code
-  pub covers : entry_of code.image code.address ≡ Ok e
+  pub covers : entry_of code.image code.debug code.address ≡ Ok e
   pub inner : holds_start p.start f code.address e ≡ false
   pub executed : row_of e code.address ≡ Ok row
   pub cfa : cfa_by f.registers row.cfa ≡ Ok a
@@ -78,4 +78,4 @@ EachRises f (g ∷ gs) = Rises f g × EachRises g gs
 
 -- no FDE covers the code, and it is no stub
 abbrev pub AreBare : CodeView → Type 0
-AreBare code = ((e : EntryView) → entry_of code.image code.address ≡ Ok e → ⊥) × (is_stub code ≡ false)
+AreBare code = ((e : EntryView) → entry_of code.image code.debug code.address ≡ Ok e → ⊥) × (is_stub code ≡ false)

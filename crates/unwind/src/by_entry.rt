@@ -1,5 +1,6 @@
 // The caller of a frame by call frame information.
 ghost use Rattle.std.specs.Prelude.{◌≡◌};
+ghost use Rattle.std.specs.Option.{option_map};
 ghost use Rattle.call_frames.specs.EntryWords.{entry_view};
 ghost use Rattle.call_frames.specs.Finding.{entry_of};
 ghost use Rattle.call_frames.specs.FindingWords.{found};
@@ -169,18 +170,31 @@ fn by_covering(
     }
 }
 
-/// The entry of an executable that covers an address.
+/// The entry of an executable, or of its debug file, that covers an address.
 fn entry_at<'a>(executable: &UnwoundExecutable<'_, 'a>, address: u64) -> Result<Entry<'a>, NoEntry>
-    ensures { found result ≡ entry_of (image_of executable.now.elf) address }
+    ensures { found result ≡ entry_of (image_of executable.now.elf) (option_map image_of executable.now.debug) address }
 {
     executable.frames.find(address)
+}
+
+/// Whether an executable, or its debug file, has call frame information that is compressed.
+fn is_compressed(code: &Code<'_, '_>) -> bool
+    ensures { result ≡ spec.is_compressed (code_view code.now) }
+{
+    if has_compressed(&code.executable.elf) {
+        return true;
+    }
+    match &code.executable.debug {
+        Some(debug) => has_compressed(debug),
+        None => false,
+    }
 }
 
 /// Why no entry covers code.
 fn no_entry(code: &Code<'_, '_>) -> Stop
     ensures { result ≡ spec.no_entry (code_view code.now) }
 {
-    if has_compressed(&code.executable.elf) {
+    if is_compressed(code) {
         Stop::Compressed
     } else {
         Stop::NoEntry

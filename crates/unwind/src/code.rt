@@ -2,7 +2,6 @@
 ghost use Rattle.std.specs.Prelude.{◌≡◌, find, map};
 ghost use Rattle.std.specs.Option.{option_map, option_and_then};
 ghost use Rattle.address_space.specs.Source as source;
-ghost use Rattle.address_space.specs.Source.{is_named};
 ghost use Rattle.address_space.specs.SourceWords.{spot_view};
 ghost use Rattle.address_space.specs.SpaceWords.{attached_view, space_of};
 ghost use Rattle.unwind.specs.Code as spec;
@@ -37,7 +36,7 @@ fn named<'e, 'a>(
     executables: &[UnwoundExecutable<'e, 'a>],
     path: &[u8],
 ) -> Option<UnwoundExecutable<'e, 'a>>
-    ensures { option_map executable_view result ≡ find (is_named path.now) (map executable_view executables.now) }
+    ensures { option_map executable_view result ≡ find (spec.has_path path.now) (map executable_view executables.now) }
 {
     for executable in executables {
         if executable.path == path {

@@ -1,5 +1,6 @@
 // Executables with their call frame information.
 ghost use Rattle.std.specs.Prelude.{◌≡◌};
+ghost use Rattle.std.specs.Option.{option_map};
 ghost use Rattle.elf_view.specs.ViewWords.{image_of};
 ghost use Rattle.call_frames.specs.FindingWords.{eh_frame_in, debug_frame_in};
 ghost use Rattle.call_frames.specs.Tables.{eh_frame_of, debug_frame_of};
@@ -14,8 +15,10 @@ pub struct UnwoundExecutable<'e, 'a> {
     pub path: &'a [u8],
     /// The executable.
     pub elf: Elf<'a>,
+    /// Its debug file, if it has one.
+    pub debug: Option<Elf<'a>>,
     /// Its call frame information, as [`CallFrames::read`] gives it.
     pub frames: &'e CallFrames<'a>,
     pub ghost eh_frame: { eh_frame_in frames.now ≡ eh_frame_of (image_of elf) },
-    pub ghost debug_frame: { debug_frame_in frames.now ≡ debug_frame_of (image_of elf) },
+    pub ghost debug_frame: { debug_frame_in frames.now ≡ debug_frame_of (image_of elf) (option_map image_of debug) },
 }

@@ -76,6 +76,6 @@ pub fn a_return_address_is_used_once()
 /// an FDE that covers the address of the start too, is the outermost, whatever the row of the FDE says. It does nothing.
 pub fn the_start_is_outermost()
     ensures { (p : ProcessView) (n : ℕ) (f : numbers.Frame) (code : CodeView) (e : EntryView) → is_trampoline p.space f.pc ≡ false
-        → is_no_code p.space f.pc ≡ false → code_of p f ≡ Ok code → entry_of code.image code.address ≡ Ok e
+        → is_no_code p.space f.pc ≡ false → code_of p f ≡ Ok code → entry_of code.image code.debug code.address ≡ Ok e
         → holds_start p.start f code.address e ≡ true → spec.next p n f ≡ Err Outermost }
 {}
