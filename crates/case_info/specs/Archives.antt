@@ -1,4 +1,4 @@
--- What is known of an archive, from an opening of its journal.
+-- The facts of an archive, from an opening of its journal.
 use Rattle.std.specs.Prelude.{◌≡◌, ◌-◌, ℕ, Result, Ok, Err}
 use Rattle.archive_files.specs.declared.failures.Refusal.{Refusal}
 use Rattle.archive_files.specs.declared.failures.Refusal.TheVariants.{Open}
@@ -39,6 +39,6 @@ FactsBy (Ok o) (Ok f) = AreFactsIn o f
 FactsBy (Ok o) (Err refusal) = ⊥
 FactsBy (Err fault) r = r ≡ Err (Open fault)
 
--- The journal on a disk is opened, and it is found what is known of its archive.
+-- The journal on a disk is opened, and the facts of its archive are found.
 abbrev pub FactsOn : {D : Type 0} → disk.Ghosts D → D → Result ArchiveFacts Refusal → Type 0
 FactsOn g before r = (opened : Result Opened OpenFault) × ShowsOpening g before (journal_of opened) × FactsBy opened r

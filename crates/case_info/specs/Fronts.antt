@@ -1,4 +1,4 @@
--- What the first bytes of a case's image say.
+-- The facts that the first bytes of a case's image give.
 use Rattle.std.specs.Prelude.{◌≡◌, ◌≤◌, ◌⊎◌, ℕ, List, length, min, take, Option, Result}
 use Rattle.disk_model.specs.declared.disk.Disk as disk
 use Rattle.intake.specs.Parts.{Parts}
@@ -26,8 +26,8 @@ pub record IsFront (want : Want) (front image : List ℕ) : Type 0 where
 abbrev pub SeesFront : {D : Type 0} → disk.Ghosts D → Parts D → ℕ → Want → List ℕ → Parts D → Type 0
 SeesFront g old seq want front new = (image : List ℕ) × SeesImage g old seq image new × IsFront want front image
 
--- What is known of a core is what its image says: its notes, or its first fault (core(5), System V gABI); and, by its first 65,536 bytes,
--- how many bytes it has if it is whole, and why notes of it are not read as they are meant.
+-- The facts of a core are those that its image gives: its notes, or its first fault (core(5), System V gABI); and, by its first 65,536 bytes, how many
+-- bytes it has if it is whole, and why some of its notes are not read as they are meant.
 pub record SaysCore (image : List ℕ) (core : Result CoreImage CoreFault) (whole : Option ℕ) (unread : Option UnreadNotes) : Type 0 where
   pub notes_are : notes_read core ≡ notes_in image
   pub whole_is : whole ≡ whole_length (first_bytes image)

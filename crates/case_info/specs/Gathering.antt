@@ -1,4 +1,4 @@
--- What cores tell of the files that they map, and which executables that are stored are used for these.
+-- The files that cores map, and which stored executables are used for them.
 use Rattle.std.specs.Prelude.{◌≡◌, ℕ, Bool, true, false, is_some, List, [], ◌∷◌, map, Option, None, Some, Result, Ok, Err, IfOk, IsTrue, Vec}
 use Rattle.std.specs.Global.{Global}
 use Rattle.std.specs.Option.{option_and_then, option_map}
@@ -32,8 +32,8 @@ use Rattle.case_info.specs.declared.kept_files.KeptFile.{KeptFile}
 
 -- ---- A mapped file.
 
--- A file that a core maps: its name, the build ID that the core tells for it, whether an executable that is stored is used for it, and
--- the build ID of that.
+-- A file that a core maps: its name, the build ID that the core has for it, whether a stored executable is used for it, and the build ID of that
+-- executable.
 pub record FileValue : Type 0 where
   pub name : List ℕ
   pub told : Option (List ℕ)
@@ -52,7 +52,7 @@ abbrev pub files_with : Option (List BuildValue) → List FileValue
 files_with None = []
 files_with (Some values) = map file_of values
 
--- what is kept of an ID
+-- the kept form of an ID
 abbrev pub id_kept : Option (Vec ℕ Global) → Option (List ℕ)
 id_kept kept = option_map (λ (v : Vec ℕ Global). v.items) kept
 
@@ -64,8 +64,8 @@ files_view v = map file_view v.items
 
 -- ---- The mapped files of a core.
 
--- The mapped files of the core, whose image was seen before, are found, and the executables that are stored for them, by their names or
--- by the builds that the core tells, are read. The core is seen again: this is told of its files with them.
+-- The mapped files of the core, whose image was seen before, are found. The executables that are stored for them, by their names or by the builds that the
+-- core has for them, are read. The core is seen again, and these are its mapped files with the executables.
 pub record FindsBuilds {D : Type 0} (g : disk.Ghosts D) (old mid : Parts D) (seq : ℕ) (image : List ℕ) (values : Option (List BuildValue)) (new : Parts D) : Type 0 where
   pub told : Option (List NamedId)
   pub tells : told_of image ≡ told
@@ -77,12 +77,12 @@ pub record FindsBuilds {D : Type 0} (g : disk.Ghosts D) (old mid : Parts D) (seq
   pub still : told_of again ≡ told
   pub values_are : values ≡ builds_of again executables
 
--- nothing is told of a core that has a fault
+-- a core with a fault has no files here
 abbrev pub AsksBuilds : {D : Type 0} → disk.Ghosts D → Parts D → Parts D → ℕ → List ℕ → Result (List NoteView) CoreFault → Option (List BuildValue) → Parts D → Type 0
 AsksBuilds g old mid seq image (Ok notes) values new = FindsBuilds g old mid seq image values new
 AsksBuilds g old mid seq image (Err fault) values new = (values ≡ None) × (new ≡ mid)
 
--- The image of a core is seen, and it is found what is told of its mapped files.
+-- The image of a core is seen, and its mapped files are found.
 abbrev pub SeesBuilds : {D : Type 0} → disk.Ghosts D → Parts D → ℕ → Option (List BuildValue) → Parts D → Type 0
 SeesBuilds {D} g old seq values new = (image : List ℕ) × (mid : Parts D) × SeesImage g old seq image mid × AsksBuilds g old mid seq image (notes_in image) values new
 
@@ -105,7 +105,7 @@ abbrev pub is_core_kind : Kind → Bool
 is_core_kind Core = true
 is_core_kind Exec = false
 
--- a case by its name, by what the retention rule looks at, and by its kind
+-- a case by its name, by the facts that the retention rule uses, and by its kind
 pub record CaseValue : Type 0 where
   pub name : List ℕ
   pub brief : Brief
@@ -155,8 +155,8 @@ CasesOn {D} g before r = (opened : Result (Parts D) (OpenFault × D)) × OpenCal
 
 -- ---- Between two looks.
 
--- What is gathered over a disk that gives what the last look saw. That disk is honest whenever the disk that others change is and holds an
--- archive all the time. So what is gathered is as if nobody had changed the archive since the look.
+-- The cases are gathered over a disk that gives the bytes of the last look. That disk is honest whenever the disk that others change is honest and holds an
+-- archive all the time. So the result is as if nobody had changed the archive since the look.
 abbrev pub GathersBetween : {S : Type 0} (g : shared.Ghosts S) → disk.Ghosts (Unlocked S g) → S → Result Gathered Refusal → Type 0
 GathersBetween {S} g U s (Ok gathered) = (d : Unlocked S g) × (under d ≡ s) × GathersOn U d (Ok gathered) × Meanwhile g s (λ x ys. IsTrue (U.is_honest d))
 GathersBetween g U s (Err why) = Unit {0}

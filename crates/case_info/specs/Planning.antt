@@ -28,7 +28,7 @@ use Rattle.stream_names.specs.declared.naming.Naming.{Naming}
 use Rattle.case_info.specs.Gathering.{CaseValue, FileValue, Gathers, files_view, listed_view}
 use Rattle.case_info.specs.declared.gathering.Gathered.{Gathered}
 
--- A mapped file as a prune sees it: its name, the build ID that the core tells, and that of the executable that is used.
+-- A mapped file as a prune sees it: its name, the build ID that the core has for it, and that of the executable that is used.
 pub record MappedValue : Type 0 where
   pub name : List ℕ
   pub told : Option (List ℕ)
@@ -64,7 +64,7 @@ AreSeenAs [] [] [] = Unit {0}
 AreSeenAs (c ∷ cs) (files ∷ others) (l ∷ ls) = IsSeenAs c files l × AreSeenAs cs others ls
 AreSeenAs _ _ _ = ⊥
 
--- What goes is a pruning (`IsPruning` of pruning) of these cases, by what they map.
+-- The cases that go are a pruning (`IsPruning` of pruning) of these cases, by the files that they map.
 abbrev pub IsPlanOf : Policy → List CaseValue → List (List FileValue) → Pruning → Type 0
 IsPlanOf policy cases files p = (live : List LiveCase) × AreSeenAs cases files live × IsPruning policy live p.dropped.items p.unmet
 

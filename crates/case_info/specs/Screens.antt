@@ -1,4 +1,4 @@
--- One screen of a case: what its image says, the lines that are asked of it, and what is shown of both.
+-- One screen of a case: the facts of its image, the lines that are asked of it, and the text that shows both.
 use Rattle.std.specs.Prelude.{◌≡◌, ◌++◌, ℕ, false, if◌then◌else◌, List, length, min, Option, Result, Ok, Err, IfOk, Vec}
 use Rattle.std.specs.Borrow.{Bor}
 use Rattle.std.specs.Global.{Global}
@@ -48,14 +48,14 @@ abbrev pub shown_count : InfoWords → Result (List NoteView) CoreFault → ℕ
 shown_count words (Ok notes) = min (thread_count (all_descs 1 notes)) (most_threads words)
 shown_count words (Err fault) = 0
 
--- A screen takes what was found.
+-- A screen takes the facts that were found.
 pub record AreFactsOf (f : CoreFacts) (a : CoreAnswers) : Type 0 where
   pub unwound : a.unwound.now ≡ f.unwound.items
   pub builds : option_map (λ (rows : Bor (List BuildAnswer)). rows.now) a.builds ≡ option_map (λ (v : Vec BuildAnswer Global). v.items) f.builds
 
--- The executables that are stored for the mapped files of a core, by their names or by the builds that it tells, are read, and then the
--- debug files of those that are used. With them the frames of its threads that are shown are found, and the build IDs of the files, of the image that was seen before; and what is shown is
--- that.
+-- The executables that are stored for the mapped files of a core, by their names or by the builds that the core has for them, are read, and then the debug
+-- files of those that are used. With them the frames of the threads that are shown are found, and the build IDs of the files, of the image that was seen
+-- before. The screen shows these.
 pub record FindsFacts {D : Type 0} (g : disk.Ghosts D) (old mid : Parts D) (seq : ℕ) (image front : List ℕ) (threads : ℕ) (a : CoreAnswers) (new : Parts D) : Type 0 where
   pub told : Option (List NamedId)
   pub tells : told_of image ≡ told
@@ -74,11 +74,11 @@ abbrev pub AsksCore : {D : Type 0} → disk.Ghosts D → Parts D → Parts D →
 AsksCore g old mid seq image words (Ok core) a new = FindsFacts g old mid seq image (core_bytes core) (shown_count words (notes_in image)) a new
 AsksCore g old mid seq image words (Err fault) a new = new ≡ mid
 
--- the screen of a case by what is asked of it, in an archive
+-- the screen of a case by the questions that are asked of it, in an archive
 abbrev pub IsScreenBy : {D : Type 0} → Parts D → ℕ → CaseAnswers → Collected → Type 0
 IsScreenBy a seq answers text = (c : Case) × HasCase (state_of a) seq c × (held text ≡ info_answer c (state_of a).cases answers)
 
--- The image of a core is seen. What it says, and what is found in its memory, is shown.
+-- The image of a core is seen. Its facts, and those of its memory, are shown.
 abbrev pub ShowsCore : {D : Type 0} → disk.Ghosts D → Parts D → ℕ → InfoWords → Collected → Parts D → Type 0
 ShowsCore {D} g old seq words text new =
     (image : List ℕ) × (mid : Parts D) × SeesImage g old seq image mid

@@ -1,4 +1,4 @@
--- What is wanted once an executable is stored by its build.
+-- The builds that are still wanted once an executable is stored by its build.
 use Rattle.std.specs.Prelude.{◌≡◌, ◌&&◌, not, ℕ, true, List, None, Some}
 use Rattle.std.specs.Str.{bytes_eq}
 use Rattle.address_space.specs.Source.{ExecutableView}

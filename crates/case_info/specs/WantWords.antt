@@ -1,4 +1,4 @@
--- What the code's builds that are wanted mean.
+-- The meaning of the code's wanted builds.
 use Rattle.std.specs.Prelude.{List, map}
 use Rattle.build_replies.specs.Builds.{NamedBuild}
 use Rattle.build_replies.specs.BuildsWords.{wanted_view}

@@ -1,4 +1,4 @@
--- What cores want: builds that they tell for mapped files, and for which no executable that is stored is used.
+-- The builds that cores want: those that they have for mapped files for which no stored executable is used.
 use Rattle.std.specs.Prelude.{◌≡◌, ◌&&◌, ℕ, Bool, false, not, if◌then◌else◌, List, [], ◌∷◌, ◌++◌, ◌||◌, map, Option, None, Some}
 use Rattle.std.specs.Borrow.{Bor}
 use Rattle.std.specs.BTreeSet.{BTreeSet, contains_by}
@@ -14,7 +14,7 @@ use Rattle.script_streams.specs.Replies.{ok_reply}
 use Rattle.script_words.specs.Hex.{hex_of}
 use Rattle.case_info.specs.Gathering.{FileValue, files_with}
 
--- what is wanted for the mapped files of a core; nothing, if it has no NT_FILE
+-- the builds that are wanted for the mapped files of a core; none without an NT_FILE
 abbrev pub wants_with : Option (List BuildValue) → List NamedBuild
 wants_with None = []
 wants_with (Some values) = wants_of values
@@ -24,7 +24,7 @@ unfoldable pub with_each : List NamedBuild → List NamedBuild → List NamedBui
 with_each ws [] = ws
 with_each ws (more ∷ others) = with_each (with_build ws (Some more)) others
 
--- ---- What is told of the IDs.
+-- ---- The IDs.
 
 -- whether one of these builds has this ID
 abbrev pub has_id : List NamedBuild → List ℕ → Bool
@@ -34,7 +34,7 @@ abbrev pub is_id : List ℕ → Option (List ℕ) → Bool
 is_id id None = false
 is_id id (Some other) = bytes_eq other id
 
--- whether the core tells this ID for the file, an executable can be stored by it, and none is used for the file
+-- whether the core has this ID for the file, an executable can be stored by it, and none is used for the file
 abbrev pub wants_id : List ℕ → BuildValue → Bool
 wants_id id v = is_id id (wanted_id v.chosen v.core)
 
@@ -43,7 +43,7 @@ abbrev pub AreOnce : List NamedBuild → Type 0
 AreOnce [] = Unit {0}
 AreOnce (w ∷ ws) = (has_id ws w.1 ≡ false) × AreOnce ws
 
--- The IDs that are told for a core are exactly those that it tells for some file for which none is used, each once.
+-- The IDs that a core wants are exactly those that it has for some file for which none is used, each once.
 pub record WantsIs (values : List BuildValue) (ws : List NamedBuild) : Type 0 where
   pub exactly : (id : List ℕ) → has_id ws id ≡ list_any (wants_id id) values
   pub once : AreOnce ws
@@ -53,7 +53,7 @@ pub record AddsExactly (ws more all : List NamedBuild) : Type 0 where
   pub exactly : (id : List ℕ) → has_id all id ≡ (has_id ws id || has_id more id)
   pub once : AreOnce ws → AreOnce all
 
--- ---- What is told.
+-- ---- The text.
 
 -- `NAME ID` for each, and `ok`
 abbrev pub wants_reply : List NamedBuild → List ℕ
@@ -77,7 +77,7 @@ wanted_if name is_used (Some id) = if has_name id && not is_used then Some (name
 abbrev pub wanted_of_file : FileValue → Option NamedBuild
 wanted_of_file f = wanted_if f.name f.is_used f.told
 
--- what the files of a core want, behind the others
+-- the builds that the files of a core want, after the others
 unfoldable pub with_all : List NamedBuild → List FileValue → List NamedBuild
 with_all ws [] = ws
 with_all ws (f ∷ fs) = with_all (with_build ws (wanted_of_file f)) fs
@@ -87,7 +87,7 @@ unfoldable pub with_each_core : List NamedBuild → List (List FileValue) → Li
 with_each_core ws [] = ws
 with_each_core ws (files ∷ others) = with_each_core (with_all ws files) others
 
--- What the files of a core want, put behind others, is what the core wants, each ID once.
+-- The builds that the files of a core want, added to others, are those that the core wants, each ID once.
 abbrev pub KeepsWants : Type 0
 KeepsWants = (ws : List NamedBuild) (values : Option (List BuildValue)) → with_all ws (files_with values) ≡ with_each ws (wants_with values)
 

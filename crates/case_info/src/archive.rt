@@ -12,12 +12,12 @@ use std::alloc::Global;
 use std::fs::File;
 use std::rt::Files;
 
-/// Tells what is known of an archive, from one look at it.
+/// Prints the facts of an archive, from one look at it.
 ///
 /// # Errors
 ///
-/// What `take_look` of `archive_files` and an opening are refused for. `OutOfMemory`: nothing is told. `WriteFailed` if the text
-/// could not be written.
+/// The refusals of `take_look` of `archive_files` and of an opening. `OutOfMemory`: nothing is printed. `WriteFailed` if the text could
+/// not be written.
 pub fn info_archive<R: AllocGlobal + Files<File = File>, O: Output>(
     rt: &R,
     place: ArchivePath<'_>,
@@ -54,7 +54,7 @@ fn tell_facts<O: Output>(
     }
 }
 
-// Opens the journal on a disk, and finds what is known of its archive.
+// Opens the journal on a disk, and finds the facts of its archive.
 fn facts_over<D: Disk + Drop>(alloc: Global, disk: D) -> Result<ArchiveFacts, Refusal>
     ensures { FactsOn D.Disk disk result }
 {
@@ -65,7 +65,7 @@ fn facts_over<D: Disk + Drop>(alloc: Global, disk: D) -> Result<ArchiveFacts, Re
     }
 }
 
-// What is known of an archive, by its journal and its free data blocks.
+// The facts of an archive, by its journal and its free data blocks.
 fn facts_of(opened: &Opened) -> ArchiveFacts
     ensures { AreFactsOf opened.now.journal.standing (free_count opened.now.free) result }
 {

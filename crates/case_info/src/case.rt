@@ -30,22 +30,22 @@ use std::fs::File;
 use std::rt::Files;
 use unlocked_reading::{Places, Reads, find_cases, stay};
 
-/// What the words of `info` ask for.
+/// The request that the words of `info` make.
 #[derive(Clone, Copy, Debug)]
 pub struct InfoWords {
     /// The frames of each thread are shown, in a text those of the first 256.
     pub all_threads: bool,
-    /// It is told as JSON.
+    /// It is printed as JSON.
     pub is_json: bool,
 }
 
-/// Tells what is known of a case, from a look at the archive. The case is named by its number, by its name, or as `last`. The text is
-/// held until the case is found again, and so are the executables that were read with it.
+/// Prints the facts of a case, from a look at the archive. The case is named by its number, by its name, or as `last`. The text, and
+/// the executables that were read with it, are held until the case is found again.
 ///
 /// # Errors
 ///
-/// What `take_look` of `archive_files` and an opening are refused for. `NoCase`: there is no such case, or it was deleted meanwhile.
-/// `OutOfMemory` and `Disk`: nothing is told. `WriteFailed` if the text could not be written.
+/// The refusals of `take_look` of `archive_files` and of an opening. `NoCase`: there is no such case, or it was deleted meanwhile.
+/// `OutOfMemory` and `Disk`: nothing is printed. `WriteFailed` if the text could not be written.
 pub fn info_case<R: AllocGlobal + Files<File = File>, O: Output>(
     rt: &R,
     place: ArchivePath<'_>,
@@ -65,7 +65,7 @@ pub fn info_case<R: AllocGlobal + Files<File = File>, O: Output>(
     shown(alloc, words.is_json, done, output)
 }
 
-// What is told of a case, once all that was read is found again.
+// The text of a case, once all cases that were read are found again.
 fn held_screen<S: SharedDisk + Drop>(
     alloc: Global,
     looked: Looked<S>,
@@ -90,7 +90,7 @@ fn number_of<D: Disk + Drop>(alloc: Global, disk: D, case: &[u8]) -> Result<u32,
     }
 }
 
-// Opens the archive on a disk, sees the case, and puts what is told of it into a text.
+// Opens the archive on a disk, sees the case, and puts its facts into a text.
 fn screen_over<D: Disk + Drop>(
     alloc: Global,
     disk: D,
@@ -181,7 +181,7 @@ fn no_frames<'a>() -> &'a [Option<FramesAnswer<'a>>] {
     &[]
 }
 
-// Puts what a core says, and what is found in its memory, into a text.
+// Puts the facts of a core, and those of its memory, into a text.
 fn put_core<D: Disk>(
     alloc: Global,
     archive: &Archive<D>,
@@ -217,7 +217,7 @@ fn exec_screen<D: Disk>(
     Ok(put_text(alloc, archive, seq, &answers, words.is_json)?)
 }
 
-// Puts what is told of a case into a text.
+// Puts the facts of a case into a text.
 fn put_text<D: Disk>(
     alloc: Global,
     archive: &Archive<D>,

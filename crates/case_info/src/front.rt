@@ -1,4 +1,4 @@
-// What the first bytes of a case's image say.
+// The facts that the first bytes of a case's image give.
 ghost use Rattle.std.specs.Prelude.{◌≡◌, ℕ, List, IfOk};
 ghost use Rattle.elf_view.specs.declared.faults.Want.{Want};
 ghost use Rattle.case_queries.specs.Fronts.{HasSize};
@@ -17,10 +17,10 @@ use intake::Archive;
 use std::alloc::Global;
 use unread_notes::{UnreadNotes, unread_notes};
 
-// How many first bytes are looked at for what is told of a core beside its headers and notes.
+// How many first bytes are looked at for the facts of a core beside its headers and notes.
 const FIRST: usize = 65_536;
 
-// What the first bytes of a core say of it.
+// The facts that the first bytes of a core give.
 #[derive(Clone, Copy)]
 pub(crate) struct CoreFront<'a> {
     // The core, or the first fault of its headers, its notes and its typed notes.
@@ -58,7 +58,7 @@ pub(crate) fn front_of<D: Disk>(
     }
 }
 
-// What a core says by its first bytes.
+// The facts of a core by its first bytes.
 pub(crate) fn core_in(front: &[u8]) -> CoreFront<'_>
     ensures says { (image : List ℕ) → IsFront Want.Core front.now image → SaysCore image result.core result.whole result.unread }
     ensures bytes { IfOk result.core (λ core. core_bytes core ≡ front.now) }
@@ -73,7 +73,7 @@ pub(crate) fn core_in(front: &[u8]) -> CoreFront<'_>
     }
 }
 
-// What the file header of an executable says by its first bytes.
+// The facts of the file header of an executable, by its first bytes.
 pub(crate) fn header_in(front: &[u8]) -> Result<Header, ElfFault>
     ensures { (image : List ℕ) → IsFront Want.Exec front.now image → result ≡ header_in image }
 {

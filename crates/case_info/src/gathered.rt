@@ -1,4 +1,4 @@
-// What is found in the memory of a core, over one archive that is open.
+// The facts of the memory of a core, over one archive that is open.
 ghost use Rattle.std.specs.Prelude.{◌≡◌, ◌≤◌, ◌++◌, false, IfOk, Ok, length, map, option_map};
 ghost use Rattle.build_replies.specs.Builds.{told_or_none};
 ghost use Rattle.build_replies.specs.Mapped.{told_view};
@@ -27,7 +27,7 @@ use image_replies::CoreImage;
 use intake::Archive;
 use std::alloc::Global;
 
-// The mapped files of a core, each with the build ID that it tells. The core may be the first bytes alone of an image.
+// The mapped files of a core, each with the build ID that the core has for it. The core may be the first bytes alone of an image.
 pub(crate) fn told_of<'a, D: Disk>(
     alloc: Global,
     image: CaseImage<'_>,
@@ -138,7 +138,7 @@ pub(crate) fn builds_of<'a, D: Disk>(
     }
 }
 
-// Why what is found in a core's memory is not.
+// Why the facts of a core's memory are not found.
 fn refusal_of(fault: WalkFault) -> Refusal {
     match fault {
         WalkFault::Unread(fault) => Refusal::Call(fault),

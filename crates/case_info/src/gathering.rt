@@ -36,7 +36,7 @@ pub(crate) struct Gathered {
     pub(crate) files: Vec<Vec<KeptFile>>,
 }
 
-// What is known of a case.
+// The facts of a case.
 fn listed_case(alloc: Global, entry: &Entry) -> Result<ListedCase, AllocError>
     ensures { IfOk result (λ listed. listed_view listed ≡ case_value (case_of entry.now)) }
 {
@@ -61,7 +61,7 @@ fn is_core(kind: Kind) -> bool
     }
 }
 
-// What is known of these cases.
+// The facts of these cases.
 fn listed_cases(alloc: Global, entries: &[Entry]) -> Result<Vec<ListedCase>, AllocError>
     ensures { IfOk result (λ cases. map listed_view cases.items ≡ map case_value (map case_of entries.now)) }
 {
@@ -72,7 +72,7 @@ fn listed_cases(alloc: Global, entries: &[Entry]) -> Result<Vec<ListedCase>, All
     Ok(cases)
 }
 
-// What is known of the cases of an archive.
+// The facts of the cases of an archive.
 fn cases_in<D: Disk>(alloc: Global, archive: &Archive<D>) -> Result<Vec<ListedCase>, Refusal>
     ensures { IfOk result (λ cases. map listed_view cases.items ≡ map case_value (state_of archive.now).cases) }
 {
@@ -145,7 +145,7 @@ fn gather_on<D: Disk + Drop>(alloc: Global, disk: D) -> Result<Gathered, Refusal
     }
 }
 
-// The same from a look on, if all cases are found again at the next.
+// The same from one look, if all cases are found again at the next.
 fn gather_looked<S: SharedDisk + Drop>(
     alloc: Global,
     looked: Looked<S>,

@@ -14,7 +14,7 @@ use std::alloc::{AllocError, Global};
 pub(crate) struct KeptFile {
     // Its name.
     pub(crate) name: Vec<u8>,
-    // The build ID that the core tells for it, if it tells one.
+    // The build ID that the core has for it, if it has one.
     pub(crate) told: Option<Vec<u8>>,
     // Whether an executable that is stored is used for it.
     pub(crate) is_used: bool,
@@ -49,7 +49,7 @@ fn used_id<'a>(chosen: ChosenFile<'a>) -> Option<&'a [u8]>
     build_id(chosen.used()?.image)
 }
 
-// A mapped file of which this is told.
+// A mapped file by these facts.
 fn kept_file(alloc: Global, row: &BuildAnswer<'_>) -> Result<KeptFile, AllocError>
     ensures { IfOk result (λ file. file_view file ≡ file_of (build_view row.now)) }
 {
@@ -72,7 +72,7 @@ fn files_of_rows(alloc: Global, rows: &[BuildAnswer<'_>]) -> Result<Vec<KeptFile
     Ok(files)
 }
 
-// The mapped files of a core, by what is told of them. A core without NT_FILE has none.
+// The mapped files of a core, by the facts that were read. A core without NT_FILE has none.
 pub(crate) fn kept_files(
     alloc: Global,
     rows: Option<&[BuildAnswer<'_>]>,

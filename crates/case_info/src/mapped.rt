@@ -1,4 +1,4 @@
-// What a core tells of its mapped files, and which executables are used for them.
+// The mapped files of a core, and which executables are used for them.
 ghost use Rattle.std.specs.Prelude.{◌≡◌, ◌≤◌, ℕ, IfErr, IfOk, List, length, map};
 ghost use Rattle.case_queries.specs.Fronts.{HasSize};
 ghost use Rattle.case_screens.specs.Core.{notes_in};

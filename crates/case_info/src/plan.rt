@@ -1,4 +1,4 @@
-// Which cases of an archive a prune drops, by what was gathered of them.
+// Which cases of an archive a prune drops, by the facts that were gathered of them.
 ghost use Rattle.std.specs.Prelude.{◌≡◌, ◌≤◌, true, IfOk, List, length, map};
 ghost use Rattle.std.specs.List.Sorted.{IsStrictlyIncreasing};
 ghost use Rattle.pruning.specs.Cases.{number};
@@ -50,7 +50,7 @@ fn lent_cores<'a>(
     Ok(lent)
 }
 
-// What a case holds, as a prune sees it.
+// The contents of a case, as a prune sees them.
 fn content_of<'t, 'a>(is_core: bool, files: &'t [MappedFile<'a>]) -> Content<'t, 'a>
     ensures { (kept : List FileValue) → map mapped_view files.entry.now ≡ map mapped_of kept → IsContent is_core kept result }
 {
@@ -128,7 +128,7 @@ fn name_of<'a>(cases: &'a [ListedCase], seq: u32) -> &'a [u8] {
     }
 }
 
-// Tells a case that would go.
+// Prints a case that would go.
 fn tell_drop<O: Output>(reply: &mut Reply<'_, O>, seq: u32, name: &[u8])
     ensures { TellsText (telling O.Output reply.old reply.new) (drop_line seq name.now) }
 {
@@ -139,7 +139,7 @@ fn tell_drop<O: Output>(reply: &mut Reply<'_, O>, seq: u32, name: &[u8])
     reply.tell(b"\n");
 }
 
-// Tells which cases would go.
+// Prints which cases would go.
 pub(crate) fn tell_plan<O: Output>(
     cases: &[ListedCase],
     pruning: &Pruning,

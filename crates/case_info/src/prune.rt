@@ -19,25 +19,25 @@ use std::fs::File;
 use std::rt::Files;
 use std::time::Clock;
 
-/// What is pruned.
+/// The request that the words of `prune` make.
 #[derive(Clone, Copy, Debug)]
 pub struct PruneWords {
-    /// What the cores are brought down to. Without a limit no core goes.
+    /// The limits for the cores. Without a limit no core goes.
     pub policy: Policy,
     /// The cases are deleted. Else it is only told which would be.
     pub deletes: bool,
 }
 
-/// Drops cores by a policy, and then the executables and debug files of builds that no core that stays needs (`IsPruning` of
-/// pruning). If they are not to be deleted it only looks, and tells `drop N NAME` for each. Else each is deleted as by a line `delete N`
-/// of its own, cores first, and told as `dropped N`. The archive is locked from its reading to the last deletion, and what is told is held
-/// until it is let go.
+/// Drops cores by a policy, and then the executables and debug files of builds that no core that stays needs (`IsPruning` of pruning).
+/// If they are not to be deleted it only looks, and prints `drop N NAME` for each. Else each is deleted as by a line `delete N` of its
+/// own, cores first, and printed as `dropped N`. The archive is locked from its reading to the last deletion, and the text is held
+/// until the lock is released.
 ///
 /// # Errors
 ///
-/// What `take_look` or `take_disk` of `archive_files` and an opening are refused for. `OutOfMemory` and `Disk`: nothing is told, or a
-/// deletion is refused, and the cases before it are gone. `NoCase`: cases were deleted meanwhile, whenever all were looked at. `Told`: the
-/// reply says why a deletion is refused. `WriteFailed` if the text could not be written.
+/// The refusals of `take_look` or `take_disk` of `archive_files` and of an opening. `OutOfMemory` and `Disk`: nothing is printed, or a
+/// deletion is refused, and the cases before it are gone. `NoCase`: cases were deleted meanwhile, whenever all were looked at. `Told`:
+/// the reply says why a deletion is refused. `WriteFailed` if the text could not be written.
 pub fn prune_archive<R: AllocGlobal + Files<File = File> + Clock, O: Output, W: Onlooker>(
     rt: &R,
     place: ArchivePath<'_>,
@@ -52,7 +52,7 @@ pub fn prune_archive<R: AllocGlobal + Files<File = File> + Clock, O: Output, W: 
     }
 }
 
-// Tells which cases would go.
+// Prints which cases would go.
 fn foresee<R: AllocGlobal + Files<File = File>, O: Output>(
     rt: &R,
     place: ArchivePath<'_>,
@@ -64,7 +64,7 @@ fn foresee<R: AllocGlobal + Files<File = File>, O: Output>(
     Ok(tell_plan(&gathered.cases, &pruning, output)?)
 }
 
-// Prunes with the archive's lock, and writes what is told once the archive is let go.
+// Prunes with the archive's lock, and writes the text once the lock is released.
 fn prune_locked<R: AllocGlobal + Files<File = File> + Clock, O: Output, W: Onlooker>(
     rt: &R,
     place: ArchivePath<'_>,

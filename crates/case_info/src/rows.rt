@@ -12,8 +12,7 @@ use std::fs::File;
 use std::rt::Files;
 use std::time::Clock;
 
-/// Answers a line that asks an image, and tells its rows as JSON: an array of objects. If it is refused an object
-/// says why.
+/// Answers a line that asks an image, and prints its rows as JSON: an array of objects. If it is refused an object says why.
 ///
 /// # Errors
 ///
@@ -51,7 +50,7 @@ fn tell_rows<O: Output>(
     write_json(&rows_json(alloc, rows, rows_of(name))?, output)
 }
 
-// Tells why a line is refused, whose reply is `no` and the reason.
+// Prints why a line is refused, whose reply is `no` and the reason.
 pub(crate) fn tell_refused<O: Output>(
     alloc: Global,
     text: &[u8],

@@ -1,4 +1,4 @@
-// How what is shown is written.
+// How text is written.
 use archive_files::{Failure, Refusal, reason_of};
 use case_screens::refusal_json;
 use script_streams::{Output, Reply, write_whole};
@@ -17,7 +17,7 @@ pub(crate) fn write_json<O: Output>(json: &str, output: &mut O) -> Result<(), Fa
     Ok(reply.finish()?)
 }
 
-// What was shown; or, if JSON is asked for, an object that says why it is refused.
+// The text; or, if JSON is asked for, an object that says why it is refused.
 pub(crate) fn shown<O: Output>(
     alloc: Global,
     is_json: bool,
@@ -30,7 +30,7 @@ pub(crate) fn shown<O: Output>(
     }
 }
 
-// Writes why something is refused as JSON. It is told beside the output too.
+// Writes as JSON why something is refused. Standard error says it too.
 fn refuse<O: Output>(alloc: Global, refusal: Refusal, output: &mut O) -> Failure {
     let reason = reason_of(alloc, refusal);
     let Ok(json) = refusal_json(alloc, reason.text()) else {

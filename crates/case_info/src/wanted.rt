@@ -1,4 +1,4 @@
-// The builds that cores want: they tell their IDs for mapped files for which no executable is used.
+// The builds that cores want: they have their IDs for mapped files for which no executable is used.
 ghost use Rattle.std.specs.Prelude.{◌≡◌, ◌++◌, ◌∷◌, [], IfOk, OnOk, Some, map};
 ghost use Rattle.std.specs.List.{flat_map};
 ghost use Rattle.std.specs.Option.{option_map};
@@ -69,7 +69,7 @@ impl<'a> WantedBuilds<'a> {
         Ok(())
     }
 
-    // Adds what the files that a core maps want.
+    // Adds the builds that the files of a core want.
     fn add_files(&mut self, files: &'a [KeptFile]) -> Result<(), AllocError>
         ensures { OnOk result (builds_in self.new ≡ with_all (builds_in self.old) (map file_view files.entry.now)) }
     {
@@ -94,7 +94,7 @@ impl<'a> WantedBuilds<'a> {
     }
 }
 
-// Tells the line of a build.
+// Prints the line of a build.
 fn tell_build<O: Output>(reply: &mut Reply<'_, O>, build: &WantedBuild<'_>)
     ensures { TellsText (telling O.Output reply.old reply.new) (wants_line (wanted_view build.now)) }
 {
@@ -104,7 +104,7 @@ fn tell_build<O: Output>(reply: &mut Reply<'_, O>, build: &WantedBuild<'_>)
     reply.tell(b"\n");
 }
 
-// Tells a line for each build.
+// Prints a line for each build.
 pub(crate) fn tell_builds<O: Output>(reply: &mut Reply<'_, O>, builds: &[WantedBuild<'_>])
     ensures { TellsText (telling O.Output reply.old reply.new) (flat_map wants_line (map wanted_view builds.now)) }
 {
@@ -113,7 +113,7 @@ pub(crate) fn tell_builds<O: Output>(reply: &mut Reply<'_, O>, builds: &[WantedB
     }
 }
 
-// Tells the ID of a build.
+// Prints the ID of a build.
 fn tell_id<O: Output>(reply: &mut Reply<'_, O>, build: &WantedBuild<'_>)
     ensures { TellsText (telling O.Output reply.old reply.new) (id_line (wanted_view build.now)) }
 {
@@ -121,7 +121,7 @@ fn tell_id<O: Output>(reply: &mut Reply<'_, O>, build: &WantedBuild<'_>)
     reply.tell(b"\n");
 }
 
-// Tells the ID of each build.
+// Prints the ID of each build.
 pub(crate) fn tell_ids<O: Output>(reply: &mut Reply<'_, O>, builds: &[WantedBuild<'_>])
     ensures { TellsText (telling O.Output reply.old reply.new) (flat_map id_line (map wanted_view builds.now)) }
 {

@@ -31,30 +31,30 @@ use std::rt::Files;
 use std::time::Clock;
 use unlocked_reading::{Places, Reads, find_cases, stay};
 
-// How often a core is looked at before it is passed over, where a case was deleted meanwhile.
+// How often a core is looked at before it is skipped, if a case was deleted meanwhile.
 const TRIES: usize = 3;
 
-// What the words of a line are.
+// The words of a line.
 const FORMS: [&str; 1] = ["<name:text> <id:digits>"];
 
-/// How the builds are told.
+/// How the builds are printed.
 #[derive(Clone, Copy, Debug)]
 pub struct WantsWords {
-    /// Their IDs alone are told, and then `ok`.
+    /// Their IDs alone are printed, and then `ok`.
     pub ids_alone: bool,
-    /// They are told as JSON.
+    /// They are printed as JSON.
     pub is_json: bool,
 }
 
-/// Tells the builds that cores want: the IDs that they tell for mapped files for which no executable is used, each with the first such
+/// Prints the builds that cores want: the IDs that they have for mapped files for which no executable is used, each with the first such
 /// file. With a case it is the reply to `wants` of that case, which is named by its number, by its name, or as `last`. Else they are
-/// those of all cores in the order of their numbers, each once. All cores are seen over one opening of the archive, and found again at a
-/// second look. If a case is deleted meanwhile again and again, each core is looked at alone. What has a fault in its headers or notes,
-/// has no NT_FILE, or is gone, wants none. All is held until the last core was looked at.
+/// those of all cores in the order of their numbers, each once. All cores are seen over one opening of the archive, and found again at
+/// a second look. If a case is deleted meanwhile again and again, each core is looked at alone. A core that has a fault in its headers
+/// or notes, has no NT_FILE, or is gone, wants none. All is held until the last core was looked at.
 ///
 /// # Errors
 ///
-/// What `take_look` of `archive_files` and an opening are refused for. `OutOfMemory` and `Disk`: nothing is told. `Told`: the reply to
+/// The refusals of `take_look` of `archive_files` and of an opening. `OutOfMemory` and `Disk`: nothing is printed. `Told`: the reply to
 /// `wants` of the case is that it is refused. `WriteFailed` if the text could not be written.
 pub fn tell_wants<R: AllocGlobal + Files<File = File> + Clock, O: Output, W: Onlooker>(
     rt: &R,
@@ -71,7 +71,7 @@ pub fn tell_wants<R: AllocGlobal + Files<File = File> + Clock, O: Output, W: Onl
     shown(rt.alloc(), words.is_json, done, output)
 }
 
-// Tells what one core wants.
+// Prints the builds that one core wants.
 fn tell_case<R: AllocGlobal + Files<File = File> + Clock, O: Output, W: Onlooker>(
     rt: &R,
     place: ArchivePath<'_>,
@@ -96,7 +96,7 @@ fn write_refused<O: Output>(text: &[u8], output: &mut O) -> Result<(), Failure> 
     Err(Failure::Told)
 }
 
-// What a core wants, as its line tells it.
+// The builds that a core wants, as the reply to its line has them.
 fn ask_wants<R: AllocGlobal + Files<File = File> + Clock, W: Onlooker>(
     rt: &R,
     place: ArchivePath<'_>,
@@ -119,7 +119,7 @@ fn ask_wants<R: AllocGlobal + Files<File = File> + Clock, W: Onlooker>(
     }
 }
 
-// Tells the lines of a reply in the form that the words ask for.
+// Prints the lines of a reply in the form that the words ask for.
 fn tell_form<O: Output>(
     alloc: Global,
     text: &[u8],
@@ -134,7 +134,7 @@ fn tell_form<O: Output>(
     }
 }
 
-// Tells the last word of each line, and then `ok`.
+// Prints the last word of each line, and then `ok`.
 fn cut_ids<O: Output>(rows: &[u8], output: &mut O) -> Result<(), Failure> {
     let mut reply = Reply::new(output);
     let mut rest = rows.lines();
@@ -147,7 +147,7 @@ fn cut_ids<O: Output>(rows: &[u8], output: &mut O) -> Result<(), Failure> {
     Ok(reply.finish()?)
 }
 
-// Tells what all cores want.
+// Prints the builds that all cores want.
 fn tell_all<R: AllocGlobal + Files<File = File>, O: Output>(
     rt: &R,
     place: ArchivePath<'_>,
@@ -164,7 +164,7 @@ fn tell_all<R: AllocGlobal + Files<File = File>, O: Output>(
     }
 }
 
-// Tells builds as JSON.
+// Prints builds as JSON.
 fn tell_json<O: Output>(
     alloc: Global,
     builds: &[WantedBuild<'_>],
@@ -179,7 +179,7 @@ fn tell_json<O: Output>(
     }
 }
 
-// Tells builds, a line for each, and then `ok`.
+// Prints builds, a line for each, and then `ok`.
 fn tell_all_builds<O: Output>(builds: &[WantedBuild<'_>], output: &mut O) -> Result<(), StreamFault>
     ensures { IsDelivered (O.taken output.old) (O.failures output.old) (O.taken output.new) (O.failures output.new) (wants_reply (map wanted_view builds.now)) result }
 {
@@ -189,7 +189,7 @@ fn tell_all_builds<O: Output>(builds: &[WantedBuild<'_>], output: &mut O) -> Res
     reply.finish()
 }
 
-// Tells the IDs of builds, a line for each, and then `ok`.
+// Prints the IDs of builds, a line for each, and then `ok`.
 fn tell_all_ids<O: Output>(builds: &[WantedBuild<'_>], output: &mut O) -> Result<(), StreamFault>
     ensures { IsDelivered (O.taken output.old) (O.failures output.old) (O.taken output.new) (O.failures output.new) (ids_reply (map wanted_view builds.now)) result }
 {

@@ -1,4 +1,4 @@
--- What the words of a command ask for, but for those of `store` and `handle`.
+-- The requests that the words of a command make, except those of `store` and `handle`.
 use Rattle.std.specs.Prelude.{◌≡◌, ℕ, ◌<◌, ◌==◌, Bool, false, not, List, [], ◌∷◌, ◌++◌, length, map, Ok, Option, None, Some, String, codes, option_map, string_bytes, unwrap_or, if◌then◌else◌}
 use Rattle.std.specs.Option.{option_copied, option_map_or}
 use Rattle.archive_files.specs.declared.archive_path.ArchivePath.{ArchivePath}
@@ -55,7 +55,7 @@ pub record IsNew (given : Given) (wanted : NewArchive) : Type 0 where
   pub labels : wanted.keeps_labels ≡ labels_said given
   pub sparse : wanted.is_sparse ≡ flag_in given (codes "sparse")
 
--- What a copy is to be: another size if `--half` or `--data` says one.
+-- The shape of a copy: another size if `--half` or `--data` says one.
 pub record IsCopy (given : Given) (wanted : CopyWords) : Type 0 where
   pub half : wanted.half_blocks ≡ small_number_in given (codes "half")
   pub blocks : wanted.data_blocks ≡ small_number_in given (codes "data")
@@ -102,8 +102,8 @@ digits_behind (Some digits) = string_bytes digits ∷ []
 abbrev pub words_of : AskedLine → List (List ℕ)
 words_of line = map (λ word. word.now) line.words.items ++ digits_behind line.digits
 
--- What a line asks is what the script says of its words with a space between them; `--builds` has executables chosen by build. If it asks nothing with them, there is no question:
--- then its second word names a case.
+-- The question of a line is the one that the script has for its words with a space between them; with `--builds` executables are chosen by build. If its
+-- words make no question, its second word names a case.
 abbrev pub IsAsked : Bool → List ℕ → Option Question → Type 0
 IsAsked by_build line None = is_question (said line) ≡ false
 IsAsked by_build line (Some question) = question_said question ≡ said_choosing by_build (said line)
@@ -166,7 +166,7 @@ pub record IsPruned (given : Given) (words : PruneWords) : Type 0 where
   pub before : number_said (text_in given (codes "before")) ≡ Ok words.policy.before
   pub deletes : words.deletes ≡ flag_in given (codes "yes")
 
--- ---- What each command asks for.
+-- ---- The request of each command.
 
 -- an archive in a new file
 abbrev pub IsFormat : Given → Asked → Type 0
@@ -189,7 +189,7 @@ abbrev pub IsNoneOf : List ℕ → List (List ℕ) → Type 0
 IsNoneOf command [] = Unit {0}
 IsNoneOf command (name ∷ names) = (command ≡ name → ⊥) × IsNoneOf command names
 
--- what a command over an archive asks for
+-- the request of a command over an archive
 abbrev pub IsOver : Given → ArchivePath → Asked → Type 0
 IsOver given archive (asked.Run place settings by_build) = (given.command.now ≡ codes "run") × (place ≡ archive) × AreSettings given settings × (by_build ≡ flag_in given (codes "builds"))
 IsOver given archive (asked.Store place file stall request log spool) =
@@ -217,7 +217,7 @@ IsOver given archive (asked.Salvage place new) =
 IsOver given archive asked.Nothing = IsNoneOf given.command.now names_over
 IsOver given archive _ = ⊥
 
--- what the words of a command ask for
+-- the request that the words of a command make
 abbrev pub IsAskedBy : Given → Asked → Type 0
 IsAskedBy given (asked.Format archive wanted) = (given.command.now ≡ codes "format") × IsFormat given (asked.Format archive wanted)
 IsAskedBy given (asked.Memory shape settings by_build) = (given.command.now ≡ codes "memory") × IsShape given shape × AreSettings given settings × (by_build ≡ flag_in given (codes "builds"))

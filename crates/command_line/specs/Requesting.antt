@@ -1,4 +1,4 @@
--- What the words of `store` and of `handle` ask for.
+-- The requests that the words of `store` and of `handle` make.
 use Rattle.std.specs.Prelude.{◌≡◌, ◌⊎◌, ℕ, ◌==◌, ◌||◌, not, nat_lt, Bool, true, false, List, [], ◌∷◌, ◌++◌, length, map, Option, None, Some, is_some, Result, Ok, Err, codes, if◌then◌else◌}
 use Rattle.std.specs.List.{after_first, before_first, flat_map, position_or_len}
 use Rattle.std.specs.Borrow.{Bor}
@@ -51,7 +51,7 @@ is_equals c = c == 61
 abbrev pub has_equals : List ℕ → Bool
 has_equals word = nat_lt (position_or_len is_equals word) (length word)
 
--- A pair as a line has it: as it is; if VALUE is escaped, KEY is as it is, and so is a word that has no `=`.
+-- A pair as a line has it: unchanged; if VALUE is escaped, KEY stays unchanged, and a word that has no `=` too.
 abbrev pub IsPair : Bool → List ℕ → List ℕ → Type 0
 IsPair false pair spelled = spelled ≡ pair
 IsPair true pair spelled =
@@ -67,13 +67,13 @@ IsJoined escapes line (pair ∷ pairs) whole = (spelled : List ℕ) × IsPair es
 abbrev pub IsUnspelled : Refusal → Type 0
 IsUnspelled why = (why ≡ OutOfMemory) ⊎ ((part : WordPart) × (why ≡ NotUtf8 part))
 
--- ---- What a word says.
+-- ---- The value of a word.
 
 abbrev pub number_or_bad : Option ℕ → Result (Option ℕ) Refusal
 number_or_bad None = Err BadLine
 number_or_bad (Some n) = Ok (Some n)
 
--- A limit, or a length: the number of the word. If the word is left out there is none.
+-- A limit, or a length: the number of the word. It is left out with the word.
 abbrev pub number_said : Option (List ℕ) → Result (Option ℕ) Refusal
 number_said None = Ok None
 number_said (Some word) = number_or_bad (number_of word)
@@ -106,9 +106,9 @@ IsLabelled escapes (Some text) None = ⊥
 IsLabelled escapes (Some text) (Some label) =
     (spelled : List ℕ) × IsSpelled escapes text spelled × (case : ℕ) × (said (codes "label 1 " ++ spelled) ≡ label_of case (label_bytes label))
 
--- ---- What is asked for.
+-- ---- The request.
 
--- The words of `store` as what is to be stored.
+-- The words of `store` as the file that is to be stored.
 pub record AsksFor (given : GivenStore) (words : StoreWords) : Type 0 where
   -- the cases that go first
   pub policy : policy_said given ≡ Ok words.policy
@@ -131,7 +131,7 @@ pub record Asks (given : GivenStore) (request : StoreRequest) : Type 0 where
   pub words : StoreWords
   pub asked : AsksFor given words
   pub policy : request.policy ≡ words.policy
-  -- the stream that the line begins, named by the template, or why there is none
+  -- the stream that the line begins, named by the template, or why it begins none
   pub found : stream_found request.found ≡ line_stream (named_by given.settings.template.now given.settings.uses_pid) (said words.begin.items)
   pub options : request.options ≡ words.options
   -- the most bytes of an image
@@ -152,7 +152,7 @@ HasBoth None pairs = ⊥
 HasBoth (Some name) [] = ⊥
 HasBoth (Some name) (pair ∷ pairs) = Unit {0}
 
--- A word is at fault: a limit, a length or a number of seconds is no number, an executable has pairs, or the label is none.
+-- A word is invalid: a limit, a length or a number of seconds is no number, an executable has pairs, or the label can't be one.
 abbrev pub IsAtFault : GivenStore → Type 0
 IsAtFault given =
     (policy_said given ≡ Err BadLine)
@@ -161,11 +161,11 @@ IsAtFault given =
     ⊎ ((number_said (option_copied given.length) ≡ Err BadLine)
     ⊎ (number_said (option_copied given.stall) ≡ Err BadLine))))
 
--- Why words are refused: one is at fault, or not UTF-8, or there is no memory.
+-- Why words are refused: one is invalid, or not UTF-8, or there is no memory.
 abbrev pub AreRefused : GivenStore → Refusal → Type 0
 AreRefused given why = ((why ≡ BadLine) × IsAtFault given) ⊎ IsUnspelled why
 
--- The same with the template, which is looked at behind the words: it is refused only if none of them is at fault.
+-- The same with the template, which is checked after the words: it is refused only if none of them is invalid.
 abbrev pub IsRefused : GivenStore → Refusal → Type 0
 IsRefused given why =
     AreRefused given why
@@ -173,7 +173,7 @@ IsRefused given why =
 
 -- ---- Under which name each word is given.
 
--- What is given under each name.
+-- The words under each name.
 pub record IsGiven {W : Type 0} (g : named.Ghosts W) (words : W) (given : GivenStore) : Type 0 where
   pub file : (file : Option (List ℕ)) × g.stands words (codes "file") file × (given.file.now ≡ unwrap_or file [])
   pub keep : g.stands words (codes "keep") (option_copied given.keep)
@@ -214,7 +214,7 @@ abbrev pub id_within : Option (List ℕ) → Result (Option (List ℕ)) Refusal
 id_within None = Err BadLine
 id_within (Some id) = if has_name id then Ok (Some id) else Err BadLine
 
--- The build ID that FILE has to have: the bytes of the word's digits. If the word is left out there is none.
+-- The build ID that FILE must have: the bytes of the word's digits. It is left out with the word.
 abbrev pub id_said : Option (List ℕ) → Result (Option (List ℕ)) Refusal
 id_said None = Ok None
 id_said (Some word) = id_within (needle_of word)
@@ -249,7 +249,7 @@ pub record AsksToStoreBuild (given : GivenStore) (archive : ArchivePath) (asked 
   pub asks : AsksForBuild given build
   pub same : asked ≡ StoreBuild archive file build given.log
 
--- What `store` asks for over this archive: which file is stored, as what, through which spool, and where it is told.
+-- The request of `store` over this archive: which file is stored, as which kind of case, through which spool, and where the outcome is logged.
 pub record AsksToStore (given : GivenStore) (archive : ArchivePath) (asked : Asked) : Type 0 where
   pub is_plain : given.build ≡ false
   pub file : Bor (List ℕ)
@@ -318,7 +318,7 @@ abbrev pub IsNumberIn : List ℕ → List ℕ → Option ℕ → Type 0
 IsNumberIn key pair None = (value : List ℕ) → pair ≡ key ++ value → number_of value ≡ None
 IsNumberIn key pair (Some n) = (value : List ℕ) × (pair ≡ key ++ value) × (number_of value ≡ Some n)
 
--- this number, or if there is none what the others have
+-- this number, or else that of the others
 abbrev pub IsNumberOr : Option ℕ → Option ℕ → Type 0 → Type 0
 IsNumberOr None found Others = Others
 IsNumberOr (Some n) found Others = found ≡ Some n
@@ -338,7 +338,7 @@ abbrev pub pairs_beside : List (Bor (List ℕ)) → List (Bor (List ℕ))
 pairs_beside [] = []
 pairs_beside (word ∷ words) = if has_equals word.now then word ∷ words else words
 
--- What is given under each name.
+-- The words under each name.
 pub record IsGivenToHandle {W : Type 0} (g : named.Ghosts W) (words : W) (given : GivenHandle) : Type 0 where
   pub archive : g.stands words (codes "archive") (option_copied given.archive)
   pub length : g.stands words (codes "length") (option_copied given.length)
@@ -359,7 +359,7 @@ pub record Handles (given : GivenHandle) (asked : HandleWords) : Type 0 where
   -- for how many seconds the input may give nothing, and what states that and is no number
   pub stall : asked.stall ≡ length_of (option_copied given.stall)
   pub faulty_stall : option_copied asked.faulty_stall ≡ (if is_some asked.stall then None else option_copied given.stall)
-  -- what the process allows its core, and its dump mode
+  -- the core size that the process allows, and its dump mode
   pub core_limit : IsNumberAt (codes "limit=") (pairs_beside given.words.now) asked.core_limit
   pub mode : IsNumberAt (codes "mode=") (pairs_beside given.words.now) asked.mode
   pub is_check : asked.is_check ≡ given.is_check

@@ -1,4 +1,4 @@
-// What the words of `ask` ask for.
+// The request that the words of `ask` make.
 ghost use Rattle.std.specs.Prelude.{◌≡◌, ◌⊎◌, ℕ, None, List, codes, IfErr, IfOk, map};
 ghost use Rattle.std.specs.Borrow.{Bor};
 ghost use Rattle.archive_files.specs.declared.failures.Refusal.TheVariants.{NoLine};
@@ -24,7 +24,7 @@ const ROWS: &str = "--json LINE, a line that asks an image; corekeep list --json
 // The words of a line that takes a text.
 const TEXT: &str = "find N --text TEXT";
 
-// How a reply is told.
+// The form in which a reply is printed.
 #[derive(Clone, Copy, Debug, PartialEq, Eq)]
 pub(crate) enum Form {
     // As the script has it.
@@ -61,7 +61,7 @@ impl AskedLine<'_> {
         Ok(words)
     }
 
-    // What the line asks, if it has a number for the case. If it has none its second word names a case.
+    // The question of the line, if it has a number for the case. Without one its second word names a case.
     fn question(&self, alloc: Global) -> Result<Option<Question>, Refusal>
         ensures asked { IfOk result (asking.IsAsked self.now.by_build (joined (asking.words_of self.now))) }
         ensures refused { IfErr result (asking.IsNoQuestion (joined (asking.words_of self.now))) }
@@ -117,7 +117,7 @@ fn check_all(words: &[&str]) -> Result<(), Refusal>
     Ok(())
 }
 
-// What the words of `ask` ask for.
+// The request that the words of `ask` make.
 pub(crate) fn ask_words<'a>(
     alloc: Global,
     given: &Given<'a>,
@@ -143,7 +143,7 @@ pub(crate) fn ask_words<'a>(
     })
 }
 
-// The line, and how its reply is told.
+// The line, and the form in which its reply is printed.
 fn line_said<'a>(alloc: Global, given: &Given<'a>) -> Result<AskedLine<'a>, Refusal>
     ensures { IfOk result (asking.IsLine given.now) }
 {

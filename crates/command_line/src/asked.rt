@@ -1,4 +1,4 @@
-// What the words ask for.
+// The request that the words make.
 ghost use Rattle.std.specs.Prelude.{◌≡◌, None, Some, IfOk, IfErr, OnOk, map, string_bytes};
 ghost use Rattle.core_handler.specs.Fronts.{named_by};
 ghost use Rattle.name_template.specs.Template.{template_fault};
@@ -29,7 +29,7 @@ use retention::Policy;
 use script_lines::Question;
 use std::alloc::Global;
 
-// What the program is asked to do. Files are named by their paths.
+// The program's task. Files are named by their paths.
 #[derive(Drop)]
 pub(crate) enum Asked<'a> {
     // An archive in a new file.
@@ -57,7 +57,7 @@ pub(crate) enum Asked<'a> {
         // For how many seconds the input may give nothing, if that is bounded.
         stall: Option<u64>,
         request: StoreRequest,
-        // Where its outcome is told, if it is.
+        // Where its outcome is logged, if it is.
         log: Option<&'a str>,
         // The spool that a core goes to first, if there is one.
         spool: Option<SpoolWords<'a>>,
@@ -67,7 +67,7 @@ pub(crate) enum Asked<'a> {
         archive: ArchivePath<'a>,
         file: &'a str,
         build: BuildRequest,
-        // Where its outcome is told, if it is.
+        // Where its outcome is logged, if it is.
         log: Option<&'a str>,
     },
     // The image of a case, in a new file or on the output.
@@ -155,7 +155,7 @@ impl<'a> Asked<'a> {
     }
 }
 
-// What a session goes by, as the words say it.
+// The settings of a session, as the words say them.
 #[derive(Clone, Copy)]
 pub(crate) struct SessionWords<'a> {
     pub(crate) template: &'a str,
@@ -164,7 +164,7 @@ pub(crate) struct SessionWords<'a> {
     pub(crate) limit: u64,
 }
 
-// What the words ask for, and whether nothing is to be shown meanwhile.
+// The request that the words make, and whether nothing is to be shown meanwhile.
 pub(crate) fn read_words<'a>(
     alloc: Global,
     words: &'a [String],
@@ -175,7 +175,7 @@ pub(crate) fn read_words<'a>(
     Ok((asked_of(alloc, &given)?, given.flag("quiet")))
 }
 
-// What the words of a command ask for.
+// The request that the words of a command make.
 fn asked_of<'a>(alloc: Global, given: &Given<'a>) -> Result<Asked<'a>, Refusal>
     ensures { IfOk result (asking.IsAskedBy given.now) }
 {
@@ -284,7 +284,7 @@ fn format_words<'a>(given: &Given<'a>) -> Result<Asked<'a>, Refusal>
     })
 }
 
-// What is known of the shape of a damaged archive.
+// The known part of the shape of a damaged archive.
 fn wish_of(given: &Given<'_>) -> ShapeWish
     ensures wish { asking.IsWish given.now result }
 {

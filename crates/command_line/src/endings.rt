@@ -49,10 +49,10 @@ impl From<AllocError> for Ending {
     }
 }
 
-// What people are told by beside an ending.
+// The texts that people are shown beside an ending.
 #[derive(Clone, Copy)]
 pub(crate) struct Clues<'a> {
-    // What was done.
+    // The command that was carried out.
     pub(crate) context: Context,
     // The last line of the output: it has the reason for which a step was refused.
     pub(crate) last_line: &'a [u8],
@@ -64,7 +64,7 @@ pub(crate) struct Clues<'a> {
     pub(crate) trouble: Option<Trouble>,
 }
 
-// Says why the program ends so, and answers its status. What a reason means is told to people. Help is no failure: it goes to the
+// Says why the program ends so, and answers its status. The meaning of a reason is shown to people. Help is no failure: it goes to the
 // output, and the status is 0.
 pub(crate) fn tell_ending<O: Output, E: Output>(
     alloc: Global,
@@ -95,7 +95,7 @@ pub(crate) fn tell_ending<O: Output, E: Output>(
     }
 }
 
-// Tells people what the reason of a refusal means.
+// Explains the reason of a refusal to people.
 fn tell_why<E: Output>(alloc: Global, failure: &Failure, clues: Clues<'_>, errors: &mut E) {
     match failure {
         Failure::Refused(Refusal::NoLine(usage)) => tell_no_line(usage, clues.words, errors),
@@ -123,7 +123,7 @@ fn reason_in(line: &[u8]) -> Option<&[u8]> {
     }
 }
 
-// `tell_failure` tells people of these itself.
+// `tell_failure` explains these to people itself.
 fn is_told(refusal: Refusal) -> bool {
     matches!(
         refusal,
@@ -135,7 +135,7 @@ fn is_told(refusal: Refusal) -> bool {
     )
 }
 
-// Tells what a reason means, if there are words for it.
+// Explains a reason, if there are words for it.
 fn tell_words_of<E: Output>(reason: &[u8], clues: Clues<'_>, errors: &mut E) {
     if meaning_when(clues.context, reason).is_empty() {
         return;

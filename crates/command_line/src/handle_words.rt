@@ -1,4 +1,4 @@
-// What the words of `handle` ask for.
+// The request that the words of `handle` make.
 ghost use Rattle.std.specs.Prelude.{◌≡◌, [], codes, IfOk, IfErr};
 ghost use Rattle.std.specs.Option.{option_copied};
 ghost use Rattle.archive_files.specs.declared.failures.Refusal.TheVariants.{OutOfMemory};
@@ -20,12 +20,12 @@ pub(crate) struct GivenHandle<'g, 'a> {
     stall: Option<&'a str>,
     is_check: bool,
     is_flush: bool,
-    // The name of the configuration, and what is known of a core.
+    // The name of the configuration, and the known facts of a core.
     words: &'g [&'a str],
 }
 
 impl<'g, 'a> GivenHandle<'g, 'a> {
-    // What is given under each name, beside these words.
+    // The words under each name, beside these.
     pub(crate) fn of<W: NamedWords<'a>>(named: &W, words: &'g [&'a str]) -> Self
         ensures given { spec.IsGivenToHandle W.NamedWords named.now result }
         ensures words { result.words.now ≡ words.entry.now }
@@ -41,7 +41,7 @@ impl<'g, 'a> GivenHandle<'g, 'a> {
     }
 }
 
-// What the words of `handle` ask for. The first word that is no pair names the configuration.
+// The request that the words of `handle` make. The first word that is no pair names the configuration.
 pub(crate) fn handle_words<'a>(
     alloc: Global,
     given: &GivenHandle<'_, 'a>,

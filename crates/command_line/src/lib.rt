@@ -1,4 +1,4 @@
-//! The program but for its `main`: the words of its command line, and what they ask for.
+//! The program but for its `main`: the words of its command line, and the tasks that they name.
 #![tactic(auto)]
 
 mod ask_words;

@@ -1,4 +1,4 @@
-// What the words of `list` ask for.
+// The request that the words of `list` make.
 ghost use Rattle.std.specs.Prelude.{◌≡◌, IfOk, option_map};
 ghost use Rattle.std.specs.Option.{option_copied};
 ghost use Rattle.command_words.specs.Words.{text_in};

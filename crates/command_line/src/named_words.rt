@@ -1,4 +1,4 @@
-// Words that are told apart by their names.
+// Words that are found by their names.
 ghost use Rattle.std.specs.Prelude.{◌≡◌, ℕ, Bool, List, Option, unwrap_or};
 ghost use Rattle.std.specs.Option.{option_copied};
 ghost use Rattle.command_words.specs.Words.{flag_in, number_in, text_in};
@@ -30,7 +30,7 @@ pub(crate) trait NamedWords<'a> {
         ensures { counts self.now name.now result };
 }
 
-// What is given under a name.
+// The words under a name.
 impl<'a> NamedWords<'a> for Given<'a> {
     ghost stands = { λ words name value. value ≡ text_in words name };
 

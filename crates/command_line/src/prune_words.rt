@@ -1,4 +1,4 @@
-// What the words of `prune` ask for.
+// The request that the words of `prune` make.
 ghost use Rattle.std.specs.Prelude.{◌≡◌, IfErr, IfOk};
 ghost use Rattle.archive_files.specs.declared.failures.Refusal.TheVariants.{BadLine};
 ghost use Rattle.command_line.specs.Asking as asking;

@@ -1,4 +1,4 @@
-// What the words of `store` ask for.
+// The request that the words of `store` make.
 ghost use Rattle.std.specs.Prelude.{◌≡◌, ◌⊎◌, true, false, None, Some, Ok, Err, IfOk, IfErr, if◌then◌else◌};
 ghost use Rattle.std.specs.Option.{option_copied, option_map};
 ghost use Rattle.archive_files.specs.declared.failures.Refusal.TheVariants.{BadLine};
@@ -17,7 +17,7 @@ use script_lines::{Call, Question, parse_question};
 use script_words::{decode_hex, parse_number};
 use std::alloc::Global;
 
-// The words of `store` that say what is stored, and how.
+// The words of `store` that say which file is stored, and how.
 #[derive(Clone, Copy)]
 pub(crate) struct GivenStore<'g, 'a> {
     file: &'a str,
@@ -27,7 +27,7 @@ pub(crate) struct GivenStore<'g, 'a> {
     before: Option<&'a str>,
     // The name of an executable.
     exec: Option<&'a str>,
-    // What is known of a core.
+    // The known facts of a core.
     pairs: &'g [&'a str],
     label: Option<&'a str>,
     length: Option<&'a str>,
@@ -43,14 +43,14 @@ pub(crate) struct GivenStore<'g, 'a> {
     id: Option<&'a str>,
     is_debug: bool,
     settings: SessionWords<'a>,
-    // Where the outcome is told.
+    // Where the outcome is logged.
     log: Option<&'a str>,
     // The directory of the spool.
     spool: Option<&'a str>,
 }
 
 impl<'g, 'a> GivenStore<'g, 'a> {
-    // What is given under each name, beside these pairs.
+    // The words under each name, beside these pairs.
     pub(crate) fn of<W: NamedWords<'a>>(words: &W, pairs: &'g [&'a str]) -> Self
         ensures given { spec.IsGiven W.NamedWords words.now result }
         ensures pairs { result.pairs.now ≡ pairs.entry.now }
@@ -84,7 +84,7 @@ impl<'g, 'a> GivenStore<'g, 'a> {
     }
 }
 
-// What the words of `store` ask for over this archive.
+// The request that the words of `store` make over this archive.
 pub(crate) fn store_words<'a>(
     alloc: Global,
     given: &GivenStore<'_, 'a>,
@@ -116,7 +116,7 @@ pub(crate) fn store_words<'a>(
     })
 }
 
-// What is stored under the name of its build. No word says what else it could be.
+// A file that is stored under the name of its build. No word says another kind.
 fn build_of(alloc: Global, given: &GivenStore<'_, '_>) -> Result<BuildRequest, Refusal>
     ensures asked { IfOk result (λ build. spec.AsksForBuild given.now build) }
     ensures refused { IfErr result (spec.IsBuildRefused given.now) }
@@ -183,7 +183,7 @@ fn spool_of<'a>(
     }
 }
 
-// What is stored, and by what. The template is looked at behind the words.
+// The file to store, and its name. The template is checked after the words.
 fn request_of(alloc: Global, given: &GivenStore<'_, '_>) -> Result<StoreRequest, Refusal>
     ensures asked { IfOk result (λ request. spec.Asks given.now request) }
     ensures refused { IfErr result (spec.IsRefused given.now) }
@@ -198,7 +198,7 @@ fn request_of(alloc: Global, given: &GivenStore<'_, '_>) -> Result<StoreRequest,
     Ok(StoreRequest::of(words, &naming, given.settings.limit))
 }
 
-// What is stored, and what goes for it.
+// The file to store, and the cases that go for it.
 fn wanted_of(alloc: Global, given: &GivenStore<'_, '_>) -> Result<StoreWords, Refusal>
     ensures asked { IfOk result (λ words. spec.AsksFor given.now words) }
     ensures refused { IfErr result (spec.AreRefused given.now) }
@@ -235,7 +235,7 @@ fn cut_of(given: &GivenStore<'_, '_>) -> Option<u64>
     }
 }
 
-// What the archive is to be brought down to, of the limits that are there.
+// The limits that the archive is to be brought down to, of those that are there.
 fn policy_of(given: &GivenStore<'_, '_>) -> Result<Option<Policy>, Refusal>
     ensures said { result ≡ spec.policy_said given.now }
     ensures refused { IfErr result (λ why. (why ≡ BadLine) × (spec.policy_said given.now ≡ Err BadLine)) }
@@ -260,8 +260,8 @@ pub(crate) fn number_of(word: Option<&str>) -> Result<Option<u64>, Refusal>
     }
 }
 
-// The line of a script that begins the stream: of an executable where it has a name, else of a core with its pairs. A core's
-// pairs say nothing of an executable, so both together are refused.
+// The line of a script that begins the stream: of an executable if it has a name, else of a core with its pairs. A core's pairs say
+// nothing of an executable, so both together are refused.
 fn first_line(alloc: Global, given: &GivenStore<'_, '_>) -> Result<Vec<u8>, Refusal>
     ensures begun { IfOk result (λ line. spec.IsBegun given.now (option_copied given.now.exec) (spec.pairs_of given.now) line.items) }
     ensures refused { IfErr result (λ why. ((why ≡ BadLine) × spec.HasBoth (option_copied given.now.exec) (spec.pairs_of given.now)) ⊎ spec.IsUnspelled why) }

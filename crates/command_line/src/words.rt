@@ -35,8 +35,8 @@ use std::io::Read;
 use std::rt::{Env, Files};
 use std::time::Clock;
 
-/// The program but for its standard streams, which its `main` hands in. Its words are those of the process, of any bytes.
-/// It answers the status that the program ends with, as `run_words` does. An onlooker is told how far it is.
+/// The program but for its standard streams, which its `main` hands in. Its words are those of the process, of any bytes. It answers
+/// the status that the program ends with, as `run_words` does. An onlooker is shown the progress.
 pub fn run_program<
     R: Env + AllocGlobal + Files<File = File> + Clock + Clone + Drop,
     I: Read,
@@ -65,42 +65,41 @@ pub fn run_program<
     }
 }
 
-/// What the words after the program's name ask for. It answers the status that the program ends with.
+/// Carries out the command in the words after the program's name. It answers the status that the program ends with.
 ///
-/// An archive in a file is changed by one process at a time: what changes it waits until another one has ended, and what only
-/// looks at it until none changes it, or, with `--no-wait`, is refused as `Busy`. While they wait they do not return, as where FILE is a pipe that nobody writes to.
+/// An archive in a file is changed by one process at a time. A command that changes it waits until another one has ended. One that only
+/// looks at it waits until none changes it. With `--no-wait` either is refused as `Busy` instead. While they wait they do not return;
+/// the same holds if FILE is a pipe that nobody writes to.
 ///
 /// - `format ARCHIVE --half N --data N` makes an archive in a new file, all of whose bytes are written; with `--sparse`
-///   they are not. It is of version 1 of the layout, and with `--layout 2` of version 2, which keeps labels.
+/// they are not. It is of version 1 of the layout, and with `--layout 2` of version 2, which keeps labels.
 /// - `run ARCHIVE` runs the script of `input` over the archive in a file, and writes its replies to `output`.
 /// - `memory --half N --data N` runs it over a fresh archive in memory.
-/// - `store ARCHIVE FILE [KEY=VALUE..]` stores a file as a core of which these pairs are known, and with `--exec NAME` in
-///   place of the pairs as an executable of that name. Its replies are those of the lines `begin` and `end` of a script.
-///   FILE `-` is `input`. With `--escape` the bytes of each VALUE and of NAME are taken as they are. With `--keep K`,
-///   `--bytes B` or `--before T` the line `retire` of a script with these limits is carried out first, in the same opening,
-///   and its reply goes before the others; where it is refused the file is stored all the same. With `--label TEXT` the
-///   line `label` of a script gives the new case this label, and its reply follows the others; where it is refused, as in
-///   an archive of version 1 of the layout, the case stays. With `--pin` the line `pin` comes after that, in the same way.
-/// - `list ARCHIVE` shows the cases as a table, or as JSON; with words that only some cases meet, those. The status is 1 if there are
-///   none of these.
-/// - `info ARCHIVE CASE` shows what is known of a case on one screen, and `info ARCHIVE` what is known of the archive.
+/// - `store ARCHIVE FILE [KEY=VALUE..]` stores a file as a core with these pairs, and with `--exec NAME` instead of the pairs
+/// as an executable of that name. Its replies are those of the lines `begin` and `end` of a script. FILE `-` is `input`. With
+/// `--escape` the bytes of each VALUE and of NAME are taken unchanged. With `--keep K`, `--bytes B` or `--before T` the line `retire`
+/// of a script with these limits is carried out first, in the same opening, and its reply goes before the others; if it is refused the
+/// file is stored anyway. With `--label TEXT` the line `label` of a script gives the new case this label, and its reply follows the
+/// others; if it is refused, such as in an archive of version 1 of the layout, the case stays. With `--pin` the line `pin` comes after
+/// that, in the same way.
+/// - `list ARCHIVE` shows the cases as a table, or as JSON; with filters, those that match. The status is 1 if none does.
+/// - `info ARCHIVE CASE` shows a case on one screen, and `info ARCHIVE` the archive.
 /// - `ask ARCHIVE WORD..` carries out one line of a script, with `--plain` so that people read its reply, and `find N --text TEXT` looks
-///   for these bytes. `extract ARCHIVE N [FILE]` writes the image of a case. A line that changes no case, and `extract`, need no right to write the archive's file, and hold its lock only while they
-///   read its journal.
-/// - `prune ARCHIVE` tells which executables and debug files are of builds that no core needs, and with `--cores K`, `--bytes B` or
-///   `--before T` which cores go first; with `--yes` it deletes them.
+/// for these bytes. `extract ARCHIVE N [FILE]` writes the image of a case. A line that changes no case, and `extract`, need no right to
+/// write the archive's file, and hold its lock only while they read its journal.
+/// - `prune ARCHIVE` prints which executables and debug files are of builds that no core needs, and with `--cores K`, `--bytes B` or
+/// `--before T` which cores go first; with `--yes` it deletes them.
 /// - `look ARCHIVE` answers the lines of `input` that change no case, each as `ask` does.
-/// - `check ARCHIVE` tells what an archive holds and that it is sound, or where it is damaged.
+/// - `check ARCHIVE` prints the contents of an archive, and that it is sound or where the damage is.
 /// - `copy ARCHIVE NEW` copies it into a new file, and `resize ARCHIVE` into one that takes its place; `--half N` and `--data N` give
-///   the new archive another size.
-/// - `salvage ARCHIVE NEW` copies the cases of a damaged archive into a new file, and tells of each whether it is whole.
+/// the new archive another size.
+/// - `salvage ARCHIVE NEW` copies the cases of a damaged archive into a new file, and prints of each whether it is whole.
 ///
 /// `run`, `memory` and `store` take `--template T` and `--uses-pid`, by which cores are named, and `--limit N`, the most bytes of an
-/// image. Statuses: 0; 1 where something is refused, with one line `no REASON` on `output` (and what it means in words on
-/// `errors`), or the session ends before its script, with one line `fault NAME` on `errors`; 2 where the words are refused,
-/// with the reason on `errors`. Help goes to `output`, and the status is 0 then. What is refused is looked for in this
-/// order: the words, the template, the shape, ARCHIVE, FILE.
-///
+/// image. Statuses: 0; 1 if something is refused, with one line `no REASON` on `output` (and its meaning in words on `errors`), or the
+/// session ends before its script, with one line `fault NAME` on `errors`; 2 if the words are refused, with the reason on `errors`.
+/// Help goes to `output`, and the status is 0 then. Refusals are looked for in this order: the words, the template, the shape, ARCHIVE,
+/// FILE.
 pub fn run_words<
     R: AllocGlobal + Files<File = File> + Clock + Clone + Drop,
     I: Read,
@@ -116,8 +115,8 @@ pub fn run_words<
     run_watched(rt, words, input, output, errors, &mut Nobody)
 }
 
-/// The same as `run_words`. An onlooker is told how far `format`, `store`, `extract`, `copy`, `resize` and `salvage` are, unless `--quiet` is
-/// there.
+/// The same as `run_words`. An onlooker is shown the progress of `format`, `store`, `extract`, `copy`, `resize` and `salvage`, unless
+/// `--quiet` is there.
 pub fn run_watched<
     R: AllocGlobal + Files<File = File> + Clock + Clone + Drop,
     I: Read,
@@ -151,7 +150,7 @@ pub fn run_watched<
     }
 }
 
-// Does what the words ask for, unless what is told of it would overwrite a file that they name.
+// Does the task of the words, unless the log of it would overwrite a file that they name.
 fn answer_words<
     R: AllocGlobal + Files<File = File> + Clock + Clone + Drop,
     I: Read,
@@ -195,7 +194,7 @@ fn answer_words<
     }
 }
 
-// Does what is asked for.
+// Does the task.
 fn answer_asked<
     R: AllocGlobal + Files<File = File> + Clock + Clone + Drop,
     I: Read,
@@ -295,7 +294,7 @@ fn answer_asked<
     }
 }
 
-// What tells the outcome of a store to this log, if there is one.
+// The writer of a store's outcome to this log, if there is one.
 fn teller_of<'a>(alloc: Global, archive: ArchivePath<'a>, log: Option<&'a str>) -> Teller<'a> {
     Teller {
         alloc,
@@ -341,7 +340,7 @@ fn store_noting<
     }
 }
 
-// Makes an archive, and notes what is to be known of the file system that it lies on.
+// Makes an archive, and notes the limits of the file system that it lies on.
 fn make_noting<R: AllocGlobal + Files<File = File>, W: Onlooker>(
     rt: &R,
     path: &str,
@@ -354,7 +353,7 @@ fn make_noting<R: AllocGlobal + Files<File = File>, W: Onlooker>(
     Ok(())
 }
 
-// Tells whether the archive in a file is sound, and notes what its halves say of one another, and what is to be known of its file system.
+// Prints whether the archive in a file is sound, and notes how its halves relate, and the limits of its file system.
 fn check_noting<R: AllocGlobal + Files<File = File> + Clock, O: Output, W: Onlooker>(
     rt: &R,
     place: ArchivePath<'_>,
@@ -405,7 +404,7 @@ fn changes(alloc: Global, question: &Option<Question>, words: &[&str]) -> Result
     }
 }
 
-// Prunes an archive, or tells which cases would go.
+// Prunes an archive, or prints which cases would go.
 fn prune<R: AllocGlobal + Files<File = File> + Clock, O: Output, W: Onlooker>(
     rt: &R,
     place: ArchivePath<'_>,
@@ -432,7 +431,7 @@ fn refuse_unwritten<R: AllocGlobal + Files<File = File>, W: Onlooker>(
     Err(Failure::Refused(Refusal::Disk))
 }
 
-// What `extract` is refused is told apart from its output, which is that of an image, also where its words could not be read.
+// Refusals of `extract` go to another stream than its output, which is an image, even if its words could not be read.
 fn aside_of_an_image(words: &[String], ending: Ending) -> Ending {
     match ending {
         Ending::Failed(Failure::Refused(refusal)) if asks_for_an_image(words) => {
