@@ -1,0 +1,4 @@
+pub mod LabelLemmas
+pub mod RowLemmas
+pub mod TableLemmas
+pub mod WantedLemmas

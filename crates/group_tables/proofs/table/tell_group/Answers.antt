@@ -1,0 +1,13 @@
+use Rattle.std.proofs.Common.{map, ap, ◌∙◌}
+use Rattle.script_streams.specs.TellLaws.{tells_as, tells_then}
+use Rattle.group_tables.specs.Table.{case_layout, case_rows, group_layout}
+use Rattle.group_tables.specs.Values.{member_said}
+use Rattle.group_tables.proofs.TableLemmas.{in_layout}
+use Rattle.group_tables.proofs.table.tell_group.Goals as goal
+
+pub returns : goal.returns
+returns g c =
+    let head = in_layout group_layout _ _ _ _ _ c.group_layout.ensures c.deref-2.ensures.value c.deref-3.ensures.value c.in_ok-head.ensures in
+    let cores = in_layout case_layout _ _ _ _ _ c.case_layout.ensures c.deref-4.ensures.value c.deref-5.ensures.value
+    (c.in_ok-cores.ensures ∙ ap (λ ms. case_rows (map member_said ms)) c.deref.ensures.value) in
+    tells_then (tells_as head c.tell_rows.ensures) (tells_then c.tell.ensures (tells_as cores c.tell_rows-2.ensures))

@@ -1,0 +1,10 @@
+pub mod Values
+pub mod Numbers
+pub mod Chosen
+pub mod Rows
+pub mod Words
+pub mod Identity
+pub mod Summary
+pub mod Cells
+pub mod Columns
+pub mod Table

@@ -1,0 +1,87 @@
+//! Texts in columns.
+ghost use Rattle.std.specs.Prelude.{◌≡◌, map};
+ghost use Rattle.script_streams.specs.Replies.{TellsText, telling};
+ghost use Rattle.group_tables.specs.Columns as spec;
+ghost use Rattle.group_tables.specs.Columns.{texts};
+
+use case_tables::tell_spaces;
+use script_streams::{Output, Reply};
+
+// Where the texts of a column stand.
+#[derive(Clone, Copy)]
+pub(crate) enum Side {
+    Left,
+    Right,
+    // At the end of the row: nothing follows them.
+    End,
+}
+
+// A column: which text of a row it has, where that stands, and how wide the column is.
+#[derive(Clone, Copy)]
+pub(crate) struct Column {
+    at: usize,
+    side: Side,
+    width: usize,
+}
+
+// The column of these texts, which is as wide as the widest of them.
+pub(crate) fn column_of(at: usize, side: Side, rows: &[Vec<Vec<u8>>]) -> Column
+    ensures { result ≡ spec.column_of at side (map texts rows.now) }
+{
+    let mut width = 0;
+    for row in rows {
+        width = width.max(text_at(row, at).len());
+    }
+    Column { at, side, width }
+}
+
+// A text of a row.
+fn text_at(row: &Vec<Vec<u8>>, at: usize) -> &[u8]
+    ensures { result.now ≡ spec.text_at at (texts row.now) }
+{
+    match row.as_slice().get(at) {
+        Some(text) => text,
+        None => b"",
+    }
+}
+
+// Tells rows, each text in its column.
+pub(crate) fn tell_rows<O: Output>(
+    reply: &mut Reply<'_, O>,
+    columns: &[Column],
+    rows: &[Vec<Vec<u8>>],
+)
+    ensures { TellsText (telling O.Output reply.old reply.new) (spec.rows_text columns.now (map texts rows.now)) }
+{
+    for row in rows {
+        tell_row(reply, columns, row);
+    }
+}
+
+fn tell_row<O: Output>(reply: &mut Reply<'_, O>, columns: &[Column], row: &Vec<Vec<u8>>)
+    ensures { TellsText (telling O.Output reply.old reply.new) (spec.row_text columns.now (texts row.now)) }
+{
+    for column in columns {
+        tell_placed(reply, *column, text_at(row, column.at));
+    }
+    reply.tell(b"\n");
+}
+
+fn tell_placed<O: Output>(reply: &mut Reply<'_, O>, column: Column, text: &[u8])
+    ensures { TellsText (telling O.Output reply.old reply.new) (spec.by_side column.side column.width text.now) }
+{
+    let left = column.width.saturating_sub(text.len());
+    match column.side {
+        Side::Left => {
+            reply.tell(text);
+            tell_spaces(reply, left);
+            reply.tell(b"  ");
+        }
+        Side::Right => {
+            tell_spaces(reply, left);
+            reply.tell(text);
+            reply.tell(b"  ");
+        }
+        Side::End => reply.tell(text),
+    }
+}

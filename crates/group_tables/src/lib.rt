@@ -1,0 +1,22 @@
+//! The groups of cores that crashed alike, as a table for people and as JSON.
+#![tactic(auto)]
+
+mod cells;
+mod columns;
+mod identity;
+mod json;
+mod kept;
+mod labels;
+mod numbers;
+mod rows;
+mod summary;
+mod table;
+mod wanted;
+mod words;
+
+pub use identity::group_name;
+pub use json::{group_json, groups_json};
+pub use numbers::{CrashPlace, CrashedCore, numbered};
+pub use rows::{Crash, GroupMember, GroupRow, rows_of};
+pub use table::{tell_group, tell_groups};
+pub use wanted::wanted_cores;

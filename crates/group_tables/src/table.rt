@@ -1,0 +1,208 @@
+//! The tables of groups.
+ghost use Rattle.std.specs.Prelude.{◌≡◌, ◌++◌, ◌∷◌, [], IfOk, OnOk, filter, map};
+ghost use Rattle.script_streams.specs.Replies.{TellsText, telling};
+ghost use Rattle.group_tables.specs.Cells.{case_columns, case_heading, group_cell, group_columns, group_heading};
+ghost use Rattle.group_tables.specs.Columns.{texts};
+ghost use Rattle.group_tables.specs.Table as spec;
+ghost use Rattle.group_tables.specs.Values.{member_said, row_said};
+
+use crate::cells::{CaseColumn, GroupColumn, case_cell, group_cell};
+use crate::columns::{Column, Side, column_of, tell_rows};
+use crate::labels::labels_of;
+use crate::rows::{GroupMember, GroupRow};
+use script_streams::{Output, Reply};
+use std::alloc::{AllocError, Global};
+
+// The columns, from the left.
+static GROUP_COLUMNS: [GroupColumn; 8] = [
+    GroupColumn::Cores,
+    GroupColumn::First,
+    GroupColumn::Last,
+    GroupColumn::Signal,
+    GroupColumn::Newest,
+    GroupColumn::Labels,
+    GroupColumn::Program,
+    GroupColumn::Frames,
+];
+
+static CASE_COLUMNS: [CaseColumn; 8] = [
+    CaseColumn::Number,
+    CaseColumn::Time,
+    CaseColumn::Pid,
+    CaseColumn::Signal,
+    CaseColumn::Size,
+    CaseColumn::Kept,
+    CaseColumn::Name,
+    CaseColumn::Label,
+];
+
+/// Tells groups as a table: its heads, and a row for each. Times before the year 2000 and those after LATEST, in seconds since the epoch,
+/// count as none.
+///
+/// # Errors
+///
+/// There is no memory: nothing is told.
+pub fn tell_groups<O: Output>(
+    alloc: Global,
+    reply: &mut Reply<'_, O>,
+    latest: u64,
+    rows: &[GroupRow<'_>],
+) -> Result<(), AllocError>
+    ensures { OnOk result (TellsText (telling O.Output reply.old reply.new) (spec.groups_table latest (map row_said rows.now))) }
+{
+    let texts = group_rows(alloc, latest, rows)?;
+    let columns = group_layout(&texts);
+    tell_rows(reply, &columns, &texts);
+    Ok(())
+}
+
+/// Tells one group: its row, an empty line, and its cores as a list of cases; those that are perhaps of it come last, with ` ?` behind
+/// their labels.
+///
+/// # Errors
+///
+/// There is no memory: nothing is told.
+pub fn tell_group<O: Output>(
+    alloc: Global,
+    reply: &mut Reply<'_, O>,
+    latest: u64,
+    row: &GroupRow<'_>,
+) -> Result<(), AllocError>
+    ensures { OnOk result (TellsText (telling O.Output reply.old reply.new) (spec.group_screen latest (row_said row.now))) }
+{
+    let head = group_row(alloc, latest, row)?;
+    let cores = case_rows(alloc, &row.members)?;
+    tell_rows(reply, &group_layout(&head), &head);
+    reply.tell(b"\n");
+    tell_rows(reply, &case_layout(&cores), &cores);
+    Ok(())
+}
+
+fn group_layout(rows: &[Vec<Vec<u8>>]) -> [Column; 8]
+    ensures { result ≡ spec.group_layout (map texts rows.now) }
+{
+    [
+        column_of(0, Side::Right, rows),
+        column_of(1, Side::Left, rows),
+        column_of(2, Side::Left, rows),
+        column_of(3, Side::Left, rows),
+        column_of(4, Side::Right, rows),
+        column_of(5, Side::Left, rows),
+        column_of(6, Side::Left, rows),
+        column_of(7, Side::End, rows),
+    ]
+}
+
+fn case_layout(rows: &[Vec<Vec<u8>>]) -> [Column; 8]
+    ensures { result ≡ spec.case_layout (map texts rows.now) }
+{
+    [
+        column_of(0, Side::Right, rows),
+        column_of(1, Side::Left, rows),
+        column_of(2, Side::Left, rows),
+        column_of(3, Side::Left, rows),
+        column_of(4, Side::Left, rows),
+        column_of(5, Side::Left, rows),
+        column_of(6, Side::Left, rows),
+        column_of(7, Side::End, rows),
+    ]
+}
+
+// The texts of the table of groups, with its heads.
+fn group_rows(
+    alloc: Global,
+    latest: u64,
+    rows: &[GroupRow<'_>],
+) -> Result<Vec<Vec<Vec<u8>>>, AllocError>
+    ensures { IfOk result (λ all. map texts all.items ≡ spec.group_rows latest (map row_said rows.now)) }
+{
+    let mut all = Vec::new(alloc);
+    all.push(group_heads(alloc)?)?;
+    for row in rows {
+        all.push(group_texts(alloc, latest, row)?)?;
+    }
+    Ok(all)
+}
+
+// The same of one group.
+fn group_row(
+    alloc: Global,
+    latest: u64,
+    row: &GroupRow<'_>,
+) -> Result<Vec<Vec<Vec<u8>>>, AllocError>
+    ensures { IfOk result (λ all. map texts all.items ≡ spec.group_rows latest (row_said row.now ∷ [])) }
+{
+    let mut all = Vec::new(alloc);
+    all.push(group_heads(alloc)?)?;
+    all.push(group_texts(alloc, latest, row)?)?;
+    Ok(all)
+}
+
+fn group_heads(alloc: Global) -> Result<Vec<Vec<u8>>, AllocError>
+    ensures { IfOk result (λ all. texts all ≡ map group_heading group_columns) }
+{
+    let mut all = Vec::new(alloc);
+    for column in &GROUP_COLUMNS {
+        all.push(column.heading().to_vec(alloc)?)?;
+    }
+    Ok(all)
+}
+
+fn group_texts(alloc: Global, latest: u64, row: &GroupRow<'_>) -> Result<Vec<Vec<u8>>, AllocError>
+    ensures { IfOk result (λ all. texts all ≡ map (group_cell latest (row_said row.now)) group_columns) }
+{
+    let labels = labels_of(alloc, &row.members)?;
+    let mut all = Vec::new(alloc);
+    for column in &GROUP_COLUMNS {
+        all.push(group_cell(alloc, latest, row, &labels, *column)?)?;
+    }
+    Ok(all)
+}
+
+// The texts of the table of a group's cores, with its heads.
+fn case_rows(alloc: Global, members: &[GroupMember<'_>]) -> Result<Vec<Vec<Vec<u8>>>, AllocError>
+    ensures { IfOk result (λ all. map texts all.items ≡ spec.case_rows (map member_said members.now)) }
+{
+    let mut all = Vec::new(alloc);
+    all.push(case_heads(alloc)?)?;
+    add_cases(alloc, &mut all, members, false)?;
+    add_cases(alloc, &mut all, members, true)?;
+    Ok(all)
+}
+
+fn case_heads(alloc: Global) -> Result<Vec<Vec<u8>>, AllocError>
+    ensures { IfOk result (λ all. texts all ≡ map case_heading case_columns) }
+{
+    let mut all = Vec::new(alloc);
+    for column in &CASE_COLUMNS {
+        all.push(column.heading().to_vec(alloc)?)?;
+    }
+    Ok(all)
+}
+
+// Adds the rows of those that are certain, or of the others.
+fn add_cases(
+    alloc: Global,
+    all: &mut Vec<Vec<Vec<u8>>>,
+    members: &[GroupMember<'_>],
+    is_perhaps: bool,
+) -> Result<(), AllocError>
+    ensures { OnOk result (map texts all.new.items ≡ map texts all.old.items ++ map spec.case_row (filter (spec.is_so is_perhaps) (map member_said members.now))) }
+{
+    for member in members {
+        if member.is_perhaps == is_perhaps {
+            all.push(case_texts(alloc, member)?)?;
+        }
+    }
+    Ok(())
+}
+
+fn case_texts(alloc: Global, member: &GroupMember<'_>) -> Result<Vec<Vec<u8>>, AllocError>
+    ensures { IfOk result (λ all. texts all ≡ spec.case_row (member_said member.now)) }
+{
+    let mut all = Vec::new(alloc);
+    for column in &CASE_COLUMNS {
+        all.push(case_cell(alloc, member, *column)?)?;
+    }
+    Ok(all)
+}
