@@ -7,7 +7,7 @@ use Rattle.group_tables.specs.Cells.{case_cell, case_columns, case_heading, grou
 use Rattle.group_tables.specs.Columns.{column_of, rows_text}
 use Rattle.group_tables.specs.Values.{MemberSaid, RowSaid}
 
--- numbers stand at the right, all others at the left, and nothing behind the last
+-- numbers are at the right of their column, all other texts at the left, and nothing follows the last
 abbrev pub group_layout : List (List (List ℕ)) → List Column
 group_layout rows =
     column_of 0 Right rows ∷ column_of 1 Left rows ∷ column_of 2 Left rows ∷ column_of 3 Left rows ∷ column_of 4 Right rows ∷ column_of 5 Left rows

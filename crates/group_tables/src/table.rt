@@ -1,5 +1,5 @@
 //! The tables of groups.
-ghost use Rattle.std.specs.Prelude.{◌≡◌, ◌++◌, ◌∷◌, [], IfOk, OnOk, filter, map};
+ghost use Rattle.std.specs.Prelude.{◌≡◌, ◌++◌, ◌∷◌, [], IfOk, OnErr, OnOk, filter, map};
 ghost use Rattle.script_streams.specs.Replies.{TellsText, telling};
 ghost use Rattle.group_tables.specs.Cells.{case_columns, case_heading, group_cell, group_columns, group_heading};
 ghost use Rattle.group_tables.specs.Columns.{texts};
@@ -48,7 +48,8 @@ pub fn tell_groups<O: Output>(
     latest: u64,
     rows: &[GroupRow<'_>],
 ) -> Result<(), AllocError>
-    ensures { OnOk result (TellsText (telling O.Output reply.old reply.new) (spec.groups_table latest (map row_said rows.now))) }
+    ensures told { OnOk result (TellsText (telling O.Output reply.old reply.new) (spec.groups_table latest (map row_said rows.now))) }
+    ensures refused { OnErr result (reply.new ≡ reply.old) }
 {
     let texts = group_rows(alloc, latest, rows)?;
     let columns = group_layout(&texts);
@@ -68,7 +69,8 @@ pub fn tell_group<O: Output>(
     latest: u64,
     row: &GroupRow<'_>,
 ) -> Result<(), AllocError>
-    ensures { OnOk result (TellsText (telling O.Output reply.old reply.new) (spec.group_screen latest (row_said row.now))) }
+    ensures told { OnOk result (TellsText (telling O.Output reply.old reply.new) (spec.group_screen latest (row_said row.now))) }
+    ensures refused { OnErr result (reply.new ≡ reply.old) }
 {
     let head = group_row(alloc, latest, row)?;
     let cores = case_rows(alloc, &row.members)?;
