@@ -5,7 +5,7 @@ use Rattle.script_words.specs.Hex.{needle_of}
 use Rattle.script_words.specs.Number.{number_of, number_within}
 use Rattle.script_lines.specs.declared.names.Needle.{Needle}
 use Rattle.script_lines.specs.declared.query.Query.{Query}
-use Rattle.script_lines.specs.declared.query.Query.TheVariants.{Image, Memory, ByBuild, Symbol}
+use Rattle.script_lines.specs.declared.query.Query.TheVariants.{Image, Memory, ByBuild, Symbol, SymbolByBuild}
 use Rattle.script_lines.specs.declared.query.ImageQuery.{ImageQuery}
 use Rattle.script_lines.specs.declared.query.ImageQuery.TheVariants.{Header, Notes, Threads, Registers, Process, Signal, AuxiliaryVector, Files, Maps}
 use Rattle.script_lines.specs.declared.query.BuildQuery.{BuildQuery}
@@ -52,6 +52,8 @@ pub data QuerySaid : Type 0 where
   ask_symbol : ℕ → QuerySaid
   -- the same of a core's memory, to which the executables are attached of the builds that were mapped; no line says it by itself
   ask_by_build : QuerySaid → QuerySaid
+  -- the function that covers this address, of an executable or of the debug file of its build; no line says it by itself
+  ask_symbol_by_build : ℕ → QuerySaid
 
 -- a query with nothing after the case
 abbrev pub alone : QuerySaid → List (List ℕ) → Option QuerySaid
@@ -161,13 +163,16 @@ query_of (Image query) = image_query query
 query_of (Memory query) = memory_query query
 query_of (ByBuild query) = ask_by_build (memory_query query)
 query_of (Symbol address) = ask_symbol address
+query_of (SymbolByBuild address) = ask_symbol_by_build address
 
--- what is asked where executables are chosen by build: the lines over memory that attach them by path do so by build
+-- what is asked where executables are chosen by build: the lines over memory that attach them by path do so by build, and a function
+-- is looked up in the debug file too
 abbrev pub by_build : QuerySaid → QuerySaid
 by_build (ask_dump first length) = ask_by_build (ask_dump first length)
 by_build (ask_find needle) = ask_by_build (ask_find needle)
 by_build (ask_strings least) = ask_by_build (ask_strings least)
 by_build (ask_backtrace thread) = ask_by_build (ask_backtrace thread)
+by_build (ask_symbol address) = ask_symbol_by_build address
 by_build query = query
 
 -- the numbers in a query have 64 bits, a text has 1 to 1,024 bytes at least, and 1 to 64 bytes are looked for
@@ -181,4 +186,5 @@ IsSayable (ask_unwind thread) = thread < 2 ^ 64
 IsSayable (ask_frame thread frame) = (thread < 2 ^ 64) × (frame < 2 ^ 64)
 IsSayable (ask_symbol address) = address < 2 ^ 64
 IsSayable (ask_by_build query) = ⊥
+IsSayable (ask_symbol_by_build address) = ⊥
 IsSayable _ = Unit {0}

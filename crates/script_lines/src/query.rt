@@ -22,16 +22,22 @@ pub enum Query {
         /// The address.
         address: u64,
     },
+    /// The same, where the debug file of the executable's build is asked if no function of its own covers the address.
+    SymbolByBuild {
+        /// The address.
+        address: u64,
+    },
 }
 
 impl Query {
     /// The same query where executables are chosen by build: `dump`, `find`, `strings` and `bt` attach those of the builds that were
-    /// mapped. Any other query chooses so already, or reads no executable for a core.
+    /// mapped, and `bt` and `symbol` name functions by their debug files too. Any other query chooses so already, or reads no executable.
     pub(crate) fn by_build(self) -> Query
         ensures { query_of result ≡ by_build (query_of self) }
     {
         match self {
             Query::Memory(query) => memory_by_build(query),
+            Query::Symbol { address } => Query::SymbolByBuild { address },
             query => query,
         }
     }
