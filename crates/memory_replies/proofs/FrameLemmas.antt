@@ -1,10 +1,10 @@
 -- What is answered of a thread's frames.
-use Rattle.std.proofs.Common.{◌≡◌, ◌<◌, ℕ, ◌+◌, cond, true, false, List, [], ◌∷◌, ◌++◌, length, take, Option, None, Some, refl, ap, sym, subst, ◌∙◌, arith, inl, inr, Ok, Err}
+use Rattle.std.proofs.Common.{◌≡◌, ◌<◌, ℕ, cond, List, ◌++◌, length, take, Option, None, Some, refl, ap, sym, subst, ◌∙◌, arith, inl, inr, Ok, Err}
 use Rattle.std.proofs.lemmas.Bool.{cases_lt}
 use Rattle.std.proofs.lemmas.List.{length-take, take_all}
 use Rattle.std.specs.Borrow.{Bor}
 use Rattle.std.specs.Prelude.{IfSome, codes, is_none, slice_get}
-use Rattle.std.specs.List.{find, flat_map}
+use Rattle.std.specs.List.{flat_map}
 use Rattle.std.specs.Option.{option_map, option_or}
 use Rattle.elf_view.specs.NoteList.{NoteView}
 use Rattle.elf_view.specs.Header.{segments_of}
@@ -13,7 +13,6 @@ use Rattle.elf_view.specs.declared.faults.Want.{Want}
 use Rattle.elf_view.specs.ViewWords.{notes_of}
 use Rattle.elf_view.specs.declared.faults.ElfFault.{ElfFault}
 use Rattle.elf_view.specs.declared.faults.Want.TheVariants.{Core, Exec}
-use Rattle.core_notes.specs.FileList.{FileView}
 use Rattle.core_notes.specs.Typed.{all_descs}
 use Rattle.thread_regs.specs.Register.{register_in}
 use Rattle.address_space.specs.Source.{Space, ExecutableView}
@@ -25,9 +24,9 @@ use Rattle.backtrace.specs.declared.frames.Stop.{Stop}
 use Rattle.image_replies.specs.CoreWords.{core_bytes}
 use Rattle.image_replies.specs.Reasons.{elf_reason}
 use Rattle.image_replies.specs.declared.core_image.CoreImage.{CoreImage}
-use Rattle.memory_replies.specs.Backtrace.{bt_answer, frame_line, stop_line, thread_answer, thread_lines, words_of}
-use Rattle.memory_replies.specs.Places.{if_known, known_among}
-use Rattle.memory_replies.specs.Memory.{mapped_files, memory_of}
+use Rattle.memory_replies.specs.Backtrace.{Places, frame_line, frames_answer, stop_line, thread_answer, thread_lines, words_of}
+use Rattle.memory_replies.specs.Places.{if_known}
+use Rattle.memory_replies.specs.Memory.{memory_of}
 use Rattle.memory_replies.specs.Stack.{HasFrames, HasFramesOf, IsWalked}
 use Rattle.memory_replies.specs.Symbol.{executable_fault, symbol_reason}
 
@@ -41,41 +40,35 @@ is_known x sound = ap (λ (o : Option (List ℕ)). cond (is_none o) (Some x) Non
 pub is_unknown : (x : ExecutableView) (reason : List ℕ) → Some reason ≡ executable_fault x.image → None ≡ if_known x
 is_unknown x reason fault = ap (λ (o : Option (List ℕ)). cond (is_none o) (Some x) None) fault
 
-pub thread_is : (space : Space) (files : List FileView) (known : List ExecutableView) (desc : List ℕ) (ra pc fp : ℕ) (frames : List Frame) (stop : Stop)
+pub thread_is : (space : Space) (places : Places) (desc : List ℕ) (ra pc fp : ℕ) (frames : List Frame) (stop : Stop)
     → ra ≡ register_in desc 1 → pc ≡ register_in desc 32 → fp ≡ register_in desc 8
     → frames ≡ chain (words_of space) pc fp → stop ≡ stop_of (words_of space) pc fp
-    → flat_map (frame_line files known ra) frames ++ stop_line stop ≡ thread_lines space files known desc
+    → flat_map (frame_line places ra) frames ++ stop_line stop ≡ thread_lines space places desc
 unfolding thread_lines
-thread_is space files known desc ra pc fp frames stop ra_is pc_is fp_is frames_are stop_is =
-    ap (λ fs. flat_map (frame_line files known ra) fs ++ stop_line stop) frames_are
-    ∙ ap (λ s. flat_map (frame_line files known ra) (chain (words_of space) pc fp) ++ stop_line s) stop_is
-    ∙ ap (λ n. flat_map (frame_line files known n) (chain (words_of space) pc fp) ++ stop_line (stop_of (words_of space) pc fp)) ra_is
-    ∙ ap (λ n. flat_map (frame_line files known (register_in desc 1)) (chain (words_of space) n fp) ++ stop_line (stop_of (words_of space) n fp)) pc_is
-    ∙ ap (λ n. flat_map (frame_line files known (register_in desc 1)) (chain (words_of space) (register_in desc 32) n) ++ stop_line (stop_of (words_of space) (register_in desc 32) n)) fp_is
+thread_is space places desc ra pc fp frames stop ra_is pc_is fp_is frames_are stop_is =
+    ap (λ fs. flat_map (frame_line places ra) fs ++ stop_line stop) frames_are
+    ∙ ap (λ s. flat_map (frame_line places ra) (chain (words_of space) pc fp) ++ stop_line s) stop_is
+    ∙ ap (λ n. flat_map (frame_line places n) (chain (words_of space) pc fp) ++ stop_line (stop_of (words_of space) pc fp)) ra_is
+    ∙ ap (λ n. flat_map (frame_line places (register_in desc 1)) (chain (words_of space) n fp) ++ stop_line (stop_of (words_of space) n fp)) pc_is
+    ∙ ap (λ n. flat_map (frame_line places (register_in desc 1)) (chain (words_of space) (register_in desc 32) n) ++ stop_line (stop_of (words_of space) (register_in desc 32) n)) fp_is
 
 -- the descriptor of the thread, if there is one
 pub desc_is : (b : List ℕ) (t : ℕ) (o : Option (List ℕ)) (descs : List (List ℕ)) (notes : List NoteView) → o ≡ slice_get descs t → descs ≡ all_descs 1 notes → notes ≡ notes_of Core b
     → o ≡ slice_get (all_descs 1 (notes_of Core b)) t
 desc_is b t o descs notes is descs_are own = is ∙ ap (λ ds. slice_get ds t) (descs_are ∙ ap (all_descs 1) own)
 
-pub thread_missing : (b : List ℕ) (xs : List ExecutableView) (t : ℕ) (descs : List (List ℕ)) (notes : List NoteView) → None ≡ slice_get descs t → descs ≡ all_descs 1 notes → notes ≡ notes_of Core b
-    → Err (codes "NoThread") ≡ bt_answer b xs t
-unfolding bt_answer
-thread_missing b xs t descs notes is descs_are own = ap (thread_answer b xs) (desc_is b t None descs notes is descs_are own)
+pub thread_missing : (b : List ℕ) (xs : List ExecutableView) (places : Places) (t : ℕ) (descs : List (List ℕ)) (notes : List NoteView) → None ≡ slice_get descs t → descs ≡ all_descs 1 notes → notes ≡ notes_of Core b
+    → Err (codes "NoThread") ≡ frames_answer b xs places t
+unfolding frames_answer
+thread_missing b xs places t descs notes is descs_are own = ap (thread_answer (memory_of b xs) places) (desc_is b t None descs notes is descs_are own)
 
--- the lines over a memory whose mapped files are those of the core
-lines_of : Space → List ExecutableView → List ℕ → List ℕ
-lines_of space known desc = thread_lines space space.files known desc
-
-pub thread_shown : (b : List ℕ) (xs : List ExecutableView) (t : ℕ) (desc : List ℕ) (descs : List (List ℕ)) (notes : List NoteView) (space : Space) (known : List ExecutableView)
-    → Some desc ≡ slice_get descs t → descs ≡ all_descs 1 notes → notes ≡ notes_of Core b
-    → space ≡ memory_of b xs → known ≡ known_among xs
-    → Ok (thread_lines space space.files known desc) ≡ bt_answer b xs t
-unfolding bt_answer memory_of lines_of
-thread_shown b xs t desc descs notes space known is descs_are own space_is known_are =
-    ap (λ s. Ok (lines_of s known desc)) space_is
-    ∙ ap (λ k. Ok (thread_lines (memory_of b xs) (mapped_files b) k desc)) known_are
-    ∙ ap (thread_answer b xs) (desc_is b t (Some desc) descs notes is descs_are own)
+pub thread_shown : (b : List ℕ) (xs : List ExecutableView) (places : Places) (t : ℕ) (desc : List ℕ) (descs : List (List ℕ)) (notes : List NoteView) (space : Space)
+    → Some desc ≡ slice_get descs t → descs ≡ all_descs 1 notes → notes ≡ notes_of Core b → space ≡ memory_of b xs
+    → Ok (thread_lines space places desc) ≡ frames_answer b xs places t
+unfolding frames_answer
+thread_shown b xs places t desc descs notes space is descs_are own space_is =
+    ap (λ s. Ok (thread_lines s places desc)) space_is
+    ∙ ap (thread_answer (memory_of b xs) places) (desc_is b t (Some desc) descs notes is descs_are own)
 
 -- What is told from the first bytes of an image, and from bytes of the thread's stack where the image has more.
 module _ (core : CoreImage) (image : List ℕ) (size t : ℕ) (bytes : List ℕ) (has : HasFrames (core_bytes core) size bytes t image) where

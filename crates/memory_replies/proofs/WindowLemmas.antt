@@ -39,6 +39,11 @@ pub memory_in : (f b : List ℕ) (xs : List ExecutableView) (space : Space) → 
 unfolding memory_of memory_by
 memory_in f b xs space is files = ap (space_in b) is ∙ ap (memory_by (segments_of b) (filter is_attached xs)) files
 
+-- its mapped files are the image's
+pub files_of_memory : (f b : List ℕ) (xs : List ExecutableView) (space : Space) → space ≡ memory_of f xs → mapped_files f ≡ mapped_files b → space.files ≡ mapped_files b
+unfolding memory_of
+files_of_memory f b xs space is files = ap (λ (s : Space). s.files) is ∙ files
+
 -- the image has the mapped files of its first bytes
 pub files_in_front : (core : CoreImage) (b : List ℕ) (size : ℕ) → IsFrontOf (core_bytes core) size b → ((x : List ℕ) (n : ℕ) → IsHeaderWhole (take n x) → IsSound Core (take n x) → mapped_files (take n x) ≡ mapped_files x)
     → mapped_files (core_bytes core) ≡ mapped_files b

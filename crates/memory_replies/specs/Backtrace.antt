@@ -4,7 +4,6 @@ use Rattle.std.specs.List.{flat_map}
 use Rattle.script_words.specs.Printing.{hexadecimal}
 use Rattle.elf_view.specs.ViewWords.{notes_of}
 use Rattle.elf_view.specs.declared.faults.Want.TheVariants.{Core}
-use Rattle.core_notes.specs.FileList.{FileView}
 use Rattle.core_notes.specs.Typed.{all_descs}
 use Rattle.thread_regs.specs.Register.{register_in}
 use Rattle.address_space.specs.Source.{Space, ExecutableView, word_at}
@@ -13,7 +12,8 @@ use Rattle.backtrace.specs.declared.frames.Frame.{Frame}
 use Rattle.backtrace.specs.declared.frames.Stop.{Stop}
 use Rattle.backtrace.specs.declared.frames.Stop.TheVariants.{NotRising, ZeroLink, Misaligned, Unreadable, Limit}
 use Rattle.memory_replies.specs.Memory.{mapped_files, memory_of}
-use Rattle.memory_replies.specs.Places.{known_among, where_words}
+use Rattle.memory_replies.specs.Naming.{function_of, named_files}
+use Rattle.memory_replies.specs.Places.{PlaceView, known_among, place_of, place_words}
 use Rattle.memory_replies.specs.Words.{hex_word}
 
 -- The address that is looked up for a frame: the pc of frame 0, which is about to be executed; of any other, whose pc is a
@@ -25,10 +25,14 @@ looked_up f = if f.index == 0 then Some f.pc else (if f.pc == 0 then None else S
 abbrev pub return_words : ℕ → Frame → List ℕ
 return_words ra f = if f.index == 0 then codes " ra " ++ hexadecimal ra else []
 
+-- the function of a pc for which that address is looked up
+abbrev pub Places : Type 0
+Places = ℕ → Option ℕ → Option PlaceView
+
 -- `I PC WHERE fp h`
-unfoldable pub frame_line : List FileView → List ExecutableView → ℕ → Frame → List ℕ
-frame_line files known ra f =
-    decimal f.index ++ (32 ∷ [] ++ (hex_word f.pc ++ (where_words files known f.pc (looked_up f)
+unfoldable pub frame_line : Places → ℕ → Frame → List ℕ
+frame_line places ra f =
+    decimal f.index ++ (32 ∷ [] ++ (hex_word f.pc ++ (place_words (places f.pc (looked_up f))
     ++ (codes " fp " ++ (hexadecimal f.fp ++ (return_words ra f ++ 10 ∷ []))))))
 
 abbrev pub stop_name : Stop → List ℕ
@@ -47,15 +51,23 @@ words_of space a = word_at space a 8
 
 -- the lines of the frames of the thread with these registers, and why they end: pc is register 32, the frame pointer x8,
 -- the return address x1
-unfoldable pub thread_lines : Space → List FileView → List ExecutableView → List ℕ → List ℕ
-thread_lines space files known desc =
-    flat_map (frame_line files known (register_in desc 1)) (chain (words_of space) (register_in desc 32) (register_in desc 8))
+unfoldable pub thread_lines : Space → Places → List ℕ → List ℕ
+thread_lines space places desc =
+    flat_map (frame_line places (register_in desc 1)) (chain (words_of space) (register_in desc 32) (register_in desc 8))
     ++ stop_line (stop_of (words_of space) (register_in desc 32) (register_in desc 8))
 
-abbrev pub thread_answer : List ℕ → List ExecutableView → Option (List ℕ) → Result (List ℕ) (List ℕ)
-thread_answer b executables None = Err (codes "NoThread")
-thread_answer b executables (Some desc) = Ok (thread_lines (memory_of b executables) (mapped_files b) (known_among executables) desc)
+abbrev pub thread_answer : Space → Places → Option (List ℕ) → Result (List ℕ) (List ℕ)
+thread_answer space places None = Err (codes "NoThread")
+thread_answer space places (Some desc) = Ok (thread_lines space places desc)
 
--- `bt`: the frames of a thread, by its number among the NT_PRSTATUS (1)
-unfoldable pub bt_answer : List ℕ → List ExecutableView → ℕ → Result (List ℕ) (List ℕ)
-bt_answer b executables t = thread_answer b executables (slice_get (all_descs 1 (notes_of Core b)) t)
+-- the frames of a thread, by its number among the NT_PRSTATUS (1)
+unfoldable pub frames_answer : List ℕ → List ExecutableView → Places → ℕ → Result (List ℕ) (List ℕ)
+frames_answer b executables places t = thread_answer (memory_of b executables) places (slice_get (all_descs 1 (notes_of Core b)) t)
+
+-- `bt`: with the functions that the executables' symbols name
+abbrev pub bt_answer : List ℕ → List ExecutableView → ℕ → Result (List ℕ) (List ℕ)
+bt_answer b executables t = frames_answer b executables (place_of (mapped_files b) (known_among executables)) t
+
+-- the same, with those that the executables or else their debug files name
+abbrev pub bt_with_debugs : List ℕ → List ExecutableView → List ExecutableView → ℕ → Result (List ℕ) (List ℕ)
+bt_with_debugs b executables debugs t = frames_answer b executables (function_of (mapped_files b) (named_files executables debugs)) t

@@ -45,7 +45,3 @@ place_of files known pc address = option_and_then (λ a. option_and_then (place_
 abbrev pub place_words : Option PlaceView → List ℕ
 place_words None = codes "?"
 place_words (Some p) = shown p.name ++ (codes "+" ++ hexadecimal p.distance)
-
--- WHERE, of a pc for which that address is looked up
-abbrev pub where_words : List FileView → List ExecutableView → ℕ → Option ℕ → List ℕ
-where_words files known pc address = place_words (place_of files known pc address)

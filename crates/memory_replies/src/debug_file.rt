@@ -19,28 +19,30 @@ pub(crate) struct DebugFile<'a> {
     ghost own: { option_map (λ f. image_of f.elf) functions ≡ spec.naming_debug file.image.now },
 }
 
+/// The functions of a debug file: none, if it has no complete symbol table, or its headers have a fault. The error is that there is
+/// no memory.
+pub(crate) fn debug_functions<'a>(
+    alloc: Global,
+    image: &'a [u8],
+) -> Result<Option<Functions<'a>>, AllocError>
+    ensures { IfOk result (λ found. option_map (λ f. image_of f.elf) found ≡ spec.naming_debug image.now) }
+{
+    let Ok(elf) = Elf::read(image, Want::Exec) else {
+        return Ok(None);
+    };
+    if !has_symbol_table(&elf) {
+        return Ok(None);
+    }
+    Ok(Some(Functions::read(alloc, elf)?))
+}
+
 impl<'a> DebugFile<'a> {
     /// Reads its functions. The error is that there is no memory.
     pub(crate) fn read(alloc: Global, file: Attached<'a>) -> Result<DebugFile<'a>, AllocError>
         ensures { IfOk result (λ d. d.file ≡ file.entry) }
     {
-        let Ok(elf) = Elf::read(file.image, Want::Exec) else {
-            return Ok(DebugFile {
-                file,
-                functions: None,
-            });
-        };
-        if !has_symbol_table(&elf) {
-            return Ok(DebugFile {
-                file,
-                functions: None,
-            });
-        }
-        let functions = Functions::read(alloc, elf)?;
-        Ok(DebugFile {
-            file,
-            functions: Some(functions),
-        })
+        let functions = debug_functions(alloc, file.image)?;
+        Ok(DebugFile { file, functions })
     }
 
     /// The function that covers an address.

@@ -1,8 +1,8 @@
 // The frames of a thread's stack.
-ghost use Rattle.std.specs.Prelude.{◌≡◌, ◌++◌, ℕ, List, IfSome, None, length, map};
+ghost use Rattle.std.specs.Prelude.{◌≡◌, ◌++◌, ℕ, List, IfOk, IfSome, None, length, map};
 ghost use Rattle.std.specs.List.{flat_map};
 ghost use Rattle.script_streams.specs.Replies.{TellsReply, TellsText, reply_of, telling};
-ghost use Rattle.address_space.specs.Source.{Space};
+ghost use Rattle.address_space.specs.Source.{ExecutableView, Space};
 ghost use Rattle.address_space.specs.SpaceWords.{space_of};
 ghost use Rattle.backtrace.specs.Chain.{chain, stop_of};
 ghost use Rattle.backtrace.specs.FrameWords.{frames_left, stop_left};
@@ -10,16 +10,19 @@ ghost use Rattle.thread_regs.specs.ThreadWords.{thread_bytes};
 ghost use Rattle.image_replies.specs.CoreWords.{core_bytes};
 ghost use Rattle.memory_replies.specs.Answers.{AnswersWith};
 ghost use Rattle.memory_replies.specs.Backtrace as spec;
-ghost use Rattle.memory_replies.specs.Memory.{attached_view};
-ghost use Rattle.memory_replies.specs.NamedList.{named_in};
+ghost use Rattle.memory_replies.specs.Memory.{attached_view, mapped_files, memory_of};
+ghost use Rattle.memory_replies.specs.FunctionWords.{places_by};
+ghost use Rattle.memory_replies.specs.NamingWords.{named_file};
+ghost use Rattle.memory_replies.specs.Naming.{named_files};
 ghost use Rattle.memory_replies.specs.Stack.{HasFrames, IsWalked};
 ghost use Rattle.thread_regs.specs.Register.{register_in};
 
-use crate::attached::space_and_images;
+use crate::attached::{space_and_images, space_with};
+use crate::function_names::{FunctionNames, tell_where};
 use crate::laws::a_sound_front_names_the_files;
-use crate::named::tell_where;
+use crate::named_executable::NamedExecutable;
+use crate::naming::named_executables;
 use crate::outcome::Outcome;
-use crate::symbolized_executables::SymbolizedExecutables;
 use crate::window::Window;
 use crate::words::tell_hex_word;
 use address_space::{AddressSpace, Attached};
@@ -27,7 +30,7 @@ use backtrace::{Frame, Frames, StackBytes, Stop};
 use elf_view::a_sound_front_is_enough;
 use image_replies::CoreImage;
 use script_streams::{Output, Reply, tell_no, tell_ok};
-use std::alloc::Global;
+use std::alloc::{AllocError, Global};
 use thread_regs::{Reg, Thread, threads};
 
 /// The address that is looked up for a frame: its pc in frame 0, and in others the address before it.
@@ -56,17 +59,17 @@ fn tell_return<O: Output>(reply: &mut Reply<'_, O>, ra: u64, frame: Frame)
 fn tell_frame<O: Output>(
     reply: &mut Reply<'_, O>,
     space: &AddressSpace<'_>,
-    images: &SymbolizedExecutables<'_>,
+    names: &FunctionNames<'_>,
     ra: u64,
     frame: Frame,
 )
     ensures { TellsText (telling O.Output reply.old reply.new)
-        (spec.frame_line (space_of space.now).files (named_in images.now) ra frame) }
+        (spec.frame_line (places_by (space_of space.now).files names.now) ra frame) }
 {
     reply.tell_decimal(u128::from(frame.index));
     reply.tell(b" ");
     tell_hex_word(reply, frame.pc);
-    tell_where(reply, space, images, frame.pc, looked_up(frame));
+    tell_where(reply, space, names, frame.pc, looked_up(frame));
     reply.tell(b" fp ");
     reply.tell_hexadecimal(u128::from(frame.fp));
     tell_return(reply, ra, frame);
@@ -99,17 +102,17 @@ fn tell_stop<O: Output>(reply: &mut Reply<'_, O>, stop: Stop)
 fn tell_frames<O: Output>(
     reply: &mut Reply<'_, O>,
     space: &AddressSpace<'_>,
-    images: &SymbolizedExecutables<'_>,
+    names: &FunctionNames<'_>,
     ra: u64,
     frames: Frames<'_, '_>,
 )
     ensures { TellsText (telling O.Output reply.old reply.new)
-        (flat_map (spec.frame_line (space_of space.now).files (named_in images.now) ra) (frames_left frames.entry)
+        (flat_map (spec.frame_line (places_by (space_of space.now).files names.now) ra) (frames_left frames.entry)
         ++ spec.stop_line (stop_left frames.entry)) }
 {
     let mut frames = frames;
     while let Some(frame) = frames.next() {
-        tell_frame(reply, space, images, ra, frame);
+        tell_frame(reply, space, names, ra, frame);
     }
     if let Some(stop) = frames.stop() {
         tell_stop(reply, stop);
@@ -139,19 +142,19 @@ fn frames_from<'s, 'a>(
 fn tell_thread<O: Output>(
     reply: &mut Reply<'_, O>,
     space: &AddressSpace<'_>,
-    images: &SymbolizedExecutables<'_>,
+    names: &FunctionNames<'_>,
     stack: Option<&[u8]>,
     thread: Thread<'_>,
 )
     ensures { (other : Space) → IsWalked stack.entry (register_in (thread_bytes thread.entry) 32) (register_in (thread_bytes thread.entry) 8) (space_of space.now) other
         → TellsText (telling O.Output reply.old reply.new)
-        (spec.thread_lines other (space_of space.now).files (named_in images.now)
+        (spec.thread_lines other (places_by (space_of space.now).files names.now)
         (thread_bytes thread.entry)) }
 {
     let ra = thread.register(Reg::of_word(1));
     let pc = thread.register(Reg::of_word(0));
     let fp = thread.register(Reg::of_word(8));
-    tell_frames(reply, space, images, ra, frames_from(space, stack, pc, fp));
+    tell_frames(reply, space, names, ra, frames_from(space, stack, pc, fp));
 }
 
 /// The bytes of the window, unless the core is the whole image.
@@ -165,6 +168,32 @@ fn stack_in<'w>(core: &CoreImage<'_>, window: Window<'w>) -> Option<&'w [u8]>
     } else {
         Some(window.bytes)
     }
+}
+
+/// Tells the frames of a core's thread, by its number among the threads, in that memory, with the functions that these files name.
+/// Says what became of it.
+fn tell_thread_of<O: Output>(
+    reply: &mut Reply<'_, O>,
+    core: &CoreImage<'_>,
+    window: Window<'_>,
+    space: &AddressSpace<'_>,
+    names: &FunctionNames<'_>,
+    thread: u64,
+) -> Outcome
+    ensures { (image : List ℕ) (executables : List ExecutableView) → HasFrames (core_bytes core.now) window.entry.size window.entry.bytes.now thread image
+        → space_of space.now ≡ memory_of (core_bytes core.now) executables
+        → TellsReply (telling O.Output reply.old reply.new)
+        (AnswersWith result (spec.frames_answer image executables (places_by (mapped_files image) names.now) thread)) }
+{
+    a_sound_front_is_enough();
+    a_sound_front_names_the_files();
+    let Some(thread) = threads(core.notes()).thread(thread) else {
+        tell_no(reply, b"NoThread");
+        return Outcome::Refused;
+    };
+    tell_thread(reply, space, names, stack_in(core, window), thread);
+    tell_ok(reply);
+    Outcome::Done
 }
 
 /// Tells the frames of a core's thread, by its number among the threads: `0 PC WHERE fp h ra h`, then `I PC WHERE fp h` for
@@ -184,17 +213,47 @@ pub fn tell_bt<O: Output>(
     ensures { (image : List ℕ) → HasFrames (core_bytes core.now) window.entry.size window.entry.bytes.now thread image → TellsReply (telling O.Output reply.old reply.new)
         (AnswersWith result (spec.bt_answer image (map attached_view attached.now) thread)) }
 {
-    a_sound_front_is_enough();
-    a_sound_front_names_the_files();
     let Ok((space, images)) = space_and_images(alloc, core, attached) else {
         tell_no(reply, b"OutOfMemory");
         return Outcome::OutOfMemory;
     };
-    let Some(thread) = threads(core.notes()).thread(thread) else {
-        tell_no(reply, b"NoThread");
-        return Outcome::Refused;
+    let names = FunctionNames::OfExecutables(images);
+    tell_thread_of(reply, core, window, &space, &names, thread)
+}
+
+/// The memory of a core with its executables, and these with their debug files. The error is that there is no memory.
+fn space_and_named<'a>(
+    alloc: Global,
+    core: &CoreImage<'a>,
+    attached: &[Attached<'a>],
+    debugs: &[Attached<'a>],
+) -> Result<(AddressSpace<'a>, Vec<NamedExecutable<'a>>), AllocError>
+    ensures space { IfOk result (λ m. space_of m.0 ≡ memory_of (core_bytes core.now) (map attached_view attached.now)) }
+    ensures named { IfOk result (λ m. map named_file m.1.items ≡ named_files (map attached_view attached.now) (map attached_view debugs.now)) }
+{
+    let space = space_with(alloc, core, attached)?;
+    let named = named_executables(alloc, attached, debugs)?;
+    Ok((space, named))
+}
+
+/// The same as `tell_bt`, but that a function whose executable has no symbol for it is named by the debug file of the same path, if
+/// there is one.
+pub fn tell_bt_with_debugs<O: Output>(
+    alloc: Global,
+    reply: &mut Reply<'_, O>,
+    core: &CoreImage<'_>,
+    window: Window<'_>,
+    attached: &[Attached<'_>],
+    debugs: &[Attached<'_>],
+    thread: u64,
+) -> Outcome
+    ensures { (image : List ℕ) → HasFrames (core_bytes core.now) window.entry.size window.entry.bytes.now thread image → TellsReply (telling O.Output reply.old reply.new)
+        (AnswersWith result (spec.bt_with_debugs image (map attached_view attached.now) (map attached_view debugs.now) thread)) }
+{
+    let Ok((space, named)) = space_and_named(alloc, core, attached, debugs) else {
+        tell_no(reply, b"OutOfMemory");
+        return Outcome::OutOfMemory;
     };
-    tell_thread(reply, &space, &images, stack_in(core, window), thread);
-    tell_ok(reply);
-    Outcome::Done
+    let names = FunctionNames::WithDebugFiles(named);
+    tell_thread_of(reply, core, window, &space, &names, thread)
 }

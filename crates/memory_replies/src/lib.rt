@@ -9,6 +9,7 @@ mod debug_file;
 mod dump;
 mod file_names;
 mod frames;
+mod function_names;
 mod functions;
 mod laws;
 mod maps;
@@ -28,7 +29,7 @@ mod words;
 pub use attached::{space_and_images, space_with};
 pub use dump::{is_out_of_range, tell_dump};
 pub use file_names::FileNames;
-pub use frames::tell_bt;
+pub use frames::{tell_bt, tell_bt_with_debugs};
 pub use laws::{
     a_sound_front_names_the_files, a_sound_front_shows_the_mappings, debug_replaces_unknown,
 };
@@ -39,7 +40,7 @@ pub use naming::{function_of, named_executables};
 pub use outcome::Outcome;
 pub use search::tell_find;
 pub use stack::{has_frames, stack_range};
-pub use symbol::tell_symbol;
+pub use symbol::{tell_symbol, tell_symbol_with_debug};
 pub use symbolized_executables::SymbolizedExecutables;
 pub use texts::tell_strings;
 pub use window::Window;

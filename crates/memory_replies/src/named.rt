@@ -79,18 +79,3 @@ pub fn tell_place<O: Output>(reply: &mut Reply<'_, O>, place: Option<Location<'_
         None => reply.tell(b"?"),
     }
 }
-
-/// Tells where a pc is: `NAME+h`, how far it is after the value of the function at the address that is looked up for it; or `?`, if
-/// no address is looked up or its function is not known.
-pub(crate) fn tell_where<O: Output>(
-    reply: &mut Reply<'_, O>,
-    space: &AddressSpace<'_>,
-    images: &SymbolizedExecutables<'_>,
-    pc: u64,
-    address: Option<u64>,
-)
-    ensures { TellsText (telling O.Output reply.old reply.new)
-        (spec.where_words (space_of space.now).files (named_in images.now) pc address) }
-{
-    tell_place(reply, place_of(space, images, pc, address));
-}

@@ -1,19 +1,23 @@
 // The function that an address belongs to.
-ghost use Rattle.std.specs.Prelude.{◌≡◌, None, is_ok};
-ghost use Rattle.std.specs.Option.{option_map};
+ghost use Rattle.std.specs.Prelude.{◌≡◌, IfOk, None, is_ok};
+ghost use Rattle.std.specs.Option.{option_and_then, option_map, option_or};
 ghost use Rattle.script_streams.specs.Replies.{TellsReply, TellsText, no_reply, reply_of, telling};
-ghost use Rattle.symbols.specs.SymbolWords.{symbol_view};
+ghost use Rattle.symbols.specs.Names.{symbol_named};
+ghost use Rattle.symbols.specs.SymbolWords.{functions_in, strings_in, symbol_view};
 ghost use Rattle.memory_replies.specs.Answers.{AnswersWith};
 ghost use Rattle.memory_replies.specs.declared.outcome.Outcome.TheVariants.{OutOfMemory};
+ghost use Rattle.memory_replies.specs.Naming.{debug_symbol};
 ghost use Rattle.memory_replies.specs.Symbol as spec;
+ghost use Rattle.memory_replies.specs.SymbolDebug.{symbol_with_debug};
 ghost use Rattle.image_replies.specs.Reasons.{indexed};
 
+use crate::debug_file::debug_functions;
 use crate::outcome::{Outcome, outcome_by};
 use crate::words::tell_hex_word;
 use elf_view::{Elf, Want};
 use image_replies::tell_elf_fault;
 use script_streams::{Output, Reply, tell_no, tell_ok};
-use std::alloc::Global;
+use std::alloc::{AllocError, Global};
 use symbols::{Symbol, SymbolError, SymbolFault, Symbols};
 
 /// Tells `no`, the name of a field and a number.
@@ -69,18 +73,42 @@ fn tell_found<O: Output>(reply: &mut Reply<'_, O>, found: Option<Symbol<'_>>) ->
     }
 }
 
-/// Tells the function of an executable that an address belongs to: `NAME VALUE SIZE`, or `no NoSymbol`. The first fault of
-/// its headers, or else of its symbol table, is answered instead. Where there is no memory for its functions, and neither
-/// has a fault, the reply is `no OutOfMemory`. Says what became of it.
-#[tactic(auto, unfolding(crate::specs::Symbol::symbol_answer, crate::specs::Symbol::executable_fault))]
-pub fn tell_symbol<O: Output>(
+/// The function of an executable at an address, or else that of its debug file, if there is one. The error is that there is no
+/// memory for the functions of the debug file.
+fn symbol_at<'a>(
+    alloc: Global,
+    symbols: &Symbols<'a>,
+    debug: Option<&'a [u8]>,
+    address: u64,
+) -> Result<Option<Symbol<'a>>, AllocError>
+    ensures { IfOk result (λ found. option_map symbol_view found
+        ≡ option_or (symbol_named (strings_in symbols.now) (functions_in symbols.now) address) (option_and_then (λ d. debug_symbol address d.now) debug.entry)) }
+{
+    if let Some(symbol) = symbols.lookup(address) {
+        return Ok(Some(symbol));
+    }
+    let Some(image) = debug else {
+        return Ok(None);
+    };
+    match debug_functions(alloc, image)? {
+        Some(functions) => Ok(functions.at(address)),
+        None => Ok(None),
+    }
+}
+
+/// Tells the function of an executable that an address belongs to: `NAME VALUE SIZE`, or `no NoSymbol`. If no function of the
+/// executable has the address, its debug file is asked, if there is one. The first fault of the executable's headers, or else of its
+/// symbol table, is answered instead. If there is no memory for the functions, and neither has a fault, the reply is
+/// `no OutOfMemory`. Says what became of it.
+pub fn tell_symbol_with_debug<O: Output>(
     alloc: Global,
     reply: &mut Reply<'_, O>,
     image: &[u8],
+    debug: Option<&[u8]>,
     address: u64,
 ) -> Outcome
     ensures { TellsReply (telling O.Output reply.old reply.new)
-        (λ text. AnswersWith result (spec.symbol_answer image.now address) text × (result ≡ OutOfMemory → spec.executable_fault image.now ≡ None)) }
+        (λ text. AnswersWith result (symbol_with_debug image.now (option_map (λ d. d.now) debug.entry) address) text × (result ≡ OutOfMemory → spec.executable_fault image.now ≡ None)) }
 {
     let elf = match Elf::read(image, Want::Exec) {
         Ok(elf) => elf,
@@ -90,10 +118,16 @@ pub fn tell_symbol<O: Output>(
         }
     };
     match Symbols::read(alloc, &elf) {
-        Ok(symbols) => {
-            let done = tell_found(reply, symbols.lookup(address));
-            outcome_by(done)
-        }
+        Ok(symbols) => match symbol_at(alloc, &symbols, debug, address) {
+            Ok(found) => {
+                let done = tell_found(reply, found);
+                outcome_by(done)
+            }
+            Err(_) => {
+                tell_no(reply, b"OutOfMemory");
+                Outcome::OutOfMemory
+            }
+        },
         Err(SymbolError::Fault(fault)) => {
             tell_symbol_fault(reply, fault);
             Outcome::Refused
@@ -103,4 +137,18 @@ pub fn tell_symbol<O: Output>(
             Outcome::OutOfMemory
         }
     }
+}
+
+/// Tells the function of an executable that an address belongs to, by the executable alone. It is else as
+/// `tell_symbol_with_debug`.
+pub fn tell_symbol<O: Output>(
+    alloc: Global,
+    reply: &mut Reply<'_, O>,
+    image: &[u8],
+    address: u64,
+) -> Outcome
+    ensures { TellsReply (telling O.Output reply.old reply.new)
+        (λ text. AnswersWith result (spec.symbol_answer image.now address) text × (result ≡ OutOfMemory → spec.executable_fault image.now ≡ None)) }
+{
+    tell_symbol_with_debug(alloc, reply, image, None, address)
 }

@@ -2,7 +2,7 @@ use Rattle.std.proofs.Common.{ap, sym, refl, ◌∙◌}
 use Rattle.std.specs.List.{flat_map}
 use Rattle.address_space.specs.SpaceWords.{space_of}
 use Rattle.memory_replies.specs.Backtrace.{frame_line}
-use Rattle.memory_replies.specs.NamedList.{named_in}
+use Rattle.memory_replies.specs.FunctionWords.{places_by}
 use Rattle.memory_replies.proofs.TellLemmas.{up_to_start, up_to_then}
 use Rattle.memory_replies.proofs.frames.tell_frames.Goals as goal
 
@@ -11,6 +11,6 @@ loop-frame-init g c = record { told = up_to_start; stop = refl }
 
 pub loop-frame-preserved : goal.loop-frame-preserved
 loop-frame-preserved g c = record {
-  told = up_to_then (ap (flat_map (frame_line (space_of c.args.space.now).files (named_in c.args.images.now) c.args.ra)) c.in-Some.ensures.steps.frames) c.loop-frame.invariant.told c.tell_frame.ensures;
+  told = up_to_then (ap (flat_map (frame_line (places_by (space_of c.args.space.now).files c.args.names.now) c.args.ra)) c.in-Some.ensures.steps.frames) c.loop-frame.invariant.told c.tell_frame.ensures;
   stop = c.loop-frame.invariant.stop ∙ sym c.in-Some.ensures.steps.stop;
 }

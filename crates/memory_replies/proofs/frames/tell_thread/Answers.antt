@@ -15,7 +15,7 @@ returns g c other walked =
     let space = space_of c.args.space.now in
     let here = subst (λ n. IsWalked c.args.stack n c.register-fp.result space other) (sym pc_is) (subst (λ n. IsWalked c.args.stack (register_in desc 32) n space other) (sym fp_is) walked) in
     tells_as
-    (thread_is _ _ _ _ _ _ _ _ _
+    (thread_is _ _ _ _ _ _ _ _
     (c.register-ra.ensures ∙ ap (register_in desc) c.of_word.ensures) pc_is fp_is
     (c.frames_from.ensures.frames other here) (c.frames_from.ensures.stop other here))
     c.tell_frames.ensures
