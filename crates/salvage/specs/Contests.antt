@@ -26,7 +26,7 @@ is_used used block = get_or used block true
 abbrev pub AreUsed : List Bool → Bool → List ℕ → Type 0
 AreUsed used is blocks = (block : ℕ) → Contains blocks block → is_used used block ≡ is
 
--- what was used still is
+-- a used block stays used
 abbrev pub StayUsed : List Bool → List Bool → Type 0
 StayUsed old new = (block : ℕ) → is_used old block ≡ true → is_used new block ≡ true
 
@@ -36,7 +36,7 @@ pub record Knows (d : Doubts) (c : Case) : Type 0 where
   pub name : has_name d.names c.origin.name ≡ true
   pub blocks : AreUsed d.blocks.used.items true c.blocks
 
--- what is known still is
+-- a known number stays known
 abbrev pub StayKnown : Doubts → Doubts → Type 0
 StayKnown old new = (c : Case) → Knows old c → Knows new c
 

@@ -1,4 +1,4 @@
--- What a copy of the cases that an archive shows promises.
+-- The promises of a copy of the cases that an archive shows.
 use Rattle.std.specs.Prelude.{◌≡◌, ◌≤◌, Bool, List, ℕ, None, Option, Some, Result, OnOk, IsTrue}
 use Rattle.archive_care.specs.Copied.{CopyStep, FindsCopy, SparesNew, copy_version}
 use Rattle.archive_care.specs.declared.copying.CopyWish.{CopyWish}
@@ -21,7 +21,7 @@ pub record CopiesAs {N : Type 0} (h : disk.Ghosts N) (honest : Bool) (bytes : Li
   -- an opening of the new disk finds the cases, whatever a crash from then on leaves of it
   pub copied : (x : Durable) → IsTrue honest → IsTrue (h.is_honest onto) → StandsFor bytes x
       → OnOk r ((c : List ℕ) → h.may_leave onto' c → FindsCopy (copy_version wanted.keeps_labels x.version) x c)
-  -- which refusal comes is told by the bytes
+  -- the bytes decide which refusal comes
   pub step : (u : Standing) → IsTrue honest → Stands bytes u → CopyStep (h.size onto) wanted.shape u r
   pub spares : SparesNew r onto onto'
   pub later_onto : h.failures onto ≤ h.failures onto'

@@ -14,7 +14,7 @@ use Rattle.salvage.specs.Records.{number_of}
 use Rattle.salvage.specs.declared.doubts.Trouble.{Trouble}
 use Rattle.salvage.specs.declared.shown.Patch.{Patch}
 
--- the field that is at fault; a gate, if the fault is of no field
+-- the field with the fault; a gate, if the fault is of no field
 abbrev pub field_of : OpenFault → Field
 field_of (Damaged at field) = field
 field_of Disk = named.Gate
@@ -60,16 +60,16 @@ is_of_number named.Seq = true
 is_of_number named.Next = true
 is_of_number field = false
 
--- From which number on a case is doubtful that stands before a record which is at fault. One that does not read by itself is the one
--- that is damaged: no number is doubtful. One that does may be right, and one before it wrong. If its number is too small, that is one
--- with its number or a greater one; if it is at fault otherwise, it may be any.
+-- The number from which on cases are doubtful that come before a record with a fault. If that record does not read by itself, it is the damaged
+-- one: no number is doubtful. If it does, it may be right, and one before it wrong. If its number is too small, a wrong one has the same
+-- number or a higher one. With any other fault it may be any record.
 abbrev pub bound_by : Field → Bool → ℕ → ℕ
 bound_by field alone own =
     if is_of_front field then 0 else
     if alone then (if is_of_number field then own else 0) else 4294967296
 
--- The same of any fault. If a gate behind the records is damaged, no number is doubtful, and if it is that of the older half. If it is that of
--- the newer one, or if a header is at fault, each is.
+-- The same for any fault. If a gate after the records is damaged, or the gate of the older half, no number is doubtful. If the gate of the
+-- newer half or a header is damaged, every number is.
 abbrev pub bound_at : List ℕ → ℕ → Bool → Trouble → Bool → ℕ
 bound_at bytes start within t alone =
     if within then (if t.is_refused then bound_by t.field alone (own_number (drop t.gate bytes)) else 4294967296) else
@@ -83,7 +83,7 @@ is_behind shape half gate = nat_lt (half_start shape half) gate && nat_lt gate (
 abbrev pub ReadsIn : Shape → List ℕ → Half → ℕ → Type 0
 ReadsIn shape bytes half place = (size : ℕ) × ReadsAt shape.data_blocks bytes (half_start shape half + half_length shape) place size
 
--- it is said whether a record that is at fault reads by itself
+-- whether a record with a fault reads by itself
 abbrev pub IsAlone : Shape → List ℕ → Half → Trouble → Bool → Type 0
 IsAlone shape bytes half t alone =
     half_start shape half < t.gate → t.gate < half_start shape half + half_length shape → t.is_refused ≡ true → IsTrue alone ↔ ReadsIn shape bytes half t.gate

@@ -1,4 +1,4 @@
--- Where the first faulty record of an archive is, and what lets the archive be read.
+-- The place of the first bad record of an archive, and the patch with which the archive can be read.
 use Rattle.std.specs.Prelude.{◌≡◌, ◌≢◌, ◌⊎◌, ℕ, ◌+◌, ◌-◌, ◌<◌, ◌≤◌, Bool, true, false, List, drop, slice_index, Option, None, Some, Result, Ok, Err}
 use Rattle.journal_layout.specs.Checks.{record_fault}
 use Rattle.journal_layout.specs.Folding.{nothing_yet, replayed, sizes}
@@ -16,7 +16,7 @@ use Rattle.salvage.specs.Showing.{shown}
 use Rattle.salvage.specs.declared.finding.Sight.{Sight}
 use Rattle.salvage.specs.declared.shown.Patch.{Patch}
 
--- The records of the taken half up to the first faulty one say this. The fault is that of the opening.
+-- The records of the taken half up to the first bad one say this. The fault is that of the opening.
 pub record StandsUntil (b : List ℕ) (s : Standing) (fault : OpenFault) : Type 0 where
   pub front : front_opening b ≡ Ok (front_of s)
   pub header : 32 ≤ s.used
@@ -47,7 +47,7 @@ IsEnd b gate = (u : Standing) × Stands (shown (closes gate) b) u × EndsAt u ga
 abbrev pub IsShort : OpenFault → Type 0
 IsShort fault = (fault ≡ Disk) ⊎ (fault ≡ OutOfMemory)
 
--- the gate of the first faulty record, if there is one, has such a place
+-- the gate of the first bad record, if there is one, has such a place
 abbrev pub GatesHave : List ℕ → (ℕ → Type 0) → Type 0
 GatesHave b P = (s : Standing) (fault : OpenFault) → StandsUntil b s fault → P (gate_of s)
 
@@ -91,17 +91,17 @@ IsOpened b patch (Ok true) = Opens b (Some patch)
 IsOpened b patch (Ok false) = Unit {0}
 IsOpened b patch (Err fault) = IsShort fault
 
--- a gate of a half that is shown closed or open, or there is none that lets it open
+-- a gate of a half that is shown closed or open; or no such gate makes the archive open
 abbrev pub IsHalfFound : List ℕ → OpenFault → Result Patch OpenFault → Type 0
 IsHalfFound b fault (Ok patch) = Opens b (Some patch)
 IsHalfFound b fault (Err f) = (f ≡ fault) ⊎ IsShort f
 
--- the gate of the first faulty record that is shown closed, if it is not after this byte
+-- the gate of the first bad record that is shown closed, if it is not after this byte
 abbrev pub IsRecordFound : List ℕ → ℕ → OpenFault → Result Patch OpenFault → Type 0
 IsRecordFound b at fault (Ok patch) = Opens b (Some patch) × GatesHave b (λ place. place ≤ at → Some patch ≡ closes place)
 IsRecordFound b at fault (Err f) = IsShort f ⊎ ((f ≡ fault) × GatesHave b (λ place. at < place))
 
--- no record is the first to be at fault: another part is
+-- the first fault is not of a record, but of another part
 abbrev pub HasNoGate : List ℕ → Type 0
 HasNoGate b = (s : Standing) (fault : OpenFault) → StandsUntil b s fault → ⊥
 
@@ -117,12 +117,12 @@ pub record SeesArchive (b : List ℕ) (sight : Sight) : Type 0 where
   pub opens : Opens b sight.patch
   -- a sound archive is shown as it is
   pub sound : (s : Standing) → Stands b s → (sight.fault ≡ None) × (sight.patch ≡ None)
-  -- so is each whose opening is not refused
+  -- so can every archive whose opening is not refused
   pub faultless : sight.fault ≡ None → sight.patch ≡ None
-  -- where a record of the taken half is the first to be at fault, its gate is shown closed
+  -- if the first fault is of a record of the taken half, its gate is shown closed
   pub until : (s : Standing) (fault : OpenFault) → StandsUntil b s fault → (sight.fault ≡ Some fault) × (sight.patch ≡ closes (gate_of s))
 
--- and if they can't, why: the fault of the opening, which is none of a record, or the disk or the memory
+-- and if they can't, the reason: the fault of the opening, which is not of a record, or the disk or the memory
 abbrev pub FindsSight : List ℕ → Result Sight OpenFault → Type 0
 FindsSight b (Ok sight) = SeesArchive b sight
 FindsSight b (Err fault) = IsShort fault ⊎ (IsRefused b fault × HasNoGate b)

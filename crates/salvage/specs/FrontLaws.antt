@@ -1,4 +1,4 @@
--- Laws of bytes with others in place of the first ones.
+-- Laws of bytes whose first ones are replaced.
 use Rattle.std.proofs.Common.{◌≡◌, ℕ, ◌+◌, ◌-◌, ◌≤◌, List, length, take, drop, refl, sym, ap, ◌∙◌, arith, length-append, length-drop}
 use Rattle.std.proofs.lemmas.List.{take_at, drop_at, drop-drop}
 use Rattle.disk_model.specs.Places.{AreBytes, part}

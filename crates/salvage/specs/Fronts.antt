@@ -1,4 +1,4 @@
--- The bytes of an archive, with others in place of the first ones.
+-- The bytes of an archive, with the first ones replaced.
 use Rattle.std.specs.Prelude.{ℕ, Bool, true, false, List, ◌++◌, drop, length}
 
 abbrev pub fronted : List ℕ → List ℕ → List ℕ

@@ -1,4 +1,4 @@
--- Laws of gates that are shown closed: where the gate of the first faulty record is, the records before it stand.
+-- Laws of gates that are shown closed: if it is the gate of the first bad record, the records before it stand.
 use Rattle.std.proofs.Common.{◌≡◌, ◌⊎◌, inl, inr, ℕ, ◌+◌, ◌-◌, ◌*◌, ◌/◌, ◌^◌, ◌<◌, ◌≤◌, List, [], ◌∷◌, length, take, drop, slice_index, get_or, refl, sym, ap, ◌∙◌, subst, arith, Result, Ok}
 use Rattle.std.proofs.lemmas.List.{drop-drop, length-drop}
 use Rattle.disk_model.specs.Places.{part, overwritten}
@@ -28,7 +28,7 @@ use Rattle.salvage.specs.Showing.{shown}
 same_ok : {X : Type 0} (o : Result X OpenFault) (x y : X) → o ≡ Ok x → o ≡ Ok y → x ≡ y
 same_ok o x y e f = cc
 
--- a row ends where there is no record, or before
+-- a row ends at the first place without a record, or before
 
 pub row_reaches : (limit : ℕ) (bytes : List ℕ) (f : Folded) (rs ss : List Record) → limit ≤ 16777216 → length bytes ≤ 2 ^ 32
     → StandInRow limit bytes f rs → StandInRow limit bytes f ss → NoRecord limit (drop (sizes ss) bytes) (replayed ss f) → sizes rs ≤ sizes ss
@@ -130,7 +130,7 @@ area_spared b s half g x n within low before = front (overwritten b g (x ∷ [])
         let e : records_start s half + 0 ≡ records_start s half = omega arith in
         sym (part_is (records_area l s half) 0 n) ∙ part_part l (records_start s half) (half_length s - 32) 0 n (omega (arith, low)) ∙ ap (λ (p : ℕ). part l p n) e
 
--- Where the gate of the first faulty record is shown closed, what the records before it say stands.
+-- If the gate of the first bad record is shown closed, the cases of the records before it stand.
 pub closed_stands : (b : List ℕ) (s : Standing) (fault : OpenFault) → StandsUntil b s fault → Stands (shown (closes (gate_of s)) b) s
 closed_stands b s fault until =
     let g = gate_of s in
@@ -179,7 +179,7 @@ gate_sixteen b s fault until =
     start_sixteen shape A = (256, refl)
     start_sixteen shape B = (256 * (1 + shape.half_blocks), (omega arith))
 
--- what is refused so is refused
+-- an opening with this fault is refused
 pub until_refused : (b : List ℕ) (s : Standing) (fault : OpenFault) → StandsUntil b s fault → IsRefused b fault
 until_refused b s fault until =
     inr (front_of s, until.front, record { records = until.records; row = until.row; opened = until.opened; found = until.found })

@@ -33,16 +33,16 @@ pub record KeepsCases (b c : List ℕ) (s : Standing) : Type 0 where
   pub fresh : (standing ≡ s) ⊎ AreGiven standing
   pub images : (blocks : List ℕ) (len : ℕ) → image_in s.shape c blocks len ≡ image_in s.shape b blocks len
 
--- The cases that stand before the first faulty record are kept in what is copied, but for those that a record deletes which reads.
+-- The cases that stand before the first bad record are kept in the copy, except those that a readable record deletes.
 abbrev pub WhatStandsIsKept : Type 0
 WhatStandsIsKept =
     (b : List ℕ) (f : Found) (s : Standing) (fault : OpenFault) → SeesCases b f → StandsUntil b s fault → KeepsCases b (found_bytes f b) s
 
--- So are the cases of an archive that opens, whether a gate of it is damaged or not.
+-- The cases of an archive that opens are kept too, whether a gate of it is damaged or not.
 abbrev pub WhatOpensIsKept : Type 0
 WhatOpensIsKept = (b : List ℕ) (f : Found) (s : Standing) → SeesCases b f → Stands b s → KeepsCases b (found_bytes f b) s
 
--- If no gate is damaged, neither of a half nor after the records, the archive itself is copied, and nothing is told to be at fault.
+-- If no gate is damaged, neither of a half nor after the records, the archive itself is copied, and no fault is reported.
 abbrev pub WhatIsSoundIsCopied : Type 0
 WhatIsSoundIsCopied =
     (b : List ℕ) (f : Found) (s : Standing) → SeesCases b f → Stands b s → shut_gate b s ≡ None

@@ -1,4 +1,4 @@
--- Laws of what is copied of an archive whose opening is refused.
+-- Laws of the copy of an archive whose opening is refused.
 use Rattle.std.proofs.Common.{◌≡◌, inl, inr, ℕ, zero, suc, ◌+◌, ◌<◌, ◌≤◌, List, [], ◌∷◌, ◌++◌, length, take, get_or, refl, sym, ap, ◌∙◌, subst, arith, Option, None, Some}
 use Rattle.disk_model.specs.Places.{part}
 use Rattle.intake.specs.Blocks.{block_bytes, block_start, image_in, joined}
@@ -69,7 +69,7 @@ given bytes reads next above (x ∷ xs) (one, rest) (suc k) c low is = given byt
 all_given : (bytes : List ℕ) (first s : Standing) (reads : List Read) (bound : ℕ) → KeepsNoted bytes first reads bound s → AreGiven s
 all_given bytes first s reads bound kept c (k, low, is) = given bytes reads s.next (omega (arith, kept.next)) s.cases kept.cases k c low is
 
--- what is read after the first fault has the cases that precede it
+-- the records that are read after the first fault have the cases that precede it
 more_kept : (b : List ℕ) (first s : Standing) (drops : List Dropped) (reads : List Read) (bound : ℕ) (m : More) → first ≡ s
     → AreDrops (part b 0 (data_start first.shape)) drops → IsMore b first drops reads bound m → KeepsCases b (fronted m.front.items b) s
 more_kept b first s drops reads bound m is there it =
@@ -114,7 +114,7 @@ module _ (b : List ℕ) (f : Found) (s : Standing) (fault : OpenFault) (sees : S
   by_reading None is = closed_kept
   by_reading (Some m) is = let more = sees.more m is in more_kept b f.first.standing s f.scan.drops.items f.scan.reads.items more.0.bound m first_is sees.drops more.2
 
--- the cases that stand before the first faulty record are kept
+-- the cases that stand before the first bad record are kept
 pub what_stands_is_kept : WhatStandsIsKept
 what_stands_is_kept b f s fault sees until = by_reading b f s fault sees until f.more refl
 

@@ -59,7 +59,7 @@ module _ (n : ℕ) (b : List ℕ) (at m there : ℕ) (within : at + m ≤ n) (fi
       ∙ ap (λ (l : List ℕ). l ++ part (stretched n b) (at + there) (m - there)) (all_there n b at there (omega (arith, within, fits)) low)
       ∙ ap (λ (l : List ℕ). part b at there ++ l) (rest_zeros which)
 
--- what is read from a place on: what the bytes have there, and zeros behind
+-- a read from a place on gives the bytes that are there, and zeros after the last one
 pub read_stretched : (n : ℕ) (b : List ℕ) (at m from there : ℕ) → at + m ≤ n → from ≡ min at (length b) → there ≡ min (length b - from) m
     → part (stretched n b) at m ≡ part b from there ++ replicate (m - there) 0
 read_stretched n b at m from there within is_from is_there =

@@ -40,12 +40,12 @@ pub record IsMended (b : List ℕ) (shape : Shape) (front : List ℕ) : Type 0 w
   pub size : length front ≡ data_start shape
   pub records : (half : Half) → records_area front shape half ≡ records_area (stretched (disk_length shape) b) shape half
 
--- what is mended of a file with these bytes
+-- how a file with these bytes is mended
 abbrev pub MendsArchive : List ℕ → Option Mended → Type 0
 MendsArchive b None = Unit {0}
 MendsArchive b (Some m) = IsMended b m.mend.shape m.front.items × (m.length ≡ disk_length m.mend.shape)
 
--- so many bytes of a file, zeros behind its end, and this front in place of its own
+-- so many bytes of a file, with zeros after its end, and this front instead of its own
 abbrev pub restored : List ℕ → ℕ → List ℕ → List ℕ
 restored front n b = fronted front (stretched n b)
 
@@ -103,12 +103,13 @@ is_of_headers (UnknownVersion version) = true
 is_of_headers (Damaged at field) = is_of_front field
 is_of_headers _ = false
 
--- What is taken for the shape of a file of so many bytes whose opening is refused so: only for a fault of the superblock or of a header.
+-- The shape that is assumed for a file of so many bytes whose opening is refused with this fault: only for a fault of the superblock or of a
+-- header.
 pub record IsMend (size : ℕ) (why : OpenFault) (m : Mend) : Type 0 where
   pub fault : m.fault ≡ why
   pub held : m.held ≡ size
   pub headers : is_of_headers why ≡ true
 
--- It is said to be the archive's without a doubt exactly if no header is at fault and a half has so many blocks without a doubt.
+-- It is reported as certainly the archive's if and only if no header has a fault and the number of blocks of a half is certain.
 abbrev pub IsSureMend : List ℕ → Mend → Type 0
 IsSureMend b m = IsTrue m.is_sure ↔ (is_of_superblock m.fault ≡ true) × IsSureHalf b m.shape.half_blocks

@@ -1,4 +1,4 @@
--- What was noted of the cases that are copied, and the number of the next one.
+-- Notes about the copied cases, and the number of the next case.
 use Rattle.std.specs.Prelude.{◌≡◌, ℕ, ◌+◌, nat_lt, max, min, List, [], ◌∷◌, Option, None, Some, if◌then◌else◌}
 use Rattle.std.specs.List.{Contains}
 use Rattle.disk_model.specs.Places.{part}
@@ -20,14 +20,14 @@ number_if Name seq = 0
 number_if Block seq = 0
 number_if Room seq = 0
 
--- the greatest number of a case that is copied; 0 if none is
+-- the highest number of a copied case; 0 if there is none
 abbrev pub greatest_copied : List Read → ℕ
 greatest_copied [] = 0
 greatest_copied (r ∷ rest) = max (number_if r.fate r.entry.seq) (greatest_copied rest)
 
--- The number of the next case, if the records that stand say `next`, the numbers from `bound` on are doubtful, and `last` is the greatest
--- of a case that is copied. It is what the records say, but not more than the first doubtful number, unless each is doubtful; and it is
--- greater than each number of a case that is copied.
+-- The number of the next case, if the records that stand say `next`, the numbers from `bound` on are doubtful, and `last` is the highest
+-- number of a copied case. It is the number of the records, but not more than the first doubtful number, unless each is doubtful; and it is
+-- higher than each number of a copied case.
 abbrev pub next_by : ℕ → ℕ → ℕ → ℕ
 next_by next bound last = max (if nat_lt 0 bound then min next bound else next) (last + 1)
 
@@ -49,8 +49,8 @@ abbrev pub AreNoted : List ℕ → List Read → List Case → Type 0
 AreNoted bytes reads [] = Unit {0}
 AreNoted bytes reads (c ∷ rest) = ((r : Read) × Contains reads r × IsNotedBy bytes c r) × AreNoted bytes reads rest
 
--- What is copied keeps what was noted: of each case what the records say that read, and the number of the next case. The bytes are those
--- before the data blocks.
+-- The copy keeps the notes: for each case the facts of the records that read, and the number of the next case. The bytes are those before
+-- the data blocks.
 pub record KeepsNoted (bytes : List ℕ) (first : Standing) (reads : List Read) (bound : ℕ) (s : Standing) : Type 0 where
   pub next : s.next ≡ next_by first.next bound (greatest_copied reads)
   pub cases : AreNoted bytes reads s.cases

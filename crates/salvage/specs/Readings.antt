@@ -1,4 +1,4 @@
--- What is read of an archive after its first fault.
+-- The parts of an archive that are read after its first fault.
 use Rattle.std.specs.Prelude.{◌≡◌, ◌≢◌, ◌⊎◌, ◌<◌, ◌≤◌, ℕ, true, List, length, Option, None, Some, Result, Ok, Err}
 use Rattle.disk_model.specs.Places.{part}
 use Rattle.journal_layout.specs.Layout.{data_start}
@@ -28,9 +28,9 @@ use Rattle.salvage.specs.declared.mending.Mend.{Mend}
 use Rattle.salvage.specs.declared.records.Dropped.{Dropped}
 use Rattle.salvage.specs.declared.records.Read.{Read}
 
--- A reading of the records of both halves. With other bytes in place of the superblock and the journal, the archive opens. It has each case
--- that precedes the fault and that no record which reads deletes, with the same image in the same blocks. Its data blocks are at the same
--- places. Each case is pinned and labelled as the records say that read, and no number of a case that is copied is given again.
+-- A reading of the records of both halves. With other bytes instead of the superblock and the journal, the archive opens. It has each case
+-- that precedes the fault and that no readable record deletes, with the same image in the same blocks. Its data blocks are at the same
+-- places. Each case is pinned and labelled as the readable records say, and no number of a copied case is given again.
 pub record IsMore (b : List ℕ) (first : Standing) (drops : List Dropped) (reads : List Read) (bound : ℕ) (m : More) : Type 0 where
   pub stands : Stands (fronted m.front.items b) m.journal.standing
   pub front : length m.front.items ≡ data_start first.shape
@@ -61,15 +61,15 @@ pub record SeesCases (b : List ℕ) (f : Found) : Type 0 where
   pub sees : SeesArchive b f.sight
   -- what precedes the first fault
   pub first : Stands (shown f.sight.patch b) f.first.standing
-  -- what is copied in its place, if anything is
+  -- the reading that is copied instead, if there is one
   pub more : (m : More) → f.more ≡ Some m → (d : Doubts) × (f.doubts ≡ Some d) × IsMore b f.first.standing f.scan.drops.items f.scan.reads.items d.bound m
   -- what deletes a case is a record of the archive
   pub drops : AreDrops (part b 0 (data_start f.first.standing.shape)) f.scan.drops.items
-  -- what is told as stored is stored by a record of the archive
+  -- each case that is reported as stored is stored by a record of the archive
   pub from : AreFrom f.first.standing.shape.data_blocks (part b 0 (data_start f.first.standing.shape)) f.scan.reads.items
-  -- what is looked up of them is all that they name
+  -- they are looked up by all that they name
   pub indexed : AreIndexed f.scan.drops.items f.scan.dropped
-  -- if something is at fault, what each record of a half says that reads by itself
+  -- if there is a fault, the facts of each record of a half that reads by itself
   pub reads : first_fault f ≢ None → AreHalvesRead f.first.standing.shape (part b 0 (data_start f.first.standing.shape)) f.scan.reads.items f.scan.drops.items
   -- of an archive that stands, the first damaged gate
   pub shut : (s : Standing) → Stands b s → f.shut ≡ shut_gate b s
@@ -87,7 +87,7 @@ abbrev pub FindsCases : List ℕ → Result Found OpenFault → Type 0
 FindsCases b (Ok f) = SeesCases b f
 FindsCases b (Err fault) = IsShort fault ⊎ (IsRefused b fault × HasNoGate b)
 
--- what is shown lies within the archive
+-- all bytes that are shown lie within the archive
 pub record FoundWithin (size : ℕ) (f : Found) : Type 0 where
   pub patch : IsWithin size f.sight.patch
   pub front : (m : More) → f.more ≡ Some m → length m.front.items ≤ size
@@ -107,8 +107,8 @@ abbrev pub IsHeldBy : Option Mend → Case → Type 0
 IsHeldBy None c = Unit {0}
 IsHeldBy (Some m) c = (m.is_sure ≡ true) × AreBelow (blocks_in m.held m.shape) c.blocks
 
--- A case is told whole: the file has all of it; and nothing is at fault, or the case precedes the first fault, that leaves its number
--- without a doubt, and no record which reads deletes it, and none from the fault on stores a case with its number, its name or a block of it.
+-- A case is reported as whole: the file has all of it. Either there is no fault, or the case precedes the first fault, that fault leaves its
+-- number certain, no readable record deletes it, and none from the fault on stores a case with its number, its name or a block of it.
 abbrev pub IsWholeIn : Found → Case → Type 0
 IsWholeIn f c =
     IsHeldBy f.mend c

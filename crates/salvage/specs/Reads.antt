@@ -13,7 +13,7 @@ use Rattle.salvage.specs.Records.{IsDeleted, number_of}
 use Rattle.salvage.specs.declared.records.Dropped.{Dropped}
 use Rattle.salvage.specs.declared.records.Read.{Read}
 
--- what is read of a record of `size` bytes: the case that it stores; or it stores none
+-- a record of `size` bytes that reads: the case that it stores; or it stores none
 abbrev pub IsStored : ℕ → List ℕ → ℕ → Result (Option Entry) OpenFault → Type 0
 IsStored blocks rest size (Ok (Some e)) = HasHead rest size → slice_index rest 1 ≡ 1 → StoresCase blocks rest size (case_of e)
 IsStored blocks rest size (Ok None) = (c : Case) → StoresCase blocks rest size c → ⊥
@@ -52,14 +52,14 @@ StayFrom old new = (blocks : ℕ) (bytes : List ℕ) → AreFrom blocks bytes ol
 abbrev pub StayNamed : List Dropped → List Dropped → Type 0
 StayNamed old new = (seq : ℕ) → IsDeleted old seq → IsDeleted new seq
 
--- What a record at this place says is taken, if one reads at the front of the bytes there: the case that it stores, and the numbers whose
--- cases it deletes.
+-- If a record reads at the front of the bytes at this place, its facts are taken: the case that it stores, and the numbers whose cases it
+-- deletes.
 pub record IsTaken (blocks : ℕ) (rest : List ℕ) (place : ℕ) (reads : List Read) (drops : List Dropped) : Type 0 where
   pub case : (size : ℕ) (c : Case) → StoresCase blocks rest size c → IsReadAt reads place c
   pub numbers : (size : ℕ) → HasHead rest size → IsDropBody rest size → (index : ℕ) → index < number_of rest 8 → IsDeleted drops (number_of rest (12 + 4 * index))
 
--- If the gate of the half is not closed, what each record of it says that reads is taken, unless the record lies within another or past
--- the end of the records. A record's place is a multiple of 16 bytes behind the header.
+-- If the gate of the half is not closed, the facts of each of its records that reads are taken, unless the record lies within another or past
+-- the end of the records. The place of a record is a multiple of 16 bytes after the header.
 abbrev pub AreAllRead : ℕ → List ℕ → ℕ → ℕ → List Read → List Dropped → Type 0
 AreAllRead blocks bytes start end reads drops =
     was_open (slice_index bytes start) ≡ true

@@ -32,7 +32,7 @@ pub record AreIndexed (drops : List Dropped) (index : BTreeMap ℕ ℕ) : Type 0
   pub each : (seq : ℕ) → IsDeleted drops seq → (i : ℕ) × (get nat_cmp index seq ≡ Some i)
   pub there : (seq i : ℕ) → get nat_cmp index seq ≡ Some i → (d : Dropped) × (slice_get drops i ≡ Some d) × (d.seq ≡ seq)
 
--- a record at this place deletes the case of this number, if a place is told
+-- a record at this place deletes the case of this number, if a place is given
 abbrev pub IsDeletedAt : List Dropped → ℕ → Option ℕ → Type 0
 IsDeletedAt drops seq None = Unit {0}
 IsDeletedAt drops seq (Some place) = Contains drops (record { seq = seq; place = place })

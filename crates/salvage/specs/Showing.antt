@@ -15,6 +15,6 @@ shown (Some p) b = patched p b
 abbrev pub IsWithin : ℕ → Option Patch → Type 0
 IsWithin size patch = (p : Patch) → patch ≡ Some p → p.at < size
 
--- what is shown is a byte
+-- each value that is shown is a byte
 abbrev pub IsSmall : Option Patch → Type 0
 IsSmall patch = (p : Patch) → patch ≡ Some p → p.byte < 256

@@ -1,4 +1,4 @@
--- What is told of the cases of an archive, by its bytes.
+-- The report on the cases of an archive, by its bytes.
 use Rattle.std.specs.Prelude.{◌≡◌, ◌≢◌, ◌⊎◌, ℕ, ◌+◌, ◌*◌, ◌<◌, true, List, slice_index, None, Option, Some}
 use Rattle.std.specs.List.{Contains}
 use Rattle.disk_model.specs.Places.{part}
@@ -25,8 +25,8 @@ use Rattle.salvage.specs.declared.telling.Mark.TheVariants.{Lost, Whole}
 abbrev pub IsHeardOf : Shape → List ℕ → ℕ → ℕ → ℕ → List Line → Case → Type 0
 IsHeardOf shape front begin end place lines c = IsTold lines c ⊎ IsWithinOther shape.data_blocks front end place ⊎ IsPast shape.data_blocks front begin end place
 
--- If something is at fault, each case has a line that a Store record of a half says which reads by itself, whatever the records before it
--- say: whether the case is copied or lost. It has none only if the record lies within another, or past the end of the records.
+-- If there is a fault, each case of a Store record that reads by itself in a half has a line, whatever the records before it say: whether the
+-- case is copied or lost. It has none only if the record lies within another, or past the end of the records.
 abbrev pub EachReadableCaseIsTold : Type 0
 EachReadableCaseIsTold =
     (b : List ℕ) (f : Found) (lines : List Line) → SeesCases b f → AreTold f lines → first_fault f ≢ None
@@ -38,13 +38,13 @@ EachReadableCaseIsTold =
     → IsHeardOf f.first.standing.shape (part b 0 (data_start f.first.standing.shape)) (half_start f.first.standing.shape half)
     (half_start f.first.standing.shape half + half_length f.first.standing.shape) place lines c
 
--- If nothing is at fault, and the archive's own front is read, each case of the archive is told whole.
+-- If there is no fault, and the archive's own front is read, each case of the archive is reported as whole.
 abbrev pub EachSoundCaseIsWhole : Type 0
 EachSoundCaseIsWhole =
     (b : List ℕ) (f : Found) (lines : List Line) → SeesCases b f → AreTold f lines → first_fault f ≡ None → f.mend ≡ None
     → (c : Case) → Contains f.first.standing.cases c → Contains lines (record { case = c; mark = Whole })
 
--- If something is at fault, a case that is told whole precedes the first fault, has a number below the first one that the fault makes
+-- If there is a fault, a case that is reported as whole precedes the first fault, has a number below the first one that the fault makes
 -- doubtful, and is deleted by no record that was read.
 abbrev pub WhatIsToldWholeIsNotDeleted : Type 0
 WhatIsToldWholeIsNotDeleted =
@@ -69,7 +69,7 @@ NoRecordDeletesWhatIsToldWhole =
     ⊎ IsPast f.first.standing.shape.data_blocks (part b 0 (data_start f.first.standing.shape)) (half_start f.first.standing.shape half)
     (half_start f.first.standing.shape half + half_length f.first.standing.shape) place
 
--- A case that is told whole has a number below the first one that the first fault makes doubtful.
+-- A case that is reported as whole has a number below the first one that the first fault makes doubtful.
 abbrev pub WhatIsToldWholeIsBelow : Type 0
 WhatIsToldWholeIsBelow =
     (b : List ℕ) (f : Found) (lines : List Line) → SeesCases b f → AreTold f lines → (t : Trouble) → trouble_by f.sight.fault f.sight.patch f.shut ≡ Some t
@@ -84,7 +84,7 @@ NoRecordContestsWhatIsToldWhole =
     → (c : Case) → Contains lines (record { case = c; mark = Whole })
     → OfEachBehind f.first.standing.shape (part b 0 (data_start f.first.standing.shape)) t.gate (λ one. Contests one c → ⊥)
 
--- A case that is told lost is that of a Store record of the archive, which reads by itself at its place. Records behind it may have pinned
+-- A case that is reported as lost is that of a Store record of the archive, which reads by itself at its place. Later records may have pinned
 -- the case.
 abbrev pub WhatIsToldLostIsStored : Type 0
 WhatIsToldLostIsStored =

@@ -1,4 +1,4 @@
--- The lines that a salvage tells.
+-- The lines that a salvage prints.
 use Rattle.std.specs.Prelude.{ℕ, List, [], ◌∷◌, ◌++◌, Option, None, Some, codes, decimal}
 use Rattle.journal_layout.specs.FieldNames.{field_name}
 use Rattle.journal_layout.specs.declared.faults.OpenFault.{OpenFault}
@@ -30,12 +30,12 @@ fault_line (Some fault) = codes "fault " ++ (fault_words fault ++ 10 ∷ [])
 abbrev pub shape_line : Shape → List ℕ
 shape_line s = codes "shape --half " ++ (decimal s.half_blocks ++ (codes " --data " ++ (decimal s.data_blocks ++ 10 ∷ [])))
 
--- the first fault of what is read in place of a damaged front, if there is one
+-- the first fault of the front that is read instead of a damaged one, if there is such a fault
 abbrev pub own_fault : Option OpenFault → List ℕ
 own_fault None = []
 own_fault (Some fault) = fault_line (Some fault)
 
--- The first fault. If another front is read than the archive's, why its own is refused, the shape, and what is at fault then.
+-- The first fault. If another front is read than the archive's: why its own is refused, the shape, and then the fault.
 abbrev pub lines_by : Option Mend → Option OpenFault → List ℕ
 lines_by None fault = fault_line fault
 lines_by (Some m) fault = fault_line (Some m.fault) ++ (shape_line m.shape ++ own_fault fault)

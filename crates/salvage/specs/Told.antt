@@ -1,4 +1,4 @@
--- The lines that a salvage tells of the cases of an archive.
+-- The lines that a salvage prints about the cases of an archive.
 use Rattle.std.specs.Prelude.{Some, ◌≡◌, ◌≢◌, ◌⊎◌, ℕ, Bool, List, [], ◌∷◌, ◌++◌, Option, None, Result, is_ok}
 use Rattle.std.specs.List.{Contains, flat_map}
 use Rattle.journal_layout.specs.Case.{Case, case_of}
@@ -17,7 +17,7 @@ use Rattle.script_streams.specs.Replies.{Telling, TellsText}
 use Rattle.script_streams.specs.Telling.{IsDelivered}
 use Rattle.script_streams.specs.declared.streams.StreamFault.{StreamFault}
 
--- a case, and what is told of it
+-- a case, and the report on it
 pub record Line : Type 0 where
   pub case : Case
   pub mark : Mark
@@ -28,11 +28,11 @@ line_text l = case_line l.case.seq l.mark l.case.origin.name
 abbrev pub lines_text : List Line → List ℕ
 lines_text lines = flat_map line_text lines
 
--- something is at fault, or another front is read than the archive's
+-- there is a fault, or another front is read than the archive's
 abbrev pub HasDoubt : Found → Type 0
 HasDoubt f = (first_fault f ≢ None) ⊎ (f.mend ≢ None)
 
--- A case that is copied is told whole only if it is. If it is doubtful, something is at fault, and a place that is told with it is that of
+-- A copied case is reported as whole only if it is. If it is doubtful, there is a fault, and a place that is printed with it is that of
 -- a Drop record which names it.
 abbrev pub IsMarked : Found → Case → Mark → Type 0
 IsMarked f c Whole = IsWholeIn f c
@@ -59,19 +59,20 @@ HasAll cases (r ∷ rest) = HasCase cases (case_of r.entry) × HasAll cases rest
 abbrev pub IsAll : Found → Type 0
 IsAll f = ((version : ℕ) → reason_by f.mend f.sight.fault ≢ Some (UnknownVersion version)) × HasAll (copied_cases f) f.scan.reads.items
 
--- A read whose case is not copied is told lost; or nothing is told of it, since its case is copied, or one of the reads before it has the same case.
+-- A read whose case is not copied is reported as lost; or it has no line, since its case is copied, or one of the reads before it has the same
+-- case.
 abbrev pub IsLost : Found → List Read → Case → List Line → Type 0
 IsLost f before c lines =
     ((lines ≡ []) × (HasCase (copied_cases f) c ⊎ IsAmong before c))
     ⊎ ((loss : Loss) × (place : Option ℕ) × (HasCase (copied_cases f) c → ⊥) × IsDeletedAt f.scan.drops.items c.seq place × (lines ≡ record { case = c; mark = Lost loss place } ∷ []))
 
--- what is told of these reads, the last one first, where these others are before them
+-- the report on these reads, the last one first, if these others are before them
 abbrev pub AreLost : Found → List Read → List Read → List Line → Type 0
 AreLost f before [] lines = lines ≡ []
 AreLost f before (r ∷ rest) lines =
     (later : List Line) × (one : List Line) × AreLost f (before ++ r ∷ []) rest later × IsLost f before (case_of r.entry) one × (lines ≡ later ++ one)
 
--- What is told of the cases: those that are copied, in the order of their numbers, and then those that a record stores and that are not.
+-- The report on the cases: those that are copied, in the order of their numbers, and then those that a record stores and that are not copied.
 pub record AreTold (f : Found) (lines : List Line) : Type 0 where
   pub copied : List Line
   pub lost : List Line
@@ -79,11 +80,11 @@ pub record AreTold (f : Found) (lines : List Line) : Type 0 where
   pub each_lost : AreLost f [] f.scan.reads.items lost
   pub all : lines ≡ copied ++ lost
 
--- a line tells this case: it has its number and its name, and is of the same image
+-- a line is about this case: it has its number and its name, and is of the same image
 abbrev pub IsTold : List Line → Case → Type 0
 IsTold lines c = (l : Line) × Contains lines l × IsSameCase l.case c
 
--- lines are told that are so
+-- each of these lines is printed with this outcome
 abbrev pub TellsLines : Telling → (List Line → Type 0) → Type 0
 TellsLines t P = (lines : List Line) × P lines × TellsText t (lines_text lines)
 

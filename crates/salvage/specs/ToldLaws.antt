@@ -1,4 +1,4 @@
--- Laws of what is told of the cases of an archive.
+-- Laws of the report on the cases of an archive.
 use Rattle.std.proofs.Common.{◌≡◌, ◌≢◌, ◌⊎◌, inl, inr, ℕ, zero, suc, get_or, arith, ◌+◌, ◌<◌, ◌==◌, Bool, true, false, cond, List, [], ◌∷◌, ◌++◌, refl, sym, ap, ◌∙◌, subst, append_assoc, ⊎_elim, Option, None, Some}
 use Rattle.std.proofs.lemmas.Bool.{eqb-true}
 use Rattle.std.proofs.lemmas.List.{append-nil}
@@ -89,7 +89,7 @@ copied_told f [] lines are c has = let none = has.1 in absurd (cc)
 copied_told f (x ∷ xs) lines (mark, rest, marked, are, is) c has =
     subst (λ (ls : List Line). IsTold ls c) (sym is) (one_told x xs mark rest c has (copied_told f xs rest are c))
 
--- Of reads that are lost or again, each is told, where the cases that are copied and the reads before them are.
+-- Each of the reads that are lost, or that have the same case as one before, is reported, if the copied cases and the reads before it are.
 module _ (f : Found) (all : List Line) (copied : (c : Case) → HasCase (copied_cases f) c → IsTold all c) where
   lost_told : (before rest : List Read) (lines : List Line) → AreLost f before rest lines → ((l : Line) → Contains lines l → Contains all l)
       → ((c : Case) → IsAmong before c → IsTold all c) → (c : Case) → IsAmong (before ++ rest) c → IsTold all c
@@ -159,7 +159,7 @@ whole_lines f sound own (x ∷ xs) lines (Whole, rest, marked, are, is) c has =
     subst (λ (ls : List Line). Contains ls (record { case = c; mark = Whole })) (sym is)
     (one_whole x xs rest c (contains_cases x xs c has) (whole_lines f sound own xs rest are c))
 
--- If nothing is at fault, each case of the archive is told whole.
+-- If there is no fault, each case of the archive is reported as whole.
 pub each_sound_case_is_whole : EachSoundCaseIsWhole
 each_sound_case_is_whole b f lines sees told sound own c has =
     subst (λ (ls : List Line). Contains ls (record { case = c; mark = Whole })) (sym told.all)
@@ -192,7 +192,7 @@ copied_marked f (x ∷ xs) lines (mark, rest, marked, are, is) l has =
     marked_first f (record { case = x; mark = mark }) l rest marked (copied_marked f xs rest are l)
     (line_cases (record { case = x; mark = mark }) rest l (subst (λ (ls : List Line). Contains ls l) is has))
 
--- what is lost is not told whole
+-- no lost case is reported as whole
 one_lost_not_whole : (f : Found) (before : List Read) (x c : Case) (one : List Line) → IsLost f before x one → Contains one (record { case = c; mark = Whole }) → ⊥
 one_lost_not_whole f before x c one (inl (none, why)) has =
     let nothing = subst (λ (ls : List Line). Contains ls (record { case = c; mark = Whole })) none has in absurd (omega (arith, nothing.1))
@@ -218,18 +218,18 @@ whole_is : (f : Found) (c : Case) → first_fault f ≢ None → AreIndexed f.sc
 whole_is f c fault indexed (held, inl sound) = absurd (fault sound)
 whole_is f c fault indexed (held, inr whole) = (whole.0, whole.1, whole.2 indexed)
 
--- what is told whole is whole
+-- each case that is reported as whole is whole
 told_whole : (f : Found) (lines : List Line) → AreTold f lines → (c : Case) → Contains lines (record { case = c; mark = Whole }) → IsWholeIn f c
 told_whole f lines told c has =
     ⊎_elim (λ copied. copied_marked f (copied_cases f) told.copied told.each_copied (record { case = c; mark = Whole }) copied)
     (λ lost. absurd (lost_not_whole f [] f.scan.reads.items told.lost told.each_lost c lost))
     (Contains-append_cases told.copied told.lost (record { case = c; mark = Whole }) (subst (λ (ls : List Line). Contains ls (record { case = c; mark = Whole })) told.all has))
 
--- what is told whole is not deleted by a record that was read
+-- no record that was read deletes a case that is reported as whole
 pub what_is_told_whole_is_not_deleted : WhatIsToldWholeIsNotDeleted
 what_is_told_whole_is_not_deleted b f lines sees told fault c has = whole_is f c fault sees.indexed (told_whole f lines told c has)
 
--- where there is trouble, something is at fault
+-- if there is trouble, there is a fault
 at_fault : (fault : Option OpenFault) (patch : Option Patch) (shut : Option ℕ) (t : Trouble) → trouble_by fault patch shut ≡ Some t → fault_by fault shut ≡ None → ⊥
 at_fault None patch None t some none = absurd (cc)
 at_fault (Some fault) patch None t some none = absurd (cc)
@@ -241,13 +241,13 @@ below_bound : (shape : Shape) (bytes : List ℕ) (t : Trouble) (doubts : Option 
 below_bound shape bytes t None seq is below = absurd below
 below_bound shape bytes t (Some d) seq is below = (d.bound, is, below)
 
--- what is told whole has a number that the first fault leaves without a doubt
+-- the first fault leaves the number of each case certain that is reported as whole
 pub what_is_told_whole_is_below : WhatIsToldWholeIsBelow
 what_is_told_whole_is_below b f lines sees told t some c has =
     let whole = whole_is f c (λ none. at_fault f.sight.fault f.sight.patch f.shut t some none) sees.indexed (told_whole f lines told c has) in
     below_bound f.first.standing.shape (part b 0 (data_start f.first.standing.shape)) t f.doubts c.seq (sees.bound t some) whole.1
 
--- of what is known of each record behind the fault
+-- of the facts of each record after the fault
 known_of : (doubts : Option Doubts) (shape : Shape) (bytes : List ℕ) (gate : ℕ) (c : Case) (seq : ℕ) → IsBelow doubts seq → ((d : Doubts) → doubts ≡ Some d → OfEachBehind shape bytes gate (Knows d))
     → IsUncontested doubts c → OfEachBehind shape bytes gate (λ one. Contests one c → ⊥)
 known_of None shape bytes gate c seq below behind free opened k place size one is there stores = absurd below
@@ -262,7 +262,7 @@ uncontested_of : (f : Found) (c : Case) → first_fault f ≢ None → IsWholeIn
 uncontested_of f c fault (held, inl sound) = absurd (fault sound)
 uncontested_of f c fault (held, inr whole) = (whole.1, whole.3)
 
--- no record from the fault on contests what is told whole
+-- no record from the fault on contests a case that is reported as whole
 pub no_record_contests_what_is_told_whole : NoRecordContestsWhatIsToldWhole
 no_record_contests_what_is_told_whole b f lines sees told t some c has =
     let free = uncontested_of f c (λ none. at_fault f.sight.fault f.sight.patch f.shut t some none) (told_whole f lines told c has) in
@@ -285,7 +285,7 @@ no_record_deletes_what_is_told_whole b f lines sees told fault c has half opened
     left (inl taken) = absurd (deleted_not (subst (IsDeleted f.scan.drops.items) number (taken.numbers size head body index below)))
     left (inr other) = other
 
--- each line of what is lost is of a read
+-- each line about a lost case is of a read
 lost_read : (f : Found) (before rest : List Read) (lines : List Line) → AreLost f before rest lines → (l : Line) → Contains lines l → (r : Read) × Contains rest r × (case_of r.entry ≡ l.case)
 lost_read f before [] lines are l has = let none = subst (λ (ls : List Line). Contains ls l) are has in absurd (omega (arith, none.1))
 lost_read f before (r ∷ rest) lines (later, one, are, lost, is) l has =
@@ -305,7 +305,7 @@ lost_read f before (r ∷ rest) lines (later, one, are, lost, is) l has =
         let y : Line = record { case = case_of r.entry; mark = Lost loss place } in
         first y refl (line_cases y [] l (subst (λ (ls : List Line). Contains ls l) line there))
 
--- what is told lost is stored by a record
+-- a record stores each case that is reported as lost
 pub what_is_told_lost_is_stored : WhatIsToldLostIsStored
 what_is_told_lost_is_stored b f lines sees told c loss place has =
     ⊎_elim (λ copied. absurd (copied_marked f (copied_cases f) told.copied told.each_copied (record { case = c; mark = Lost loss place }) copied))

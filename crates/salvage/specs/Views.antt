@@ -1,4 +1,4 @@
--- What is known of an archive's bytes that are shown as a disk.
+-- The known facts of an archive's bytes that are shown as a disk.
 use Rattle.std.specs.Prelude.{List, Option, ℕ}
 use Rattle.salvage.specs.declared.fronted.Fronted.{Fronted}
 use Rattle.salvage.specs.declared.restored.Restored.{Restored}
@@ -14,7 +14,7 @@ module _ {S : Type 0} {g : source.Ghosts S} where
   abbrev pub patch_of : Shown S g → Option Patch
   patch_of v = v.patch
 
-  -- the source with others in place of its first bytes
+  -- the source with its first bytes replaced
   abbrev pub under : Fronted S g → S
   under f = f.source.now
 

@@ -36,14 +36,14 @@ use std::alloc::{AllocError, Global};
 // The bytes of a record of the next number.
 const NEXT: usize = 16;
 
-/// A reading of the records of both halves: other bytes in place of the superblock and the journal, and the journal that they say.
+/// A reading of the records of both halves: bytes that replace the superblock and the journal, and the journal that they have.
 #[derive(Drop)]
 pub struct More {
     pub(crate) front: Vec<u8>,
     pub(crate) journal: Journal,
 }
 
-/// What is told of a case that is not copied.
+/// The report on a case that is not copied.
 #[derive(Clone, Copy, Debug, PartialEq, Eq)]
 pub(crate) enum Loss {
     /// Its number is that of another case.
@@ -63,15 +63,15 @@ pub struct Found {
     pub sight: Sight,
     /// The first damaged gate of an archive that opens: that of a half, or else that after its records.
     pub shut: Option<u64>,
-    // What the records before the first fault say.
+    // The journal by the records before the first fault.
     pub(crate) first: Journal,
-    // What the records of both halves say that read by themselves, if something is at fault.
+    // The facts of the records of both halves that read by themselves, if there is a fault.
     pub(crate) scan: Scan,
     // What makes a case doubtful that stands before the first fault, if something is.
     doubts: Option<Doubts>,
-    // What is copied in place of the archive's records.
+    // The reading that is copied instead of the archive's records.
     pub(crate) more: Option<More>,
-    /// What is taken for a damaged superblock, for the header of a half, or for the file's length.
+    /// What a damaged superblock, the header of a half, or the file's length is taken for.
     pub mend: Option<Mend>,
 }
 
@@ -126,7 +126,7 @@ impl Found {
         }
     }
 
-    /// Whether nothing is at fault, or a case precedes the first fault, and neither that fault nor a record that reads makes it doubtful.
+    /// Whether there is no fault, or a case precedes the first fault, and neither that fault nor a record that reads makes it doubtful.
     pub fn is_whole(&self, entry: &Entry) -> bool
         ensures whole { IsTrue result → IsWholeIn self.now (case_of entry.now) }
         ensures sound { first_fault self.now ≡ None → self.now.mend ≡ None → result ≡ true }
@@ -234,7 +234,7 @@ impl Found {
     }
 }
 
-// What a case is told to be lost by.
+// The reason why a case is reported as lost.
 fn loss_of(fate: Fate) -> Loss {
     match fate {
         Fate::Number => Loss::Number,
@@ -345,7 +345,7 @@ fn read_more<S: Source>(
     }
 }
 
-// Opens the journal of an archive with other bytes in place of its first ones.
+// Opens the journal of an archive whose first bytes are replaced.
 fn open_front<S: Source>(alloc: Global, source: &S, front: &[u8]) -> Result<Journal, OpenFault>
     requires { length front.now ≤ S.size source.now }
     ensures gives { IsTrue (S.is_honest source.now) → IfOk result (λ journal. Stands (fronted front.now (S.seen source.now)) journal.standing) }
@@ -354,7 +354,7 @@ fn open_front<S: Source>(alloc: Global, source: &S, front: &[u8]) -> Result<Jour
     open_shown(alloc, &view, None)
 }
 
-// A reading, if it is of an archive of the same shape, has each case of a journal that no record deletes, and keeps what was noted.
+// A reading. If it is of an archive of the same shape, has each case of a journal that no record deletes, and keeps the notes, it is given.
 fn having_each(
     more: Option<More>,
     first: &Journal,
@@ -375,7 +375,7 @@ fn having_each(
     None
 }
 
-// Whether a journal says of its cases what was noted of them, and has the right next number.
+// Whether a journal agrees with the notes about its cases, and has the right next number.
 fn keeps_noted(journal: &Journal, first: &Journal, reads: &[Read], front: &[u8], bound: u64) -> bool
     ensures { IsTrue result → KeepsNoted front.now first.now.standing reads.now bound journal.now.standing }
 {
@@ -448,7 +448,7 @@ fn choose_front(
     make_front(alloc, front, &scan.reads, first.version(), next)
 }
 
-// What a reading of the records of both halves finds.
+// The result of a reading of the records of both halves.
 fn look_on<S: Source>(
     alloc: Global,
     source: &S,
@@ -483,10 +483,11 @@ fn look_on<S: Source>(
     Ok((scan, doubts, more))
 }
 
-/// Finds the cases of an archive. Those of a sound archive are as its opening finds them. If a record of the taken half is the first to
-/// be at fault, or a gate is damaged by which the archive opens without the records behind it, or the header of a half, they are those
-/// of the records of both halves that read by themselves, as far as they go with one another (see `choose`). Answers as `find_sight`
-/// does.
+/// Finds the cases of an archive. Those of a sound archive are as its opening finds them. If the first fault is of a record of the taken
+/// half,
+/// of a gate without which the archive opens without the records after it, or of the header of a half, the cases are those of the records
+/// of
+/// both halves that read by themselves, as far as they go with one another (see `choose`). Its errors are those of `find_sight`.
 pub fn find_cases<S: Source>(alloc: Global, source: &S) -> Result<Found, OpenFault>
     ensures within { IfOk result (FoundWithin (S.size source.now)) }
     ensures finds { IsTrue (S.is_honest source.now) → FindsCases (S.seen source.now) result }

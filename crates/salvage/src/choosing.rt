@@ -27,7 +27,7 @@ enum Rank {
     Deleted,
 }
 
-// What is chosen already.
+// The reads that are chosen already.
 #[derive(Drop)]
 struct Chosen {
     // Which read has a number.
@@ -51,7 +51,7 @@ impl Blocks {
         Ok(Blocks { used })
     }
 
-    // Whether a block is used, or is none.
+    // Whether a block is used, or does not exist.
     fn is_used(&self, block: usize) -> bool
         ensures { result ≡ is_used self.now.used.items block }
     {
@@ -61,7 +61,7 @@ impl Blocks {
         }
     }
 
-    // Whether a block of a run is used, or is none.
+    // Whether a block of a run is used, or does not exist.
     fn has_of(&self, run: Run) -> bool
         ensures { result ≡ false → AreUsed self.now.used.items false (run_blocks run) }
     {
@@ -74,7 +74,7 @@ impl Blocks {
         false
     }
 
-    /// Whether a block of these runs is used, or is none.
+    /// Whether a block of these runs is used, or does not exist.
     pub(crate) fn has_any(&self, runs: &[Run]) -> bool
         ensures { result ≡ false → AreUsed self.now.used.items false (blocks_of runs.now) }
     {
@@ -186,7 +186,7 @@ pub(crate) fn is_again(before: &[Read], read: &Read) -> bool
     false
 }
 
-// Tells what becomes of a case, if it is of a rank.
+// Reports the fate of a case, if it has this rank.
 fn choose_one(
     chosen: &mut Chosen,
     scan: &mut Scan,

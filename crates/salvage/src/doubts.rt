@@ -75,7 +75,7 @@ pub(crate) fn generation_at(front: &[u8], start: usize) -> u64
     long_in(rest_of(front, start))
 }
 
-// From which number on a case is doubtful that stands before a record which is at fault.
+// The number from which on cases are doubtful that come before a record with a fault.
 fn bound_by(field: Field, alone: bool, own: u64) -> u64
     ensures { result ≡ bound_by field alone own }
 {
@@ -147,7 +147,7 @@ fn is_behind(half: Span, gate: usize) -> bool
     half.start < gate && gate < half.end
 }
 
-// Whether the record at fault reads by itself, if it is one of this half.
+// Whether the record with the fault reads by itself, if it is one of this half.
 fn is_alone(
     alloc: Global,
     front: &[u8],

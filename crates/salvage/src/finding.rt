@@ -1,4 +1,4 @@
-// Where the first faulty record of an archive is, and what lets the archive be read.
+// The place of the first bad record of an archive, and the patch with which the archive can be read.
 ghost use Rattle.std.specs.Prelude.{◌≡◌, ◌↔◌, ◌+◌, ◌<◌, true, Err, Ok, IfErr, IfOk, IsTrue};
 ghost use Rattle.case_journal.specs.Viewing.{Gives};
 ghost use Rattle.journal_layout.specs.Layout.{disk_length};
@@ -14,7 +14,7 @@ use std::alloc::Global;
 /// The byte of a gate that is open.
 pub(crate) const GATE_OPEN: u8 = 0xA5;
 
-// The bytes of a record are so many times 16, and so is each place of a gate.
+// The length of a record is a multiple of 16 bytes, and so is each place of a gate.
 const STEP: u64 = 16;
 
 /// How an archive can be read.
@@ -70,7 +70,7 @@ fn is_gate<S: Source>(alloc: Global, source: &S, gate: u64) -> Result<bool, Open
     }
 }
 
-/// Nothing is found if an opening is refused, unless it is refused for want of memory or of the disk.
+/// Nothing is found if an opening is refused, unless the reason is the memory or the disk.
 pub(crate) fn not_found(fault: OpenFault) -> Result<bool, OpenFault>
     ensures { result ≡ not_found fault }
 {
@@ -97,7 +97,7 @@ fn find_gate<S: Source>(alloc: Global, source: &S, at: u64) -> Result<Option<u64
     Ok(None)
 }
 
-// The patch that closes the gate of the first faulty record, whose fault names a byte. Answers the fault if there is none.
+// The patch that closes the gate of the first bad record, whose fault names a byte. Returns the fault if there is none.
 fn find_record<S: Source>(
     alloc: Global,
     source: &S,
@@ -145,7 +145,7 @@ fn second_half<S: Source>(source: &S) -> Result<u64, OpenFault>
     Ok(BLOCK * (1 + u64::from(u32::from_le_bytes(word))))
 }
 
-// The patch that closes or opens the gate of a half, so that an archive opens. Answers the fault if there is none.
+// The patch that closes or opens the gate of a half, so that an archive opens. Returns the fault if there is none.
 fn find_half<S: Source>(alloc: Global, source: &S, fault: OpenFault) -> Result<Patch, OpenFault>
     ensures within { IfOk result (λ patch. patch.at < S.size source.now) }
     ensures half { IsTrue (S.is_honest source.now) → IsHalfFound (S.seen source.now) fault result }
@@ -159,7 +159,7 @@ fn find_half<S: Source>(alloc: Global, source: &S, fault: OpenFault) -> Result<P
     Err(fault)
 }
 
-// The gates of the halves, each closed, and then each open. Where both halves have one generation, the fault is told of the second.
+// The gates of the halves, each closed, and then each open. If both halves have one generation, the fault is that of the second.
 fn half_patches(second: u64) -> [Patch; 4] {
     let closed = 0;
     let open = GATE_OPEN;
@@ -211,10 +211,11 @@ fn find_patch<S: Source>(alloc: Global, source: &S, fault: OpenFault) -> Result<
     }
 }
 
-/// Finds how an archive can be read. A sound archive is read as it is. Where a record of the taken half is the first to be at fault, its
-/// gate is shown closed, so that the records before it stand, and nothing else. Where the header of a half is at fault, the gate of a
-/// half is shown closed, or open, so that the archive opens. Answers the fault of the opening if nothing of that lets it open, `Disk`
-/// if the archive can't be read, or `OutOfMemory`.
+/// Finds how an archive can be read. A sound archive is read as it is. If the first fault is of a record of the taken half, its gate is
+/// shown
+/// closed, so that the records before it stand, and nothing else. If it is of the header of a half, the gate of a half is shown closed, or
+/// open, so that the archive opens. Returns the fault of the opening if none of that makes it open, `Disk` if the archive can't be read, or
+/// `OutOfMemory`.
 pub fn find_sight<S: Source>(alloc: Global, source: &S) -> Result<Sight, OpenFault>
     ensures within { IfOk result (λ sight. IsWithin (S.size source.now) sight.patch) }
     ensures finds { IsTrue (S.is_honest source.now) → FindsSight (S.seen source.now) result }

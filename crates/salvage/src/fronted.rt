@@ -1,4 +1,4 @@
-// An archive's bytes, with others in place of the first ones.
+// An archive's bytes, with the first ones replaced.
 ghost use Rattle.std.specs.Prelude.{◌≡◌, ◌+◌, ◌≤◌, length};
 ghost use Rattle.disk_model.specs.Places.{AreBytes, part};
 ghost use Rattle.salvage.specs.Fronts.{fronted};
@@ -19,7 +19,7 @@ pub struct Fronted<'a, S: Source> {
 impl<'a, S: Source> Fronted<'a, S> {
     ghost use Rattle.salvage.specs.Views.{front_of, under};
 
-    /// Shows these bytes in place of the first ones.
+    /// Shows these bytes instead of the first ones.
     pub fn new(source: &'a S, front: &'a [u8]) -> Fronted<'a, S>
         requires { length front.now ≤ S.size source.now }
         ensures source { under result ≡ source.now }

@@ -21,7 +21,7 @@ const HEADER: usize = 32;
 // Where the flag of a pin is in a Store record.
 const PINNED: usize = 13;
 
-// Puts a record at a place, its gate open. Tells where the next one begins.
+// Puts a record at a place, with its gate open. Returns the place where the next one begins.
 fn put_record(front: &mut [u8], at: usize, bytes: &[u8], record: Span) -> usize
     ensures { length front.new ≡ length front.old }
 {
@@ -72,8 +72,9 @@ fn put_cases(front: &mut [u8], bytes: &[u8], reads: &[Read]) -> usize
     at
 }
 
-/// Makes the superblock and the journal of an archive that has the cases of `reads` which are copied. `bytes` are those of the archive
-/// up to its data blocks, and `reads` are in the order of their numbers, the greatest first. The next number has a record only if it is
+/// Makes the superblock and the journal of an archive that has the cases of those `reads` which are copied. `bytes` are those of the
+/// archive
+/// up to its data blocks, and `reads` are in the order of their numbers, the highest first. The next number has a record only if it is
 /// not the one after the last case: that says it already.
 pub(crate) fn make_front(
     alloc: Global,

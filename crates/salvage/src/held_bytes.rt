@@ -7,7 +7,7 @@ use crate::fronted::copy_part;
 use crate::source::Source;
 use disk_model::DiskFault;
 
-/// A source whose bytes are all in memory, honest. So what is said of honest sources is said of something.
+/// A source whose bytes are all in memory, honest. So the clauses about honest sources are about something that exists.
 #[derive(Drop)]
 pub struct HeldBytes<'a> {
     bytes: &'a [u8],

@@ -1,4 +1,4 @@
-//! A damaged archive: where its first faulty record or gate is, and a copy of the cases that can still be read.
+//! A damaged archive: the place of its first bad record or gate, and a copy of the cases that can still be read.
 #![tactic(auto)]
 
 mod cases;

@@ -43,7 +43,7 @@ pub struct ShapeWish {
     pub data_blocks: Option<u32>,
 }
 
-/// What is taken for the shape of an archive whose opening is refused by its superblock, by the headers of its halves, or by its length.
+/// The shape that is assumed for an archive whose opening is refused for its superblock, for the headers of its halves, or for its length.
 #[derive(Clone, Copy, Debug, PartialEq, Eq)]
 pub struct Mend {
     /// Why it is refused.
@@ -66,10 +66,10 @@ impl Mend {
     }
 }
 
-/// A superblock and a journal in place of those of an archive whose opening is refused.
+/// A superblock and a journal that replace those of an archive whose opening is refused.
 #[derive(Drop)]
 pub struct Mended {
-    /// What is taken for its shape.
+    /// The shape that is assumed.
     pub mend: Mend,
     /// The superblock and the journal.
     pub front: Vec<u8>,
@@ -283,7 +283,7 @@ fn version_by(reads: &[Read]) -> u32 {
     PLAIN
 }
 
-// The superblock of an archive of this shape, up to what is looked at.
+// The superblock of an archive of this shape, up to the last byte that is looked at.
 fn superblock_of(shape: Shape) -> [u8; 24] {
     let mut bytes = [0u8; 24];
     bytes[0] = GATE_OPEN;
@@ -371,10 +371,11 @@ fn is_of_headers(fault: OpenFault) -> bool
     }
 }
 
-/// Finds a shape for an archive whose opening is refused by its superblock, by the headers of its halves, or by its length, and what is to be
-/// read in place of these. The shape is that of the words; else that of the superblock, if the file has its length, or if the second half
-/// begins where it says; else that which the one place says where a header and a record stand. There are as many data blocks as the file
-/// has, and those that a record names which reads. Answers none if there is no such shape, or if the fault is another.
+/// Finds a shape for an archive whose opening is refused for its superblock, for the headers of its halves, or for its length, and the
+/// bytes to
+/// read instead of these. The shape is that of the words; else that of the superblock, if the file has its length, or if the second half
+/// begins where it says; else that of the only place at which a header and a record stand. There are as many data blocks as the file
+/// has, and as the readable records name. Returns nothing if there is no such shape, or if the fault is another.
 pub fn find_shape<S: Source>(
     alloc: Global,
     source: &S,

@@ -1,4 +1,4 @@
-// What was noted of the cases that are copied, and the number of the next one.
+// Notes about the copied cases, and the number of the next case.
 ghost use Rattle.std.specs.Prelude.{◌≡◌, ◌<◌, ◌≤◌, IfSome, IsTrue, length, map};
 ghost use Rattle.journal_layout.specs.Case.{case_of};
 ghost use Rattle.salvage.specs.Noting.{AreNoted, IsNotedBy, greatest_copied, label_by, next_by, number_if};
@@ -17,7 +17,7 @@ fn number_if_copied(read: &Read) -> u32
     }
 }
 
-/// The greatest number of a case that is copied; 0 if none is.
+/// The highest number of a copied case; 0 if there is none.
 pub(crate) fn last_of(reads: &[Read]) -> u32
     ensures { result ≡ greatest_copied reads.now }
 {
@@ -86,7 +86,7 @@ fn copied_before(reads: &[Read], count: usize) -> Option<usize>
 }
 
 /// Whether each case is that of a read which is copied, pinned and labelled as the records say. The reads are in the order of their
-/// numbers, the greatest first, and the cases in that of theirs, the greatest last.
+/// numbers, the highest first, and the cases in that of theirs, the highest last.
 pub(crate) fn are_noted(front: &[u8], reads: &[Read], entries: &[Entry]) -> bool
     ensures { IsTrue result → AreNoted front.now reads.now (map case_of entries.now) }
 {

@@ -19,7 +19,7 @@ use journal_records::replay;
 use std::alloc::{AllocError, Global};
 use std::collections::BTreeMap;
 
-/// A record's length is a multiple of so many bytes, and so is its place in its half.
+/// The length of a record is a multiple of so many bytes, and so is its place in its half.
 pub(crate) const STEP: usize = 16;
 
 // The bytes of a half's header.
@@ -69,7 +69,7 @@ pub(crate) enum Fate {
 /// A Store record that reads by itself.
 #[derive(Drop)]
 pub(crate) struct Read {
-    /// Where it is among the archive's bytes.
+    /// Its place among the archive's bytes.
     pub(crate) place: Span,
     /// The case that it stores, pinned or not as the last Pin record behind it says.
     pub(crate) entry: Entry,
@@ -86,7 +86,7 @@ pub(crate) struct Dropped {
     pub(crate) place: usize,
 }
 
-/// What the records of the halves say that read by themselves.
+/// The facts of those records of the halves that read by themselves.
 #[derive(Drop)]
 pub(crate) struct Scan {
     /// The cases that are stored.
@@ -252,7 +252,7 @@ fn stored(
     }
 }
 
-/// Whether a record reads by itself at the begin of a place, which ends with its half.
+/// Whether a record reads by itself at the beginning of a place, which ends with its half.
 pub(crate) fn reads_alone(
     alloc: Global,
     front: &[u8],
@@ -406,7 +406,7 @@ impl Scan {
         }
     }
 
-    // Takes what a record says that is no Store record.
+    // Takes the facts of a record that is no Store record.
     fn take_other(&mut self, front: &[u8], place: Span) -> Result<(), AllocError>
         ensures drops { AreDrops front.now self.old.drops.items → AreDrops front.now self.new.drops.items }
         ensures stay { StayRead self.old.reads.items self.new.reads.items }
@@ -429,7 +429,7 @@ impl Scan {
         Ok(())
     }
 
-    // Takes what a record says that reads at the begin of a place. Tells its length, or 0 if none does.
+    // Takes the facts of the record that reads at the beginning of a place. Returns its length, or 0 if none reads there.
     fn take(
         &mut self,
         alloc: Global,
@@ -472,7 +472,7 @@ impl Scan {
 
     /// Reads the records of a half if its gate is not closed. The first record begins where the header ends, and each next record
     /// where the one before it ends. If no record can be read there, it may begin 16 bytes later. The records end with the half. They
-    /// also end at a closed gate that follows the header, the first record or two records in a row: 16 bytes within a faulty record
+    /// also end at a closed gate that follows the header, the first record or two records in a row: 16 bytes within a bad record
     /// may look like a record.
     pub(crate) fn read_half(
         &mut self,
@@ -542,7 +542,7 @@ fn row_after(row: usize, length: usize) -> usize
     row.saturating_add(1)
 }
 
-// So many bytes are read, if there was memory for what they say.
+// So many bytes are read, if there was memory for their facts.
 fn counted(taken: Result<(), AllocError>, length: usize) -> Result<usize, OpenFault>
     ensures only { IsOpenRefusal result }
     ensures taken { OnOk result (taken ≡ Ok tt) }

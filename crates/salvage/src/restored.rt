@@ -10,7 +10,7 @@ use crate::source::Source;
 use crate::stretched::Stretched;
 use disk_model::DiskFault;
 
-/// A source as it is read with what was mended of it.
+/// A source as it is read with its mended parts.
 #[derive(Drop)]
 pub struct Restored<'a, S: Source> {
     source: &'a S,
@@ -24,7 +24,7 @@ pub struct Restored<'a, S: Source> {
 impl<'a, S: Source> Restored<'a, S> {
     ghost use Rattle.salvage.specs.Views.{count_in, front_in, restored_of};
 
-    /// Shows so many bytes of a source, zeros behind its end, and this front in place of its own.
+    /// Shows so many bytes of a source, with zeros after its end, and this front instead of its own.
     pub fn new(source: &'a S, front: &'a [u8], count: u64) -> Restored<'a, S>
         requires { length front.now ≤ count }
         ensures source { restored_of result ≡ source.now }

@@ -15,7 +15,7 @@ use disk_model::{Disk, DiskFault};
 pub struct Patch {
     /// Its place.
     pub at: u64,
-    /// What is shown there.
+    /// The byte that is shown there.
     pub byte: u8,
 }
 
@@ -59,7 +59,7 @@ impl<'a, S: Source> Shown<'a, S> {
         Ok(())
     }
 
-    // Counts a failure where there was one.
+    // Counts a failure if there was one.
     fn counted(&mut self, outcome: Result<(), DiskFault>, fault: DiskFault) -> Result<(), DiskFault>
         ensures outcome { is_ok result ≡ is_ok outcome }
         ensures cause { HasCause self.old.failures self.new.failures result }

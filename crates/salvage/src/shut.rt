@@ -44,7 +44,7 @@ fn ends_there<S: Source>(alloc: Global, source: &S, gate: u64, used: u64) -> Res
     }
 }
 
-// The gate so many bytes after the begin of a half, where it is damaged, and where the records end that an opening reads.
+// The gate so many bytes after the beginning of a half, if it is damaged, and the place where the records end that an opening reads.
 fn shut_at<S: Source>(
     alloc: Global,
     source: &S,

@@ -1,4 +1,4 @@
-// What a salvage tells of an archive, line by line.
+// The report of a salvage on an archive, line by line.
 ghost use Rattle.std.specs.Prelude.{◌≡◌, []};
 ghost use Rattle.journal_layout.specs.Case.{case_of};
 ghost use Rattle.script_streams.specs.Replies.{TellsText, telling};
@@ -10,7 +10,7 @@ use crate::records::Read;
 use journal_layout::{Entry, OpenFault, Shape};
 use script_streams::{Output, Reply};
 
-/// What is told of a case.
+/// The report on a case.
 #[derive(Clone, Copy, Debug, PartialEq, Eq)]
 pub(crate) enum Mark {
     /// It is copied, and is as it was stored.
@@ -23,8 +23,8 @@ pub(crate) enum Mark {
     Lost(Loss, Option<u64>),
 }
 
-/// Tells the first fault of an archive, or that it is sound, and then of each case that is copied whether it is whole. The cases that a
-/// record stores and that are not copied come last, with what hinders each. Answers whether all was told.
+/// Reports the first fault of an archive, or that it is sound, and then for each copied case whether it is whole. The cases that a
+/// record stores and that are not copied come last, each with its reason. Returns whether all was printed.
 pub fn tell_cases<O: Output>(found: &Found, output: &mut O) -> bool
     ensures { TellsCases found.now (O.taken output.old) (O.taken output.new) (O.failures output.old) (O.failures output.new) result }
 {
@@ -36,7 +36,7 @@ pub fn tell_cases<O: Output>(found: &Found, output: &mut O) -> bool
     sent.is_ok()
 }
 
-// Tells the first fault, and what is taken for the archive's shape, if that is another than it says.
+// Reports the first fault, and the shape that is assumed for the archive, if that is another than it says.
 fn tell_front<O: Output>(reply: &mut Reply<'_, O>, found: &Found)
     ensures { TellsText (telling O.Output reply.old reply.new) (front_lines found.now) }
 {
@@ -61,7 +61,7 @@ fn tell_shape<O: Output>(reply: &mut Reply<'_, O>, shape: Shape)
     reply.tell(b"\n");
 }
 
-// Tells of the cases that are copied, in the order of their numbers.
+// Reports the copied cases, in the order of their numbers.
 fn tell_copied<O: Output>(reply: &mut Reply<'_, O>, found: &Found)
     ensures { TellsLines (telling O.Output reply.old reply.new) (AreCopied found.now (copied_cases found.now)) }
 {
@@ -71,7 +71,7 @@ fn tell_copied<O: Output>(reply: &mut Reply<'_, O>, found: &Found)
     }
 }
 
-// What is told of a case that is copied.
+// The report on a copied case.
 fn mark_of(found: &Found, entry: &Entry) -> Mark
     ensures { IsMarked found.now (case_of entry.now) result }
 {
@@ -84,7 +84,7 @@ fn mark_of(found: &Found, entry: &Entry) -> Mark
     Mark::Doubtful(found.deleted_at(entry.seq))
 }
 
-// Tells of the cases that are lost, in the order of their numbers.
+// Reports the lost cases, in the order of their numbers.
 fn tell_lost<O: Output>(reply: &mut Reply<'_, O>, found: &Found)
     ensures { TellsLines (telling O.Output reply.old reply.new) (AreLost found.now [] found.now.scan.reads.items) }
 {
@@ -96,7 +96,7 @@ fn tell_lost<O: Output>(reply: &mut Reply<'_, O>, found: &Found)
     }
 }
 
-// Tells of a read, if its case is lost.
+// Reports a read, if its case is lost.
 fn tell_if_lost<O: Output>(reply: &mut Reply<'_, O>, found: &Found, before: &[Read], read: &Read)
     ensures { TellsLines (telling O.Output reply.old reply.new) (IsLost found.now before.now (case_of read.now.entry)) }
 {
@@ -120,7 +120,7 @@ fn tell_fault<O: Output>(reply: &mut Reply<'_, O>, fault: Option<OpenFault>)
     }
 }
 
-// Tells why an opening is refused.
+// Reports why an opening is refused.
 fn tell_reason<O: Output>(reply: &mut Reply<'_, O>, fault: OpenFault)
     ensures { TellsText (telling O.Output reply.old reply.new) (fault_words fault) }
 {
@@ -161,7 +161,7 @@ fn words(mark: Mark) -> &'static [u8]
     }
 }
 
-// Tells what hinders a case that is lost, and which record deletes a case.
+// Reports why a case is lost, and which record deletes a case.
 fn tell_reason_of<O: Output>(reply: &mut Reply<'_, O>, mark: Mark)
     ensures { TellsText (telling O.Output reply.old reply.new) (mark_reason mark) }
 {
