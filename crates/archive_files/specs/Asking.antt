@@ -1,4 +1,4 @@
--- A question that is answered between two looks at its archive, and how it is told why it was not.
+-- A question that is answered between two looks at its archive, and the report if it was not.
 use Rattle.std.specs.Prelude.{◌≡◌, ℕ, Bool, List, [], Option, Some, Result, Ok, Err}
 use Rattle.inspector_cli.specs.declared.session.LifeFault.TheVariants as life
 use Rattle.inspector_cli.specs.declared.session.SessionFault.TheVariants.{WriteFailed}
@@ -22,7 +22,7 @@ use Rattle.archive_files.specs.declared.failures.Refusal.TheVariants.{File, Open
 use Rattle.archive_files.specs.Looking.{look_fault}
 use Rattle.archive_files.specs.Told.{ask_told}
 
--- A case that is gone is told as one that was never there. A reply that is held fails for want of memory alone.
+-- A case that is gone is reported as if it had never been there. A reply that is held fails only if there is no memory.
 abbrev pub unasked : AskFault → Refusal
 unasked (fault.Open f) = Open f
 unasked (fault.Archive f) = Call f
@@ -42,13 +42,13 @@ abbrev pub DeliversReply : Option (List ℕ) → Option (List ℕ) → ℕ → �
 DeliversReply taken taken' lost lost' text done r =
     (sent : Result (Unit {0}) StreamFault) × Writes taken taken' lost lost' text sent × (r ≡ delivered_told done sent)
 
--- The reply to a question that was answered goes to the output. Of one that was not nothing does, and it is told why.
+-- The reply to a question that was answered goes to the output. If the question was not answered, nothing goes there, and the reason is reported.
 abbrev pub DeliversAnswer : Option (List ℕ) → Option (List ℕ) → ℕ → ℕ → List ℕ → Result Bool AskFault → Result (Unit {0}) Failure → Type 0
 DeliversAnswer taken taken' lost lost' text (Ok done) r = DeliversReply taken taken' lost lost' text done r
 DeliversAnswer taken taken' lost lost' text (Err f) r = (r ≡ Err (Refused (unasked f))) × (taken' ≡ taken) × (lost' ≡ lost)
 
 -- A question is answered from a look at its archive on, into a text that is held until the answer is known to be right, and then
--- delivered. Where there was no look, that is told, and the output is not touched.
+-- delivered. If there was no look, that is reported, and the output is not touched.
 abbrev pub AsksLooked : {S : Type 0} (g : shared.Ghosts S) → disk.Ghosts (Unlocked S g) → Said → Option (List ℕ) → Option (List ℕ) → ℕ → ℕ → Result (Looked S g) Refusal → Result (Unit {0}) Failure → Type 0
 AsksLooked g U what taken taken' lost lost' (Ok looked) r =
     (text : List ℕ) × (count count' : ℕ) × (asked : Result Bool AskFault)

@@ -36,6 +36,6 @@ abbrev pub name_within : Option BuildFault → Option (List ℕ) → Bool → Li
 name_within (Some fault) id debug b = Err fault
 name_within None id debug b = name_behind (first_fault Exec b) id debug b
 
--- The name for a file's bytes: of its debug file, if it is one or is to be one, else of its executable. Or the first reason why there is none.
+-- The name for a file's bytes: of its debug file, if it is one or is to be one, else of its executable. Or the first reason why it has no name.
 unfoldable pub name_by_build : ℕ → Option ℕ → Option (List ℕ) → Bool → List ℕ → Result (List ℕ) BuildFault
 name_by_build limit stated id debug b = name_within (length_fault limit stated (length b)) id debug b

@@ -1,4 +1,4 @@
--- How it is told whether an archive is sound.
+-- The report of a check on whether an archive is sound.
 use Rattle.std.specs.Prelude.{◌≡◌, ◌/◌, ◌++◌, ℕ, Bool, List, [], Option, None, Some, Result, Ok, Err, codes, decimal}
 use Rattle.std.specs.Io.KnownBytes.{append_known}
 use Rattle.archive_checks.specs.Checking.{ChecksOnDisk}
@@ -27,20 +27,20 @@ check_told (Err (check.Open fault)) = Err (Refused (Open fault))
 check_told (Err (check.Archive fault)) = Err (Refused (Call fault))
 check_told (Err check.Output) = Err (Faulted WriteFailed)
 
--- The archive on the disk that was taken is checked, and the disk is handed on. Where none was, that is told, and the output is not
+-- The archive on the disk that was taken is checked, and the disk is handed on. If no disk was taken, that is reported, and the output is not
 -- touched.
 abbrev pub ChecksTaken : {D : Type 0} → disk.Ghosts D → Bool → Option (List ℕ) → Option (List ℕ) → ℕ → ℕ → Result D Refusal → Result (Unit {0}) Failure → Option D → Type 0
 ChecksTaken {D} g sees taken taken' lost lost' (Ok before) r left =
     (after : D) × (checked : Result (Unit {0}) CheckFault) × (left ≡ Some after) × ChecksOnDisk g sees taken taken' lost lost' before checked after × (r ≡ check_told checked)
 ChecksTaken g sees taken taken' lost lost' (Err refusal) r left = (r ≡ Err (Refused refusal)) × (left ≡ None) × (taken' ≡ taken) × (lost' ≡ lost)
 
--- The archive is checked under its lock, if that was had, and what is told is held meanwhile, for an output that had taken so much.
+-- The archive is checked under its lock, if it was possible to take it, and the report is held meanwhile, for an output that had taken so much.
 abbrev pub ChecksHeld : {D : Type 0} → disk.Ghosts D → Bool → Option (List ℕ) → Result (Unit {0}) Failure → Type 0
 ChecksHeld {D} g sees before r =
     (taken : Result D Refusal) × (after : Option (List ℕ)) × (lost lost' : ℕ) × (checked : Result (Unit {0}) Failure) × (left : Option D)
     × ChecksTaken g sees (append_known before []) after lost lost' taken checked left × EndsHeld checked r
 
--- How it is told whether an archive that was looked at is sound. Of one that can't be opened nothing is told here.
+-- The report on whether an archive that was looked at is sound. An archive that can't be opened has none here.
 abbrev pub looked_told : Result (Unit {0}) UnlockedCheckFault → Option (Result (Unit {0}) Failure)
 looked_told (Ok u) = Some (Ok u)
 looked_told (Err (stop.Open fault)) = None

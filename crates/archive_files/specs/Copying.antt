@@ -1,4 +1,4 @@
--- Archives that are copied onto new disks, and how that is told.
+-- Archives that are copied onto new disks, and the report.
 use Rattle.std.specs.Prelude.{◌≡◌, ℕ, ◌+◌, nat_lt, if◌then◌else◌, Option, None, Some, Result, Ok, Err}
 use Rattle.archive_care.specs.Copied.{CopyCall}
 use Rattle.archive_care.specs.declared.copying.CopyWish.{CopyWish}
@@ -29,12 +29,12 @@ abbrev pub copy_told : Result (Unit {0}) CopyFault → Result (Unit {0}) Refusal
 copy_told (Ok u) = Ok u
 copy_told (Err fault) = Err (copy_refusal fault)
 
--- An archive is copied onto a new disk, as a wish says, and how that is told.
+-- An archive is copied onto a new disk, as a wish says, and the outcome is reported.
 abbrev pub CopiesDisk : {D N : Type 0} → disk.Ghosts D → disk.Ghosts N → CopyWish → D → N → Result (Unit {0}) Refusal → D → N → Type 0
 CopiesDisk g h wanted from onto r from' onto' =
     (done : Result (Unit {0}) CopyFault) × CopyCall g h wanted from from' onto onto' done × (r ≡ copy_told done)
 
--- What is tried after a copy was refused so: halves of one block more, if the records of the cases leave no room in a half and no size of a
+-- The next try after a copy was refused: halves of one block more, if the records of the cases leave no room in a half and no size of a
 -- half is asked for.
 abbrev pub larger_wish : Option ℕ → CopyWish → Refusal → Option CopyWish
 larger_wish None wish (Call archive.JournalFull) =

@@ -4,6 +4,6 @@ use Rattle.std.specs.Io.KnownBytes.{append_known}
 use Rattle.script_streams.specs.declared.streams.Output as output
 use Rattle.archive_files.specs.declared.held.Held.{Held}
 
--- what the output below it has taken, and then what is held
+-- the bytes that the output below it has taken, and then those that are held
 abbrev pub taken_by : {O : Type 0} → output.Ghosts O → Held O → Option (List ℕ)
 taken_by o h = append_known (o.taken h.output.now) h.unsent

@@ -1,4 +1,4 @@
--- A session of lines that only look: what each line asks for, and how it is answered.
+-- A session of lines that only look: the request of each line, and its answer.
 use Rattle.std.specs.Prelude.{◌≡◌, ◌≢◌, ℕ, true, false, List, Option, Result, Ok, Err}
 use Rattle.disk_model.specs.declared.disk.Disk as disk
 use Rattle.inspector_cli.specs.declared.session.SessionFault.{SessionFault}
@@ -26,7 +26,7 @@ use Rattle.archive_files.specs.declared.look_session.LookLines.{LookLines}
 use Rattle.archive_files.specs.Asking.{AsksLooked}
 use Rattle.archive_files.specs.Telling.{refusal_words}
 
--- What a line asks for: a question only if it changes nothing. Any other line that has a reply is refused.
+-- The request of a line: a question only if it changes nothing. Any other line that has a reply is refused.
 abbrev pub IsTakenAs : Said → LookLine → Type 0
 IsTakenAs what line.End = ⊥
 IsTakenAs what line.Silence = what ≡ silence
@@ -39,7 +39,7 @@ abbrev pub read_fault : ReadStop → SessionFault
 read_fault ReadFailed = session.ReadFailed
 read_fault TooManyReads = session.TooManyReads
 
--- a line was read, and this is what it asks for
+-- a line was read, and this is its request
 abbrev pub TakesLine : Option (List ℕ) → Option (List ℕ) → LookLines → LookLines → LookLine → Type 0
 TakesLine before after old new taken =
     (ending : LineEnding) × GivesLine before after old.buffer new.buffer new.line (Ok ending)
@@ -56,12 +56,12 @@ abbrev pub heard : Result (Unit {0}) StreamFault → Result (Unit {0}) Failure
 heard (Ok u) = Ok tt
 heard (Err f) = Err (Faulted session.WriteFailed)
 
--- it is told that a line is refused
+-- the reply says that a line is refused
 abbrev pub Refuses : Option (List ℕ) → Option (List ℕ) → ℕ → ℕ → Refusal → Result (Unit {0}) Failure → Type 0
 Refuses taken taken' lost lost' why r =
     (sent : Result (Unit {0}) StreamFault) × IsDelivered taken lost taken' lost' (no_reply (refusal_words why)) sent × (r ≡ heard sent)
 
--- The session goes on after a question whose reply was written, also where that was refused. What has no reply yet gets one.
+-- The session goes on after a question whose reply was written, even if the question was refused. If a line has no reply yet, it gets one.
 abbrev pub RepliesTo : Option (List ℕ) → Option (List ℕ) → ℕ → ℕ → Result (Unit {0}) Failure → Result (Unit {0}) Failure → Type 0
 RepliesTo taken taken' lost lost' (Ok u) r = (r ≡ Ok tt) × (taken' ≡ taken) × (lost' ≡ lost)
 RepliesTo taken taken' lost lost' (Err Told) r = (r ≡ Ok tt) × (taken' ≡ taken) × (lost' ≡ lost)

@@ -1,4 +1,4 @@
--- How it is told that an archive could not be looked at, or that an image was not copied while others may change it.
+-- The report if an archive could not be looked at, or if an image was not copied while others may change it.
 use Rattle.std.specs.Prelude.{◌≡◌, ℕ, Bool, true, false, List, Option, Result, Ok, Err}
 use Rattle.disk_model.specs.declared.disk.Disk as disk
 use Rattle.disk_model.specs.declared.file_fault.FileFault.{FileFault}
@@ -29,14 +29,14 @@ look_fault look.Lock = file.Lock
 look_fault look.Read = file.Settle
 look_fault look.OutOfMemory = file.OutOfMemory
 
--- What is refused of an image goes to the errors, and not to the image.
+-- The refusal of an image goes to the errors, and not to the image.
 abbrev pub copy_told : CopyFault → Failure
 copy_told (copy.Open f) = Aside (Open f)
 copy_told (copy.Archive f) = Aside (Call f)
 copy_told copy.Disk = Aside (Call Disk)
 copy_told copy.Output = Faulted WriteFailed
 
--- A case that is gone is told as one that was never there.
+-- A case that is gone is reported as if it had never been there.
 abbrev pub unlocked_told : UnlockedFault → Failure
 unlocked_told (unlocked.Open f) = Aside (Open f)
 unlocked_told (unlocked.Archive f) = Aside (Call f)
@@ -57,7 +57,7 @@ abbrev pub copy_ended : Result (Unit {0}) UnlockedFault → Result (Unit {0}) Un
 copy_ended (Ok u) = Ok tt
 copy_ended (Err f) = Err (record { failure = unlocked_told f; is_front = was_there f })
 
--- The image of a case is copied from a look at its archive on. Where there was no look, that is told, and the output is not touched.
+-- The image of a case is copied from a look at its archive on. If there was no look, that is reported, and the output is not touched.
 abbrev pub CopiesLooked : {S : Type 0} (g : shared.Ghosts S) → disk.Ghosts (Unlocked S g) → ℕ → Option (List ℕ) → Option (List ℕ) → ℕ → ℕ → Result (Looked S g) Refusal → Result (Unit {0}) Unfinished → Type 0
 CopiesLooked g U seq taken taken' lost lost' (Ok looked) r = (copied : Result (Unit {0}) UnlockedFault) × CopiesUnlocked g U (shared_of looked) seq taken taken' lost lost' copied × (r ≡ copy_ended copied)
 CopiesLooked g U seq taken taken' lost lost' (Err refusal) r = (r ≡ Err (record { failure = Aside refusal; is_front = true })) × (taken' ≡ taken) × (lost' ≡ lost)
@@ -67,7 +67,7 @@ abbrev pub CopiesTaken : {S : Type 0} (g : shared.Ghosts S) → disk.Ghosts (Unl
 CopiesTaken {S} g U seq taken lost r =
     (looked : Result (Looked S g) Refusal) × (taken' : Option (List ℕ)) × (lost' : ℕ) × CopiesLooked g U seq taken taken' lost lost' looked r
 
--- how it is told that an image was copied, or why it was not
+-- the report that an image was copied, or why it was not
 abbrev pub extract_told : Result (Unit {0}) Unfinished → Result (Unit {0}) Failure
 extract_told (Ok u) = Ok u
 extract_told (Err unfinished) = Err unfinished.failure

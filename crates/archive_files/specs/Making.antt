@@ -18,7 +18,7 @@ abbrev pub IsFresh : {D : Type 0} → disk.Ghosts D → Shape → Bool → D →
 IsFresh g shape false after = Stands (g.seen after) (fresh shape A 1 1) × IsSettled g after
 IsFresh g shape true after = StandsFor (g.seen after) nothing_yet × ((c : List ℕ) → g.may_leave after c → StandsFor c nothing_yet)
 
--- Where it is told that an archive is made, there is one, if the disk is honest.
+-- If an archive is reported as made, there is one, if the disk is honest.
 abbrev pub MakesArchive : {D : Type 0} → disk.Ghosts D → Shape → Bool → D → Result (Unit {0}) Refusal → D → Type 0
 MakesArchive g shape keeps_labels before (Ok u) after = IsTrue (g.is_honest before) → IsFresh g shape keeps_labels after
 MakesArchive g shape keeps_labels before (Err refusal) after = Unit {0}
@@ -27,7 +27,7 @@ MakesArchive g shape keeps_labels before (Err refusal) after = Unit {0}
 abbrev pub HaveNoCase : List ℕ → Type 0
 HaveNoCase bytes = (x : Durable) × StandsFor bytes x × (x.cases ≡ [])
 
--- Where it is told that an archive is made, all that a stop may leave from then on opens as an archive with no case, if the disk is honest.
+-- If an archive is reported as made, all that a stop may leave from then on opens as an archive with no case, if the disk is honest.
 abbrev pub WhatIsMadeLasts : {D : Type 0} → disk.Ghosts D → Type 0
 WhatIsMadeLasts {D} g =
     (shape : Shape) (keeps_labels : Bool) (before after : D) → IsTrue (g.is_honest before) → MakesArchive g shape keeps_labels before (Ok tt) after → (c : List ℕ) → g.may_leave after c → HaveNoCase c

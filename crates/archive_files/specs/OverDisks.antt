@@ -1,4 +1,4 @@
--- What the program does over the archive on a disk, by the values that its words say.
+-- The work of the program over the archive on a disk, by the values of its words.
 use Rattle.std.specs.Prelude.{◌≡◌, ◌⊎◌, ◌&&◌, ◌||◌, nat_lt, nat_eq, not, is_none, if◌then◌else◌, ℕ, Bool, false, List, [], Option, None, Some, Result, Ok, Err, codes}
 use Rattle.std.specs.Io.KnownBytes.{Keeps, append_known}
 use Rattle.disk_model.specs.declared.disk.Disk as disk
@@ -23,16 +23,16 @@ use Rattle.archive_files.specs.declared.failures.Refusal.TheVariants.{OutOfMemor
 use Rattle.archive_files.specs.declared.storing.StoreRequest.{StoreRequest}
 use Rattle.archive_files.specs.Told.{EndsHeld, run_told, ask_told, store_told}
 
--- A session over the archive on a disk, and how its end is told.
+-- A session over the archive on a disk, and the report of its end.
 abbrev pub RunsOnDisk : {D : Type 0} → disk.Ghosts D → ℕ → Naming → Streams → D → Result (Unit {0}) Failure → D → Type 0
 RunsOnDisk g limit naming t before r after =
     (ended : Result (Unit {0}) LifeFault) × LifeEnds g limit t before ended after (RunsOver g naming t) × (r ≡ run_told ended)
 
--- Nothing is done for want of memory: the disk and the output are as they were.
+-- There is no memory, and nothing is done: the disk and the output are as they were.
 abbrev pub IsNotBegun : {D : Type 0} → Option (List ℕ) → Option (List ℕ) → ℕ → ℕ → D → Result (Unit {0}) Failure → D → Type 0
 IsNotBegun taken taken' lost lost' before r after = (r ≡ Err (Refused OutOfMemory)) × (after ≡ before) × (taken' ≡ taken) × (lost' ≡ lost)
 
--- A session's streams: an input that has this to give, where that is known, and has not failed, and an output.
+-- A session's streams: an input that has these bytes, if they are known, and has not failed, and an output.
 pub record AreStreams (file before after : Option (List ℕ)) (count count' : ℕ) (t : Streams) : Type 0 where
   pub input : Keeps file t.input
   pub fails : t.fails ≡ 0
@@ -68,7 +68,7 @@ unfoldable pub within_limit : Options → ℕ → Result StreamFacts (List ℕ) 
 within_limit options limit (Ok stream) = if is_none options.cut && is_over options.length limit then Err (codes "TooLong") else Ok stream
 within_limit options limit (Err reason) = Err reason
 
--- A stream is stored in the archive on a disk, as a request says, and how that is told.
+-- A stream is stored in the archive on a disk, as a request says, and the outcome is reported.
 abbrev pub StoresOnDisk : {D : Type 0} → disk.Ghosts D → StoreRequest → Streams → D → Result (Unit {0}) Failure → D → Type 0
 StoresOnDisk g request t before r after =
     (ended : Result StoreOutcome LifeFault)
@@ -80,7 +80,7 @@ abbrev pub reason_found : Result StreamFacts (List ℕ) → Option (List ℕ)
 reason_found (Ok stream) = None
 reason_found (Err reason) = Some reason
 
--- the name of the case as it prints, or what it is if it has none
+-- the name of the case as it prints, or its kind if it has no name
 abbrev pub name_found : Result StreamFacts (List ℕ) → List ℕ
 name_found (Ok stream) = shown stream.origin.name
 name_found (Err reason) = codes "a core"

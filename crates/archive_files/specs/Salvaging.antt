@@ -1,4 +1,4 @@
--- The cases of an archive whose opening is refused, copied onto a new disk, and how that is told.
+-- The cases of an archive whose opening is refused, copied onto a new disk, and the report.
 use Rattle.std.specs.Prelude.{◌≡◌, ◌⊎◌, ℕ, Bool, true, false, List, length, Option, None, Some, Result, Ok, Err, IsTrue}
 use Rattle.std.specs.Option.{unwrap_or}
 use Rattle.archive_care.specs.declared.copying.CopyWish.{CopyWish}
@@ -20,7 +20,7 @@ use Rattle.archive_files.specs.declared.failures.Failure.{Failure}
 use Rattle.archive_files.specs.declared.failures.Failure.TheVariants.{Refused, Faulted, Told}
 use Rattle.archive_files.specs.declared.failures.Refusal.{Refusal}
 
--- The cases that were found are copied onto a new disk, as a wish says, and how that is told.
+-- The cases that were found are copied onto a new disk, as a wish says, and the outcome is reported.
 abbrev pub SalvagesOnto : {S N : Type 0} → source.Ghosts S → disk.Ghosts N → S → Found → CopyWish → N → Result (Unit {0}) Refusal → N → Type 0
 SalvagesOnto g h s found wish onto r onto' =
     (done : Result (Unit {0}) CopyFault)
@@ -31,7 +31,7 @@ SalvagesOnto g h s found wish onto r onto' =
 abbrev pub IsSalvagedBy : {S N : Type 0} → source.Ghosts S → disk.Ghosts N → S → Found → CopyWish → Type 0
 IsSalvagedBy {N = N} g h s found wish = (onto onto' : N) × SalvagesOnto g h s found wish onto (Ok tt) onto'
 
--- What the new archive is to be: of the shape that was found, but for what is asked for; of version 1.
+-- The new archive has the shape that was found, except where the request says otherwise, and is of version 1.
 abbrev pub wish_for : Found → ShapeWish → CopyWish
 wish_for f asked = record {
   shape = record {
@@ -50,7 +50,7 @@ IsWishFor f asked wish =
 abbrev pub IsSalvaged : {S N : Type 0} → source.Ghosts S → disk.Ghosts N → S → Found → ShapeWish → Type 0
 IsSalvaged g h s found asked = (wish : CopyWish) × IsWishFor found asked wish × IsSalvagedBy g h s found wish
 
--- the first fault of what was found; none, if nothing was
+-- the first fault of the archive that was found, if one was found
 abbrev pub fault_of : Result Found OpenFault → Option OpenFault
 fault_of (Ok f) = first_fault f
 fault_of (Err fault) = None
@@ -60,8 +60,8 @@ abbrev pub IsFaultIn : {S : Type 0} → source.Ghosts S → S → Option OpenFau
 IsFaultIn g s fault =
     (found : Result Found OpenFault) × (IsTrue (g.is_honest s) → FindsCases (g.seen s) found) × (fault ≡ fault_of found)
 
--- The cases of an archive are found: in its bytes, or in these with what was mended of them. What was mended says of what length the file
--- is, and that it is the archive's without a doubt only if that is so.
+-- The cases of an archive are found: in its bytes, or in these with their mended parts. The mending gives the length of the file, and says that
+-- the shape is certainly the archive's only if that is so.
 abbrev pub IsFoundIn : List ℕ → Found → Type 0
 IsFoundIn b f =
     SeesCases b f
@@ -72,17 +72,17 @@ IsFoundIn b f =
 abbrev pub IsRefusedAside : {O : Type 0} → O → O → Result (Unit {0}) Failure → Type 0
 IsRefusedAside before after r = (refusal : Refusal) × (r ≡ Err (Refused refusal)) × (after ≡ before)
 
--- How it ends once the cases are told: well exactly if all is copied.
+-- The end after the report on the cases: it is good if and only if all is copied.
 abbrev pub IsEnd : Found → Bool → Result (Unit {0}) Failure → Type 0
 IsEnd f false r = r ≡ Err (Faulted WriteFailed)
 IsEnd f true r = (IsAll f × (r ≡ Ok tt)) ⊎ ((IsAll f → ⊥) × (r ≡ Err Told))
 
--- The cases that were found are told.
+-- The cases that were found are reported.
 abbrev pub TellsFound : {O : Type 0} → output.Ghosts O → Found → O → O → Result (Unit {0}) Failure → Type 0
 TellsFound g f before after r =
     (done : Bool) × TellsCases f (g.taken before) (g.taken after) (g.failures before) (g.failures after) done × IsEnd f done r
 
--- It is refused, or the cases that some source gives are told.
+-- The salvage is refused, or the cases of some source are reported.
 abbrev pub TellsSalvage : {O : Type 0} → output.Ghosts O → O → O → Result (Unit {0}) Failure → Type 0
 TellsSalvage g before after r = IsRefusedAside before after r ⊎ ((f : Found) × TellsFound g f before after r)
 

@@ -1,4 +1,4 @@
--- What the program tells of a failure: `no REASON` for what is refused, and `fault NAME` where a session ended before its script.
+-- The report of a failure: `no REASON` for a refusal, and `fault NAME` if a session ended before its script.
 use Rattle.std.specs.Prelude.{ℕ, Bool, true, false, List, [], ◌∷◌, ◌++◌, Option, Some, Result, codes, decimal}
 use Rattle.archive_replies.specs.Reasons.{reason_of}
 use Rattle.disk_model.specs.declared.file_fault.FileFault.{FileFault}
@@ -26,7 +26,7 @@ IsToldAs before after count count' text = (r : Result (Unit {0}) StreamFault) ×
 abbrev pub IsKeptAs : Option (List ℕ) → ℕ → List ℕ → Type 0
 IsKeptAs kept count text = (before : ℕ) × IsToldAs (Some []) kept before count text
 
--- why an archive could not be opened: a damaged one by the place and the name of its first faulty field
+-- why an archive could not be opened: a damaged one by the place and the name of its first bad field
 abbrev pub open_words : OpenFault → List ℕ
 open_words opening.Disk = codes "Disk"
 open_words opening.NotAnArchive = codes "NotAnArchive"
@@ -49,7 +49,7 @@ build_words (build.Headers fault) = elf_reason fault
 build_words build.NoBuildId = codes "NoBuildId"
 build_words build.OtherBuild = codes "OtherBuild"
 
--- what is refused
+-- the reason of a refusal
 abbrev pub refusal_words : Refusal → List ℕ
 refusal_words BadLine = codes "BadLine"
 refusal_words (NoLine usage) = codes "BadLine"
@@ -85,7 +85,7 @@ is_aside (Unwritten kind) = true
 is_aside Told = true
 is_aside (Stalled seconds) = true
 
--- what holds of a refusal that the output is told, if it is one
+-- a promise about the refusal that the output gets, if it is one
 abbrev pub IfRefused : Failure → (Refusal → Type 0) → Type 0
 IfRefused (Refused refusal) P = P refusal
 IfRefused _ P = Unit {0}

@@ -1,4 +1,4 @@
--- How the end of what is done over a disk is told.
+-- The report of the end of a piece of work over a disk.
 use Rattle.std.specs.Prelude.{◌≡◌, ◌⊎◌, Bool, true, false, ◌&&◌, Result, Ok, Err, is_some, if◌then◌else◌}
 use Rattle.inspector_cli.specs.declared.session.LifeFault.{LifeFault}
 use Rattle.inspector_cli.specs.declared.session.LifeFault.TheVariants as life
@@ -10,7 +10,7 @@ use Rattle.archive_files.specs.declared.failures.Failure.{Failure}
 use Rattle.archive_files.specs.declared.failures.Failure.TheVariants.{Refused, Faulted, Told}
 use Rattle.archive_files.specs.declared.failures.Refusal.TheVariants.{Open}
 
--- how a fault of an opening, or of a session, is told
+-- the report of a fault of an opening, or of a session
 abbrev pub life_failure : LifeFault → Failure
 life_failure (life.Open f) = Refused (Open f)
 life_failure (life.Session f) = Faulted f
@@ -25,12 +25,12 @@ ask_told (Ok true) = Ok tt
 ask_told (Ok false) = Err Told
 ask_told (Err f) = Err (life_failure f)
 
--- what is told of a store: it is done where the case is stored, and neither its policy nor its label nor its pin was refused
+-- the report of a store: it is done if the case is stored, and neither its policy nor its label nor its pin was refused
 abbrev pub store_told : Result StoreOutcome LifeFault → Result (Unit {0}) Failure
 store_told (Ok outcome) = if outcome.retired_first && is_some outcome.stored && (outcome.labelled && outcome.pinned) then Ok tt else Err Told
 store_told (Err f) = Err (life_failure f)
 
--- what is done to an archive by a line that only looks, and by any other
+-- the access to an archive for a line that only looks, and for any other
 abbrev pub access_by : Bool → Access
 access_by looks = if looks then Looking else Changing
 

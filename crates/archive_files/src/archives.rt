@@ -30,7 +30,7 @@ use whole_files::{
     NameFault, NewFile, PartFile, clear, give_name, is_named, is_same, make, remove,
 };
 
-/// What is done to an archive: what only looks needs no right to write its file, and shares its lock.
+/// The access to an archive. A command that only looks needs no right to write the file, and shares its lock.
 #[derive(Clone, Copy, Debug, PartialEq, Eq)]
 pub enum Access {
     Looking,
@@ -40,7 +40,7 @@ pub enum Access {
 // How often a file is opened anew that is no longer the one of its path.
 pub(crate) const MOST_TRIES: u32 = 1_000_000;
 
-/// What a command does while another process has the archive's lock, as an onlooker is told it.
+/// The name of the wait while another process has the archive's lock, for an onlooker.
 pub const WAITING: &str = "waits for the archive's lock";
 
 // How often a lock is asked for before it is waited for, and the milliseconds between.
@@ -56,7 +56,7 @@ const MOST_HALF_BLOCKS: u32 = 4096;
 // The bytes of one write of zeros.
 const ZEROS: usize = 65_536;
 
-/// What is asked of a new archive.
+/// A request for a new archive.
 #[derive(Clone, Copy)]
 pub struct NewArchive {
     pub shape: Shape,
@@ -100,7 +100,7 @@ fn make_whole<'a, R: Files<File = File>, W: Onlooker>(
     named.map_err(|fault| name_refusal(FileWord::NewArchive, fault))
 }
 
-// Makes durable what a disk has written in a new file, if that was done. Else the file is removed.
+// Makes the bytes durable that a disk has written in a new file, if that went well. Else the file is removed.
 pub(crate) fn settle_made<'a, R: Files<File = File>>(
     file: &mut PartFile<'a, R>,
     disk: &mut FileDisk,
@@ -124,7 +124,7 @@ pub(crate) fn settle_made<'a, R: Files<File = File>>(
     }
 }
 
-// What is refused of the file that a word names, if it has not got its name for good.
+// The refusal of the file that a word names, if it has not got its name for good.
 pub(crate) fn name_refusal(word: FileWord, fault: NameFault) -> Refusal {
     match fault {
         NameFault::Unnamed(fault) => Refusal::File(word, fault),
@@ -218,15 +218,15 @@ fn write_zeros<W: Onlooker>(file: &File, length: u64, onlooker: &mut W) -> Resul
     Ok(())
 }
 
-/// Tells an onlooker of the last call on the disk's file that failed, if one has.
+/// Reports to an onlooker the last call on the disk's file that failed, if one has.
 pub fn tell_trouble<W: Onlooker>(disk: &FileDisk, onlooker: &mut W) {
     if let Some(trouble) = disk.trouble() {
         onlooker.fail(trouble);
     }
 }
 
-/// Takes the disk of an archive in a file. This alone waits: for the file's lock, as long as another process has it, or, of
-/// what only looks, as long as another changes the archive. An onlooker is told that it waits.
+/// Takes the disk of an archive in a file. This alone waits: for the file's lock, as long as another process has it, or, for a command that
+/// only looks, as long as another changes the archive. An onlooker hears that it waits.
 pub fn take_disk<R: AllocGlobal + Files<File = File> + Clock, W: Onlooker>(
     rt: &R,
     place: ArchivePath<'_>,
@@ -250,10 +250,12 @@ fn disk_of<R: AllocGlobal + Files<File = File> + Clock, W: Onlooker>(
     }
 }
 
-// The disk of an archive in a file that is open for reading and writing, and has its lock alone. It has the gates written again that an
-// earlier process may have failed to write: reads don't tell. If the system tells of a lost write, another program may have written any
-// byte, as one that restored the file: then the superblock and all of the journal are written again. What is built on them is as durable as
-// they are.
+// The disk of an archive in a file that is open for reading and writing, and that has its lock alone. It has the gates written again that
+// an
+// earlier process may have failed to write: reads don't show that. If the system reports a lost write, another program may have written any
+// byte, as one that restored the file: then the superblock and all of the journal are written again. All that is built on them is as
+// durable
+// as they are.
 pub(crate) fn disk_to_change(alloc: Global, file: OpenFile) -> Result<FileDisk, FileFault>
     requires alone { ⟦<OpenFile as HeldFile>⟧.facts file ≡ locked_if true Alone just_opened }
 {
@@ -289,7 +291,7 @@ fn settle_gates<D: Disk>(alloc: Global, disk: &mut D) -> Result<(), FileFault>
     }
 }
 
-// How many bytes the superblock and the journal take. 0 where there is no archive.
+// How many bytes the superblock and the journal take. 0 if there is no archive.
 fn front_of<D: Disk>(disk: &mut D) -> Result<u64, FileFault>
     ensures quiet { OnlyReads D.Disk disk.old disk.new }
     ensures most { IfOk result (λ n. n ≤ 4096 * (1 + 2 * 4096)) }
@@ -311,8 +313,8 @@ fn front_of<D: Disk>(disk: &mut D) -> Result<u64, FileFault>
     Ok(BLOCK * (1 + 2 * u64::from(half_blocks.min(MOST_HALF_BLOCKS))))
 }
 
-// Opens the file and takes its lock. Opening a pipe could wait for ever, so what is no regular file is refused before. While
-// it waited, another file may have been put in its place: then it begins again.
+// Opens the file and takes its lock. Opening a pipe could wait for ever, so anything but a regular file is refused before. While
+// it waited, another file may have taken its place: then it begins again.
 pub(crate) fn take_file<R: Files<File = File> + Clock, W: Onlooker>(
     rt: &R,
     place: ArchivePath<'_>,
@@ -332,7 +334,7 @@ pub(crate) fn take_file<R: Files<File = File> + Clock, W: Onlooker>(
     Err(FileFault::Busy)
 }
 
-// Takes the lock of a file. If another process has it, it is asked for again for a second, so that whoever looks on is told of the wait, and
+// Takes the lock of a file. If another process has it, it is asked for again for a second, so that an onlooker hears of the wait, and
 // then it is waited for.
 fn take_lock<R: Clock, W: Onlooker>(
     rt: &R,
@@ -385,8 +387,8 @@ pub(crate) fn look_at_file<R: Files<File = File>>(rt: &R, path: &str) -> Result<
     }
 }
 
-/// Whether one of the words of a command over an archive names the file that standard output goes to. What the program tells
-/// would be written over it.
+/// Whether one of the words of a command over an archive names the file that standard output goes to. The program's output
+/// would overwrite it.
 pub fn names_output<R: Files<File = File>>(rt: &R, words: &[String]) -> bool {
     let Some((command, others)) = words.split_first() else {
         return false;
@@ -437,7 +439,7 @@ pub(crate) fn open_file<R: Files<File = File>>(
     Ok(options.open(rt, path)?)
 }
 
-// How the lock is taken of what is done to an archive.
+// How the lock is taken for an access to an archive.
 fn hold_of(access: Access) -> Hold
     ensures { result ≡ hold_of access }
 {

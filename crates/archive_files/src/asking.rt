@@ -15,8 +15,8 @@ use shared_disk::{Looked, SharedDisk, Unlocked};
 use std::alloc::Global;
 use unlocked_reading::{AskFault, ask_unlocked};
 
-/// Answers a question that only looks, from a look at its archive on, or tells why there was none. The reply is held until all cases
-/// that it may tell of are found again. So none of it is written if one of them was deleted meanwhile: that is refused as `NoCase`.
+/// Answers a question that only looks, from a look at its archive on, or reports why there was no look. The reply is held until all cases
+/// that it may be about are found again. So none of it is written if one of them was deleted meanwhile: that is refused as `NoCase`.
 /// It is refused as `OutOfMemory` if there is no memory to hold its reply.
 pub fn ask_looked<S: SharedDisk + Drop, O: Output>(
     alloc: Global,
@@ -37,7 +37,7 @@ pub fn ask_looked<S: SharedDisk + Drop, O: Output>(
     }
 }
 
-// Writes a reply that was held, and tells how its question ended.
+// Writes a reply that was held, and reports how its question ended.
 fn deliver<O: Output>(text: &[u8], is_done: bool, output: &mut O) -> Result<(), Failure>
     ensures { DeliversReply (O.taken output.old) (O.taken output.new) (O.failures output.old) (O.failures output.new) text.now is_done result }
 {
@@ -47,7 +47,7 @@ fn deliver<O: Output>(text: &[u8], is_done: bool, output: &mut O) -> Result<(), 
     }
 }
 
-/// How it is told why a question was not answered. Its reply fails for want of memory alone.
+/// The report on a question that was not answered. Its reply fails only if there is no memory.
 pub fn unasked(fault: AskFault) -> Refusal
     ensures { result ≡ unasked fault }
 {

@@ -41,7 +41,7 @@ pub enum BuildFault {
     OtherBuild,
 }
 
-/// What is stored under the name of its build, and how.
+/// A request to store a file under the name of its build.
 #[derive(Drop)]
 pub struct BuildRequest {
     /// The build ID that it has to have, if one is stated.
@@ -50,7 +50,7 @@ pub struct BuildRequest {
     pub is_debug: bool,
     /// By which cases are retired first, if that is asked for.
     pub policy: Option<Policy>,
-    /// What is asked for besides. The length is the one that is stated.
+    /// The other options. The length is the one that is stated.
     pub options: StoreOptions,
     /// How cores are named.
     pub naming: Naming,
@@ -118,7 +118,7 @@ impl BuildRequest {
     }
 }
 
-// What is wrong with a file of this size.
+// The fault of a file of this size.
 fn length_fault(limit: u64, stated: Option<u64>, size: u64) -> Option<BuildFault>
     ensures { result ≡ spec.length_fault limit stated size }
 {
@@ -174,7 +174,7 @@ fn bytes_of<I: Read>(alloc: Global, input: &mut I, limit: u64) -> Result<Vec<u8>
     }
 }
 
-/// Tells what is wrong with an archive, or else why a file that was to be stored in it is refused. The archive's disk is handed on, if it was
+/// Reports the fault of an archive, or else why a file that was to be stored in it is refused. The archive's disk is handed on, if it was
 /// taken.
 pub fn refuse_file<R: AllocGlobal + Files<File = File> + Clock, W: Onlooker>(
     rt: &R,

@@ -26,10 +26,12 @@ use std::rt::Files;
 use std::time::Clock;
 use unlocked_reading::{UnlockedCheckFault, check_unlocked};
 
-/// Tells what the archive in a file holds and that it is sound, or where it is damaged. With `sees_images` each image is read too. It takes
-/// no lock: a case that is deleted meanwhile is told as one that is not there. Only an archive that can't be opened is looked at under its
-/// lock, which is shared with others that only look. An archive that opens, but with a damaged gate that may hide records, is not sound; that
-/// is looked at if nobody changes the archive.
+/// Prints the contents of the archive in a file and that it is sound, or where it is damaged. With `sees_images` each image is read too. It
+/// takes
+/// no lock: a case that is deleted meanwhile is reported as missing. Only an archive that can't be opened is looked at under its
+/// lock, which is shared with others that only look. An archive that opens, but with a damaged gate that may hide records, is not sound;
+/// the
+/// gates are looked at if nobody changes the archive.
 pub fn check<R: AllocGlobal + Files<File = File> + Clock, O: Output, W: Onlooker>(
     rt: &R,
     place: ArchivePath<'_>,
@@ -51,7 +53,8 @@ pub fn check<R: AllocGlobal + Files<File = File> + Clock, O: Output, W: Onlooker
     checked
 }
 
-// Tells what the archive holds that was looked at, and that it is sound. Answers how that ended; nothing if the archive can't be opened.
+// Prints the contents of the archive that was looked at, and that it is sound. Returns how that ended; nothing if the archive can't be
+// opened.
 fn check_looked<S: SharedDisk + Drop, O: Output>(
     alloc: Global,
     looked: Looked<S>,
@@ -74,7 +77,7 @@ fn check_looked<S: SharedDisk + Drop, O: Output>(
     }
 }
 
-// The same of an archive whose lock is shared, which tells where it is damaged.
+// The same for an archive whose lock is shared. It says where the archive is damaged.
 fn check_locked<R: AllocGlobal + Files<File = File> + Clock, O: Output, W: Onlooker>(
     rt: &R,
     place: ArchivePath<'_>,
@@ -96,7 +99,7 @@ fn check_locked<R: AllocGlobal + Files<File = File> + Clock, O: Output, W: Onloo
     }
 }
 
-// Tells where the gate is that may hide records.
+// Prints the place of the gate that may hide records.
 fn tell_hidden<O: Output>(fault: OpenFault, output: &mut O) -> Failure
     ensures failure { result ≡ Refused (Open fault) }
     ensures told { IsToldAs (O.taken output.old) (O.taken output.new) (O.failures output.old) (O.failures output.new) (hidden_line fault) }
@@ -117,8 +120,8 @@ fn tell_gate<O: Output>(reply: &mut Reply<'_, O>, fault: OpenFault)
     }
 }
 
-// Tells what the archive on the disk that was taken holds and that it is sound, or where it is damaged, and hands the disk on; or tells
-// why no disk was taken.
+// Prints the contents of the archive on the disk that was taken and that it is sound, or where it is damaged, and hands the disk on; or
+// reports why no disk was taken.
 fn check_taken<D: Disk, O: Output>(
     alloc: Global,
     taken: Result<D, Refusal>,
@@ -136,7 +139,7 @@ fn check_taken<D: Disk, O: Output>(
     }
 }
 
-// How it is told whether an archive is sound.
+// The report of a check on whether an archive is sound.
 fn check_told(checked: Result<(), CheckFault>) -> Result<(), Failure>
     ensures { result ≡ check_told checked }
 {

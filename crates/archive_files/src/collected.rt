@@ -5,7 +5,7 @@ use diagnostics::after_failure;
 use script_streams::{Output, StreamFault};
 use std::alloc::Global;
 
-/// An output that keeps what it takes, as far as there is memory.
+/// An output that keeps the bytes that it takes, as far as there is memory.
 #[derive(Drop)]
 pub struct Collected {
     text: Vec<u8>,
@@ -22,7 +22,7 @@ impl Collected {
         }
     }
 
-    /// What it has taken.
+    /// The bytes that it has taken.
     pub fn text(&self) -> &[u8]
         ensures { ⟦<Collected as Output>⟧.taken self.now ≡ Some result.now }
     {

@@ -32,7 +32,7 @@ use std::time::Clock;
 use unlocked_reading::{Places, Reads, find_cases, stay};
 use whole_files::{NewFile, PartFile, clear, clear_part, folder_of, give_name, remove, take_place};
 
-/// What is asked of a copy of an archive.
+/// A request for a copy of an archive.
 #[derive(Clone, Copy)]
 pub struct CopyWords {
     /// The blocks of each half of its journal, if not as many as the archive has.
@@ -54,8 +54,8 @@ const OTHERS_RIGHTS: u32 = 0o077;
 const MOST_COPIES: u32 = 3;
 
 /// Copies the archive in a file into a new file, which has its name only once it is whole and durable: until then it is called
-/// NEW.part. It takes no lock, so others may change the archive meanwhile: the copy is what the archive had at its begin. If a case is
-/// gone by its end, it is made anew. The last time the archive's lock is shared with others that only look, so that no case goes.
+/// NEW.part. It takes no lock, so others may change the archive meanwhile: the copy is the archive as it was at the beginning. If a case is
+/// gone by the end, the copy is made anew. The last time the archive's lock is shared with others that only look, so that no case goes.
 pub fn copy_archive_file<R: AllocGlobal + Files<File = File> + Clock, W: Onlooker>(
     rt: &R,
     place: ArchivePath<'_>,
@@ -114,9 +114,11 @@ fn copy_named<'a, R: Files<File = File>, S: SharedDisk + Drop, W: Onlooker>(
     }
 }
 
-/// Copies the archive in a file into a file in the same folder, which takes its place once it is whole and durable. The archive's lock is held
-/// alone meanwhile: whoever waits for it finds the new file. The new file has the owner of the old one, and what rights that owner has. A link
-/// stays, and what it names is resized.
+/// Copies the archive in a file into a file in the same folder, which takes its place once it is whole and durable. The archive's lock is
+/// held
+/// alone meanwhile: whoever waits for it finds the new file. The new file has the owner of the old one, and the rights that this owner has.
+/// A link
+/// stays, and the file that it names is resized.
 pub fn resize_archive_file<R: AllocGlobal + Files<File = File> + Clock, W: Onlooker>(
     rt: &R,
     place: ArchivePath<'_>,
@@ -175,8 +177,8 @@ fn refused(fault: FileFault) -> Refusal {
     Refusal::File(FileWord::Archive, fault)
 }
 
-// Refuses an archive on which its group or others have a right, unless that may be dropped. The system's call that tells the rights tells
-// no access control list: where there is one, the group's bits are all that it may grant.
+// Refuses an archive on which its group or others have a right, unless that may be dropped. The system's call that gives the rights gives
+// no access control list: if there is one, the group's bits are all that it may grant.
 fn refuse_rights(file: &File, drops_rights: bool) -> Result<(), Refusal> {
     let about = file.metadata().map_err(|_| refused(FileFault::Length))?;
     if about.mode() & OTHERS_RIGHTS == 0 || drops_rights {
@@ -268,7 +270,7 @@ fn copy_counted<D: Disk, W: Onlooker>(
     (copied, from, onto)
 }
 
-// What is wished for, of an archive of this shape.
+// The wish for a copy of an archive of this shape.
 fn wish_of(wanted: CopyWords, shape: Shape) -> CopyWish {
     CopyWish {
         shape: Shape {

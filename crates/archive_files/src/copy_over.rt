@@ -29,7 +29,7 @@ pub fn copy_disk<D: Disk, N: Disk>(
     }
 }
 
-/// How it is told why an archive was not copied.
+/// The report on an archive that was not copied.
 pub(crate) fn copy_refusal(fault: CopyFault) -> Refusal
     ensures { result ≡ copy_refusal fault }
 {
@@ -44,7 +44,7 @@ pub(crate) fn copy_refusal(fault: CopyFault) -> Refusal
     }
 }
 
-/// What is tried after a copy was refused so: halves of one block more, if the records of the cases and the gate after them leave no room and
+/// The next try after a copy was refused: halves of one block more, if the records of the cases and the gate after them leave no room and
 /// no size of a half is asked for.
 pub(crate) fn larger_wish(
     half_asked: Option<u32>,

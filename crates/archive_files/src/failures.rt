@@ -26,7 +26,7 @@ use std::io;
 pub enum Failure {
     /// It was refused.
     Refused(Refusal),
-    /// It was refused, and the output is that of an image, so this is told apart from it.
+    /// It was refused, and the output is that of an image, so the refusal does not go there.
     Aside(Refusal),
     /// The session ended before its script.
     Faulted(SessionFault),
@@ -59,7 +59,7 @@ pub enum FileWord {
 }
 
 impl FileWord {
-    // What people are told of it as.
+    // Its name in messages for people.
     pub(crate) fn shown(self) -> &'static str {
         match self {
             FileWord::Archive | FileWord::NewArchive => "ARCHIVE",
@@ -96,7 +96,7 @@ pub enum WordPart {
     Other,
 }
 
-/// What a line `no REASON` tells.
+/// The reason in a line `no REASON`.
 #[derive(Clone, Copy, Debug, PartialEq, Eq)]
 pub enum Refusal {
     /// The words contradict one another.
@@ -228,7 +228,7 @@ pub fn tell_failure<O: Output, E: Output>(
     }
 }
 
-// Tells people that standard input gave nothing for so many seconds.
+// Reports to people that standard input gave nothing for so many seconds.
 fn tell_stalled<E: Output>(seconds: u64, errors: &mut E) -> u8
     ensures status { result ≡ 1 }
     ensures told { IsToldAs (E.taken errors.old) (E.taken errors.new) (E.failures errors.old) (E.failures errors.new) (stalled_line seconds) }
@@ -241,7 +241,7 @@ fn tell_stalled<E: Output>(seconds: u64, errors: &mut E) -> u8
     1
 }
 
-/// Tells that standard input gave nothing for so many seconds.
+/// The message that standard input gave nothing for so many seconds.
 pub fn tell_stall<O: Output>(reply: &mut Reply<'_, O>, seconds: u64)
     ensures { TellsText (telling O.Output reply.old reply.new) (stall_words seconds) }
 {
@@ -250,7 +250,7 @@ pub fn tell_stall<O: Output>(reply: &mut Reply<'_, O>, seconds: u64)
     reply.tell(b" seconds");
 }
 
-/// Tells people why this file could not be written, where the file system has no room for it; of other reasons nothing is told.
+/// The message for people why this file could not be written, if the file system has no room for it; there is none for other reasons.
 pub fn tell_unwritten<E: Output>(file: &[u8], kind: io::ErrorKind, errors: &mut E) {
     let why: &[u8] = match kind {
         io::ErrorKind::StorageFull => b"the file system is full",
@@ -267,7 +267,7 @@ pub fn tell_unwritten<E: Output>(file: &[u8], kind: io::ErrorKind, errors: &mut 
     let _ = reply.finish();
 }
 
-// Tells people what a reason for scripts leaves open.
+// The message for people that explains a reason for scripts.
 fn tell_in_words<E: Output>(alloc: Global, refusal: Refusal, errors: &mut E) {
     let text = match refusal {
         Refusal::File(word, fault) => file_text(alloc, word, fault),
@@ -301,7 +301,7 @@ fn file_text(alloc: Global, word: FileWord, fault: FileFault) -> Result<String, 
     format!(in alloc; "corekeep: {name}: {fault}\n")
 }
 
-// What is told of a file that is there, where what came after failed.
+// The message about a file that is there, if a later step failed.
 fn named_text(alloc: Global, name: &str, number: Option<i32>) -> Result<String, AllocError> {
     let why = match number {
         Some(number) => io::Error::from_raw_os_error(number),
@@ -328,7 +328,7 @@ fn danger_text(alloc: Global, word: FileWord, danger: Danger) -> Result<String, 
     }
 }
 
-// Tells what is refused.
+// Prints the refusal.
 fn tell_refusal<O: Output>(refusal: Refusal, output: &mut O) -> u8
     ensures status { result ≡ 1 }
     ensures told { IsToldAs (O.taken output.old) (O.taken output.new) (O.failures output.old) (O.failures output.new) (no_reply (refusal_words refusal)) }
@@ -337,7 +337,7 @@ fn tell_refusal<O: Output>(refusal: Refusal, output: &mut O) -> u8
     1
 }
 
-// Writes the line that says what is refused.
+// Writes the line with the refusal.
 pub(crate) fn write_refusal<O: Output>(refusal: Refusal, output: &mut O) -> Result<(), StreamFault>
     ensures { IsDelivered (O.taken output.old) (O.failures output.old) (O.taken output.new) (O.failures output.new) (no_reply (refusal_words refusal)) result }
 {
@@ -359,7 +359,7 @@ pub fn reason_of(alloc: Global, refusal: Refusal) -> Collected
     words
 }
 
-// Tells the reason of a refusal.
+// Prints the reason of a refusal.
 fn tell_reason<O: Output>(reply: &mut Reply<'_, O>, refusal: Refusal)
     ensures { TellsText (telling O.Output reply.old reply.new) (refusal_words refusal) }
 {
@@ -381,7 +381,7 @@ fn tell_reason<O: Output>(reply: &mut Reply<'_, O>, refusal: Refusal)
     }
 }
 
-// Tells why a file can't be stored under the name of its build.
+// Prints why a file can't be stored under the name of its build.
 fn tell_build_fault<O: Output>(reply: &mut Reply<'_, O>, fault: BuildFault)
     ensures { TellsText (telling O.Output reply.old reply.new) (build_words fault) }
 {
@@ -394,7 +394,7 @@ fn tell_build_fault<O: Output>(reply: &mut Reply<'_, O>, fault: BuildFault)
     }
 }
 
-// Tells which field of the headers is at fault.
+// Prints which field of the headers has the fault.
 fn tell_header_fault<O: Output>(reply: &mut Reply<'_, O>, fault: ElfFault)
     ensures { TellsText (telling O.Output reply.old reply.new) (elf_reason fault) }
 {
@@ -417,7 +417,7 @@ fn file_reason(fault: FileFault) -> &'static [u8]
     }
 }
 
-// Tells why an archive could not be opened.
+// Prints why an archive could not be opened.
 fn tell_open_fault<O: Output>(reply: &mut Reply<'_, O>, fault: OpenFault)
     ensures { TellsText (telling O.Output reply.old reply.new) (open_words fault) }
 {
@@ -438,7 +438,7 @@ fn tell_open_fault<O: Output>(reply: &mut Reply<'_, O>, fault: OpenFault)
     }
 }
 
-// Tells why a session ended before its script.
+// Prints why a session ended before its script.
 fn tell_fault<E: Output>(fault: SessionFault, errors: &mut E) -> u8
     ensures status { result ≡ 1 }
     ensures told { IsToldAs (E.taken errors.old) (E.taken errors.new) (E.failures errors.old) (E.failures errors.new) (fault_line fault) }

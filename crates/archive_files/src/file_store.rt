@@ -20,7 +20,7 @@ use std::rt::Files;
 use std::time::Clock;
 
 /// Stores a file, or the standard input, and hands the archive's disk on, if it was taken. The file is opened before the archive's
-/// lock is taken, so that a pipe that nobody writes to keeps no other process waiting; yet what is wrong with the archive is told
+/// lock is taken, so that a pipe that nobody writes to keeps no other process waiting; yet a fault of the archive is reported
 /// first.
 pub fn store_file<R: AllocGlobal + Files<File = File> + Clock, I: Read, O: Output, W: Onlooker>(
     rt: &R,
@@ -61,7 +61,7 @@ pub fn store_file<R: AllocGlobal + Files<File = File> + Clock, I: Read, O: Outpu
     }
 }
 
-// Stores what a reader gives, of which this may be the length, and hands the archive's disk on, if that was taken.
+// Stores the bytes of a reader, of which this may be the length, and hands the archive's disk on, if that was taken.
 fn store_counted<I: Read, O: Output, W: Onlooker>(
     alloc: Global,
     taken: Result<FileDisk, Refusal>,
@@ -83,7 +83,7 @@ fn store_counted<I: Read, O: Output, W: Onlooker>(
     (ended, disk)
 }
 
-/// Stores what a reader gives in the archive on a disk, if that was taken, and hands the disk on; or tells why it was not.
+/// Stores the bytes of a reader in the archive on a disk, if that was taken, and hands the disk on; or reports why it was not.
 pub fn store_taken<D: Disk, I: Read, O: Output>(
     alloc: Global,
     taken: Result<D, Refusal>,
@@ -102,7 +102,7 @@ pub fn store_taken<D: Disk, I: Read, O: Output>(
     }
 }
 
-/// Tells what is wrong with the archive on a disk that was taken, or why it was not; or else why the file is refused.
+/// Reports the fault of the archive on a disk that was taken, or why it was not taken; or else why the file is refused.
 pub fn refuse_taken<D: Disk>(
     alloc: Global,
     taken: Result<D, Refusal>,
@@ -130,7 +130,7 @@ fn refused_after(looked: Result<(), Refusal>, refusal: Refusal) -> Result<(), Fa
     }
 }
 
-// The length of what is a file with an end.
+// The length of a file with an end.
 fn length_of(file: &File) -> Option<u64> {
     match file.metadata() {
         Ok(attributes) if attributes.is_file() => Some(attributes.len()),
@@ -138,7 +138,7 @@ fn length_of(file: &File) -> Option<u64> {
     }
 }
 
-// How many bytes an archive's data may take, if a disk was taken and its superblock tells.
+// How many bytes an archive's data may take, if a disk was taken and its superblock has that.
 fn room_in<D: Disk>(taken: &mut Result<D, Refusal>) -> Option<u64>
     ensures quiet { OnlyReadsTaken D.Disk taken.old taken.new }
 {

@@ -10,11 +10,10 @@ use std::fs::File;
 use std::os::unix::fs::MetadataExt;
 use std::rt::Files;
 
-// Where Linux tells what is mounted (proc_pid_mountinfo(5)).
+// The file in which Linux lists the mounts (proc_pid_mountinfo(5)).
 const MOUNTS: &str = "/proc/self/mountinfo";
 
-/// Notes what is to be known of the file system that a file lies on: its kind, and what it does not give. Nothing is noted if the system
-/// does not tell what is mounted.
+/// Notes the kind of the file system that a file lies on, and its limits. Nothing is noted if the system does not list the mounts.
 pub fn note_file_system<R: AllocGlobal + Files<File = File>>(
     rt: &R,
     path: &str,
@@ -31,7 +30,7 @@ pub fn note_file_system<R: AllocGlobal + Files<File = File>>(
     let _ = reply.finish();
 }
 
-// The kind of the file system that a file lies on, by what is mounted.
+// The kind of the file system that a file lies on, by the list of mounts.
 fn kind_under<'a, R: AllocGlobal + Files<File = File>>(
     rt: &R,
     mounts: &'a [u8],
@@ -43,7 +42,7 @@ fn kind_under<'a, R: AllocGlobal + Files<File = File>>(
     kind_of(mounts, device.as_bytes(), whole.as_str().as_bytes())
 }
 
-// Tells a kind of file system, and what is to be known of it, if anything is.
+// Prints a kind of file system, and its limits, if it has any.
 fn tell_kind<O: Output>(reply: &mut Reply<'_, O>, kind: &[u8])
     ensures { TellsText (telling O.Output reply.old reply.new) (kind_words kind.now) }
 {

@@ -25,7 +25,7 @@ pub fn shared_among<'a, R: Files<File = File>>(rt: &R, folder: Path<'a>) -> Opti
     None
 }
 
-// Who runs the program, if the system tells.
+// Who runs the program, if the system has that.
 fn own_user<R: Files<File = File>>(rt: &R) -> Option<u32> {
     match fs::metadata(rt, "/proc/self") {
         Ok(about) => Some(about.uid()),
@@ -44,7 +44,7 @@ fn is_shared<R: Files<File = File>>(rt: &R, folder: Path<'_>, own: Option<u32>) 
     !is_owned || is_open
 }
 
-/// A folder that others may write, on the path of a file or of what a link under it names, if there is one.
+/// A folder that others may write, on the path of a file or of the target of a link there, if there is one.
 pub fn shared_folder<R: AllocGlobal + Files<File = File>>(rt: &R, path: &str) -> Option<String> {
     if let Ok(folder) = fs::canonicalize(rt, folder_of(path)) {
         if let Some(shared) = shared_among(rt, folder.as_path()) {

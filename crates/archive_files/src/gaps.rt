@@ -1,4 +1,4 @@
-// What tells that the taken half of an archive's journal may be the wrong one.
+// A sign that the taken half of an archive's journal may be the wrong one.
 use crate::archive_path::ArchivePath;
 use crate::archives::{Access, take_disk};
 use crate::collected::Collected;
@@ -11,12 +11,12 @@ use std::fs::File;
 use std::rt::Files;
 use std::time::Clock;
 
-// What is noted if another process has the archive's lock.
+// The note if another process has the archive's lock.
 const UNSEEN: &[u8] =
     b"another process is changing it, so no check was made for a damaged gate that hides cases, or for the wrong half of the journal";
 
-/// Notes what the two halves of an archive's journal say of one another, if no writing leaves them so. An archive that can't be opened is
-/// left to whoever tells why. The file's lock is shared meanwhile with others that only look. If another process has it, that is noted
+/// Notes if the two halves of an archive's journal differ in a way that no writing leaves. An archive that can't be opened is
+/// left to whoever reports why. The file's lock is shared meanwhile with others that only look. If another process has it, that is noted
 /// instead: nobody waits for it.
 pub fn note_gap<R: AllocGlobal + Files<File = File> + Clock>(
     rt: &R,
@@ -43,7 +43,7 @@ pub fn note_gap<R: AllocGlobal + Files<File = File> + Clock>(
     }
 }
 
-// Tells which archive a note is about.
+// Prints which archive a note is about.
 fn tell_subject<O: Output>(reply: &mut Reply<'_, O>, path: &str) {
     reply.tell_text(path.as_bytes());
     reply.tell(b": ");

@@ -50,14 +50,15 @@ impl<'a, O: Output> Held<'a, O> {
         }
     }
 
-    /// What is held.
+    /// The bytes that are held.
     pub fn text(&self) -> &[u8]
         ensures { result.now ≡ self.now.unsent }
     {
         self.unsent.bytes()
     }
 
-    /// Writes what is held: then the output below this one has all that this one took. Where a write failed, it has a front of it.
+    /// Writes the bytes that are held: then the output below this one has all that this one took. If a write failed, it has a front of
+    /// them.
     pub fn finish(&mut self) -> Result<(), StreamFault>
         ensures kept { Keeps (taken_by O.Output self.old) (taken_by O.Output self.new) }
         ensures delivered { OnOk result (Keeps (taken_by O.Output self.old) (O.taken self.new.output.now)) }
@@ -67,7 +68,7 @@ impl<'a, O: Output> Held<'a, O> {
         self.let_go()
     }
 
-    // Writes what is held, and holds it no longer.
+    // Writes the bytes that are held, and holds them no longer.
     fn let_go(&mut self) -> Result<(), StreamFault>
         ensures kept { Keeps (taken_by O.Output self.old) (taken_by O.Output self.new) }
         ensures none { OnOk result (self.new.unsent ≡ []) }
@@ -99,7 +100,7 @@ impl<'a, O: Output> Held<'a, O> {
         }
     }
 
-    // Passes some of these bytes on, after what is held. Says how many were taken.
+    // Passes some of these bytes on, after those that are held. Returns how many were taken.
     fn pass_on(&mut self, from: &[u8]) -> Result<usize, StreamFault>
         requires some { 0 < length from.now }
         ensures count { IfOk result (λ n. (0 < n) × (n ≤ length from.now)) }

@@ -1,4 +1,4 @@
-//! What commands do over the file of an archive: it is made, opened, locked, asked and stored in, and each failure is told.
+//! The work of commands over the file of an archive: it is made, opened, locked, asked and stored in, and each failure is reported.
 #![tactic(auto)]
 
 mod archive_path;

@@ -19,9 +19,10 @@ use std::alloc::Global;
 use std::fs::File;
 use std::rt::Files;
 
-/// Answers each line of a script that only looks as `ask` does, from a look of its own on, with executables chosen by build or by path. Any other line is refused as `BadLine`, and
-/// no bytes follow a line. What is refused is the line's reply, and the session goes on. Each reply is written before the next line is
-/// read. What is wrong with the archive at the start is told in place of any reply.
+/// Answers each line of a script that only looks as `ask` does, from a look of its own on, with executables chosen by build or by path. Any
+/// other line is refused as `BadLine`, and no bytes follow a line. A refusal is the line's reply, and the session goes on. Each reply is
+/// written
+/// before the next line is read. A fault of the archive at the start is reported instead of any reply.
 pub fn look<R: AllocGlobal + Files<File = File>, I: Input, O: Output>(
     rt: &R,
     place: ArchivePath<'_>,
@@ -47,7 +48,7 @@ pub fn look<R: AllocGlobal + Files<File = File>, I: Input, O: Output>(
     Ok(())
 }
 
-// What is next in such a session.
+// The next step of such a session.
 #[derive(Drop)]
 pub(crate) enum LookLine {
     // Nothing: its lines have ended.
@@ -101,7 +102,7 @@ impl LookLines {
     }
 }
 
-// What a line asks for.
+// The request of a line.
 fn line_taken(line: &KeptLine) -> LookLine
     requires { (text : List ℕ) × KeepsLine text line.now }
     ensures { (text : List ℕ) → KeepsLine text line.now → IsTakenAs (said text) result }
@@ -143,7 +144,7 @@ fn read_fault(stop: ReadStop) -> SessionFault
     }
 }
 
-// Answers a line that only looks, from a look at its archive on. What is refused is its reply.
+// Answers a line that only looks, from a look at its archive on. A refusal is its reply.
 fn answer_look<S: SharedDisk + Drop, O: Output>(
     alloc: Global,
     looked: Result<Looked<S>, Refusal>,
@@ -172,7 +173,7 @@ fn go_on<O: Output>(failure: Failure, output: &mut O) -> Result<(), Failure>
     }
 }
 
-// Tells that a line is refused.
+// Prints that a line is refused.
 fn refuse<O: Output>(refusal: Refusal, output: &mut O) -> Result<(), Failure>
     ensures { Refuses (O.taken output.old) (O.taken output.new) (O.failures output.old) (O.failures output.new) refusal result }
 {

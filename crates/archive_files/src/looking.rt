@@ -53,7 +53,7 @@ pub(crate) fn look_fault(fault: LookFault) -> FileFault
     }
 }
 
-/// How it is told why an image was not copied.
+/// The report on an image that was not copied.
 pub fn unlocked_told(fault: UnlockedFault) -> Failure
     ensures { result ≡ unlocked_told fault }
 {
@@ -69,7 +69,7 @@ pub fn unlocked_told(fault: UnlockedFault) -> Failure
     }
 }
 
-// How the end of an image's copy is told.
+// The report of the end of an image's copy.
 fn copy_told(fault: CopyFault) -> Failure
     ensures { result ≡ copy_told fault }
 {
@@ -81,7 +81,8 @@ fn copy_told(fault: CopyFault) -> Failure
     }
 }
 
-/// Whether a case is known to have been there all the time that it was read, by how its copy ended. If not, what was written may be
+/// Whether a case is known to have been there all the time that it was read, by how its copy ended. If not, the bytes that were written may
+/// be
 /// no front of its image.
 pub(crate) fn was_there(fault: &UnlockedFault) -> bool
     ensures { result ≡ was_there fault.now }

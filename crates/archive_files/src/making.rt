@@ -12,7 +12,7 @@ use intake::{Archive, Settings, a_state_tells_what_lasts};
 use journal_layout::{Half, Shape};
 use std::alloc::Global;
 
-/// An archive that is told as made is there: whatever a stop leaves from then on opens as an archive with no case, on an honest disk.
+/// An archive that is reported as made is there: whatever a stop leaves from then on opens as an archive with no case, on an honest disk.
 pub fn what_is_made_lasts<D: Disk>()
     ensures { WhatIsMadeLasts D.Disk }
 {}

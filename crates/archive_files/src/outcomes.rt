@@ -1,11 +1,11 @@
-// How the end of what is done over the archive on a disk is told.
+// The report of the end of a piece of work over the archive on a disk.
 ghost use Rattle.std.specs.Prelude.{◌≡◌};
 ghost use Rattle.archive_files.specs.Told.{life_failure, run_told, ask_told, store_told};
 
 use crate::failures::{Failure, Refusal};
 use inspector_cli::{LifeFault, StoreOutcome};
 
-/// How the end of a session is told.
+/// The report of the end of a session.
 pub fn run_told(ended: Result<(), LifeFault>) -> Result<(), Failure>
     ensures { result ≡ run_told ended }
 {
@@ -15,7 +15,7 @@ pub fn run_told(ended: Result<(), LifeFault>) -> Result<(), Failure>
     }
 }
 
-/// How the end of a question is told: its reply has said why it is refused.
+/// The report of the end of a question: its reply has said why it is refused.
 pub fn ask_told(asked: Result<bool, LifeFault>) -> Result<(), Failure>
     ensures { result ≡ ask_told asked }
 {
@@ -26,7 +26,7 @@ pub fn ask_told(asked: Result<bool, LifeFault>) -> Result<(), Failure>
     }
 }
 
-/// How a fault of an opening, or of a session, is told.
+/// The report of a fault of an opening, or of a session.
 pub fn life_failure(fault: LifeFault) -> Failure
     ensures { result ≡ life_failure fault }
 {
@@ -36,7 +36,7 @@ pub fn life_failure(fault: LifeFault) -> Failure
     }
 }
 
-/// How the end of a store is told: it is done where the case is stored, and neither its policy nor its label nor its pin was refused.
+/// The report of the end of a store: it is done if the case is stored, and neither its policy nor its label nor its pin was refused.
 pub fn store_told(ended: Result<StoreOutcome, LifeFault>) -> Result<(), Failure>
     ensures { result ≡ store_told ended }
 {

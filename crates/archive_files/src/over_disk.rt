@@ -71,7 +71,7 @@ pub struct Unfinished {
     pub is_front: bool,
 }
 
-/// Copies the image of a case to an output, from a look at its archive on, while others may change the archive; or tells why there
+/// Copies the image of a case to an output, from a look at its archive on, while others may change the archive; or reports why there
 /// was no look.
 pub fn copy_over<S: SharedDisk + Drop, O: Output>(
     alloc: Global,
@@ -103,7 +103,7 @@ fn stopped_by(fault: UnlockedFault) -> Unfinished
     }
 }
 
-/// Opens the archive on a disk for the sake of what is wrong with it, and hands the disk back.
+/// Opens the archive on a disk to find its fault, and hands the disk back.
 pub fn look_over<D: Disk>(alloc: Global, disk: D, limit: u64) -> (Result<(), Refusal>, D)
     ensures { LooksOnDisk D.Disk limit disk result.0 result.1 }
 {

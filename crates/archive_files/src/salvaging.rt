@@ -68,19 +68,20 @@ impl<F: HeldFile> Source for ReadFile<F> {
     }
 }
 
-/// The file that is made, and what is known of the archive's shape.
+/// The file that is made, and the known facts of the archive's shape.
 #[derive(Clone, Copy)]
 pub struct Salvaged<'a> {
     /// The path of the new file.
     pub path: &'a str,
-    /// The shape, if the archive doesn't tell it. The new one has it too.
+    /// The shape, if the archive doesn't have it. The new one has it too.
     pub wish: ShapeWish,
 }
 
-/// Copies the cases of the archive in a file into a new file, as far as its records can be read, and tells the first fault and of each
+/// Copies the cases of the archive in a file into a new file, as far as its records can be read, and reports the first fault and for each
 /// case whether it is whole. The archive's file is opened for reading, and its lock is shared meanwhile with others that only look. The
 /// new file has its name only once it is whole and durable: until then it is called NEW.part. If the superblock is damaged, the header of
-/// a half or the length of the file, a shape is found for it (see `find_shape`). Answers `Told` if all that is done and a case is lost, or the
+/// a half or the length of the file, a shape is found for it (see `find_shape`). Returns `Told` if all that is done and a case is lost, or
+/// the
 /// version of a half is unknown.
 pub fn salvage<R: AllocGlobal + Files<File = File> + Clock, O: Output, W: Onlooker>(
     rt: &R,
@@ -136,7 +137,7 @@ fn salvage_mended<R: AllocGlobal + Files<File = File>, S: Source, O: Output, W: 
     }
 }
 
-// Copies the cases that were found, and tells of them.
+// Copies the cases that were found, and reports them.
 fn salvage_found<R: AllocGlobal + Files<File = File>, S: Source, O: Output, W: Onlooker>(
     rt: &R,
     source: &S,
@@ -157,7 +158,7 @@ fn salvage_found<R: AllocGlobal + Files<File = File>, S: Source, O: Output, W: O
     }
 }
 
-// Tells of the cases that were copied, once the new file is whole.
+// Reports the copied cases, once the new file is whole.
 fn tell_found<'a, R: Files<File = File>, O: Output>(
     file: &PartFile<'a, R>,
     found: &Found,

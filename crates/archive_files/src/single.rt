@@ -49,7 +49,7 @@ pub fn extract<R: AllocGlobal + Files<File = File>, O: Output, W: Onlooker>(
     }
 }
 
-// What is written is known to be the image once the case is found again: the status says so.
+// The bytes that are written are known to be the image once the case is found again: the status says so.
 fn extract_to<R: AllocGlobal + Files<File = File>, O: Output, W: Onlooker>(
     rt: &R,
     place: ArchivePath<'_>,
@@ -83,8 +83,8 @@ fn copy_counted<R: AllocGlobal + Files<File = File>, O: Output, W: Onlooker>(
     copied
 }
 
-// FILE has its name only once it is whole and synced, and the case was found again. Until then it is called FILE.part. What was
-// written stays there, whatever failed after it. If nothing was written, or the case is not known to have been there all the time,
+// FILE has its name only once it is whole and synced, and the case was found again. Until then it is called FILE.part. The bytes that were
+// written stay there, whatever failed later. If nothing was written, or the case is not known to have been there all the time,
 // it is removed.
 fn extract_to_file<'a, R: AllocGlobal + Files<File = File>, W: Onlooker>(
     rt: &R,
@@ -121,7 +121,7 @@ fn refused_file(fault: FileFault) -> Failure {
     Failure::Aside(Refusal::File(FileWord::NewFile, fault))
 }
 
-// What failed, with the reason where it is that of a write.
+// The failure, with the reason if it is that of a write.
 fn told_why(failure: Failure, why: Option<ErrorKind>) -> Failure {
     match (failure, why) {
         (Failure::Faulted(SessionFault::WriteFailed), Some(kind)) => Failure::Unwritten(kind),

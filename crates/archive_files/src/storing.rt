@@ -24,32 +24,32 @@ use std::io::{BufRead, BufReader, Read};
 // How many bytes `store` asks for at a time.
 const AHEAD: usize = 65_536;
 
-/// What a file is stored as.
+/// The kind of case as which a file is stored.
 #[derive(Drop)]
 pub struct StoreWords {
-    /// By which cases are retired first, where that is asked for.
+    /// The order in which cases are retired first, if that is asked for.
     pub policy: Option<Policy>,
     /// The line of a script that begins the stream.
     pub begin: Vec<u8>,
-    /// What is asked for besides.
+    /// The other options.
     pub options: StoreOptions,
 }
 
-/// What is stored, and with what. Whoever holds it may leave the policy out, and change nothing else.
+/// A stream to store, with its options. Whoever holds it may leave the policy out, and change nothing else.
 #[derive(Drop)]
 pub struct StoreRequest {
     // By which cases are retired first, if there is one.
     policy: Option<Policy>,
     // The stream, or why there is none.
     found: Result<NewStream, &'static [u8]>,
-    // What is asked for besides.
+    // The other options.
     options: StoreOptions,
     // The most bytes of an image.
     limit: u64,
 }
 
 impl StoreRequest {
-    /// What the words say.
+    /// The values of the words.
     pub fn of(words: StoreWords, naming: &Naming, limit: u64) -> Self
         ensures policy { result.policy ≡ words.policy }
         ensures found { stream_found result.found ≡ line_stream naming.now (said words.begin.items) }
@@ -86,7 +86,7 @@ impl StoreRequest {
         }
     }
 
-    /// The name of the case as it prints, or what it is if it has none.
+    /// The name of the case as it prints, or its kind if it has no name.
     pub fn printed_name(&self, alloc: Global) -> Collected
         ensures { IsKeptAs (⟦<Collected as Output>⟧.taken result) (⟦<Collected as Output>⟧.failures result) (name_found (stream_found self.now.found)) }
     {
@@ -226,7 +226,7 @@ fn within_limit(
     }
 }
 
-// Tells the name that was found, or what has none.
+// Prints the name that was found, or the kind that has none.
 fn tell_name<O: Output>(reply: &mut Reply<'_, O>, found: &Result<NewStream, &'static [u8]>)
     ensures { TellsText (telling O.Output reply.old reply.new) (name_found (stream_found found.now)) }
 {
@@ -236,8 +236,8 @@ fn tell_name<O: Output>(reply: &mut Reply<'_, O>, found: &Result<NewStream, &'st
     }
 }
 
-/// Opens the archive on a disk, stores what a reader gives, and hands the disk back. The reader is read ahead: the archive takes
-/// its blocks one by one, and one call of the operating system gives many of them. Where cases are to be retired, the first bytes
+/// Opens the archive on a disk, stores the bytes of a reader, and hands the disk back. The reader is read ahead: the archive takes
+/// its blocks one by one, and one call of the operating system gives many of them. If cases are to be retired, the first bytes
 /// are read before the archive is changed.
 pub fn store_from<D: Disk, I: Read, O: Output>(
     alloc: Global,
