@@ -1,4 +1,4 @@
--- What the names of one program's cores begin with.
+-- The front that the names of one program's cores share.
 use Rattle.std.specs.Prelude.{ℕ, Bool, false, ◌==◌, ◌||◌, List, [], ◌∷◌, Option, None, Some, Result, Ok, Err, if◌then◌else◌}
 use Rattle.std.specs.List.{flat_map}
 use Rattle.intake.specs.State.{StreamFacts}
@@ -33,7 +33,7 @@ shared_parts (part ∷ parts) = if is_of_one_core part then [] else part ∷ sha
 unfoldable pub shared_front : List ℕ → List ℕ
 shared_front template = flat_map spelling (shared_parts (parts_of template))
 
--- the name of a stream; no byte, if there is none
+-- the name of a stream; no byte, if it has none
 abbrev pub name_or_none : Result StreamFacts (List ℕ) → List ℕ
 name_or_none (Ok stream) = stream.origin.name
 name_or_none (Err reason) = []
@@ -42,7 +42,7 @@ abbrev pub front_unless : Option TemplateFault → List ℕ → Said → List �
 front_unless None front what = name_or_none (line_stream (named_by front false) what)
 front_unless (Some fault) front what = []
 
--- What the names of the program's cores begin with: the name that the front of the template gives for the stream that a line begins. No
--- byte, if it gives none: then all names begin so.
+-- The front that the names of the program's cores share: the name that the front of the template gives for the stream that a line begins. It
+-- has no byte if the template gives none: then all names begin so.
 abbrev pub program_front : List ℕ → Said → List ℕ
 program_front template what = front_unless (template_fault (shared_front template)) (shared_front template) what

@@ -1,4 +1,4 @@
--- What the kernel's handler asks for, by its configuration and by the words that the kernel gives it.
+-- The request of the kernel's handler, by its configuration and by the words that the kernel gives it.
 use Rattle.std.specs.Prelude.{◌≡◌, ℕ, ◌-◌, ◌/◌, ◌^◌, Bool, true, false, ◌&&◌, nat_lt, List, Option, None, Some, Result, Ok, Err, codes, if◌then◌else◌}
 use Rattle.std.specs.Duration.{as_nanos}
 use Rattle.std.specs.Option.{option_copied, unwrap_or}
@@ -21,12 +21,12 @@ use Rattle.stream_names.specs.Commands.{stream_found}
 use Rattle.core_handler.specs.Fronts.{named_by, program_front}
 use Rattle.core_handler.specs.declared.handling.HandleWords.{HandleWords}
 
--- what a clock gave, in whole seconds since 1970
+-- the time of a clock, in whole seconds since 1970
 abbrev pub IsTimeRead : {E : Type 0} → Result Duration E → Option ℕ → Type 0
 IsTimeRead (Ok time) now = now ≡ Some (as_nanos time / 1_000_000_000)
 IsTimeRead (Err fault) now = now ≡ None
 
--- The time that a configuration with this age goes by: one that the clock gave. With no age it goes by none.
+-- The time for a configuration with this age: the clock's. With no age there is none.
 abbrev pub IsTime : {E : Type 0} → (Result Duration E → Type 0) → Option ℕ → Option ℕ → Type 0
 IsTime gives None now = now ≡ None
 IsTime {E} gives (Some age) now = (read : Result Duration E) × gives read × IsTimeRead read now
@@ -82,7 +82,7 @@ naming_template config what =
     let template = template_of (option_copied config.template) in
     template_if_found (line_stream (named_by template config.uses_pid) what) template
 
--- What is asked for besides the policy and the limit. No case is pinned.
+-- The options besides the policy and the limit. No case is pinned.
 abbrev pub options_of : Config → List ℕ → Option ℕ → List ℕ → Option (ArrayVec ℕ) → StoreOptions
 options_of config begin length template label = record {
   label = label;
@@ -94,12 +94,12 @@ options_of config begin length template label = record {
   burst = burst_of config.burst (program_front template (said begin));
 }
 
--- What is asked for of the core that a line begins, if it is named by this template: by the length that is stated, by the time, if it is
--- known, and by the label, if one is taken.
+-- The request for the core that a line begins, if it is named by this template: with the length that is stated, the time, if it is
+-- known, and the label, if it is taken.
 pub record Asks (config : Config) (begin : List ℕ) (length : Option ℕ) (template : List ℕ) (now : Option ℕ) (label : Option (ArrayVec ℕ)) (request : StoreRequest) : Type 0 where
   -- the cases that go first
   pub policy : request.policy ≡ policy_of config now
-  -- the stream that the line begins, or why there is none
+  -- the stream that the line begins, or why it begins none
   pub found : stream_found request.found ≡ line_stream (named_by template config.uses_pid) (said begin)
   pub options : request.options ≡ options_of config begin length template label
   pub limit : request.limit ≡ limit_of config
@@ -109,7 +109,7 @@ abbrev pub AsksBy : {E : Type 0} → (Result Duration E → Type 0) → Config �
 AsksBy gives config begin length template request =
     (now : Option ℕ) × (label : Option (ArrayVec ℕ)) × (option_copied config.label ≡ None → label ≡ None) × Asks config begin length template now label request × IsTime gives config.before now
 
--- What the handler asks for.
+-- The request of the handler.
 abbrev pub IsRequested : {E : Type 0} → (Result Duration E → Type 0) → Config → List ℕ → Option ℕ → StoreRequest → Type 0
 IsRequested gives config begin length request = AsksBy gives config begin length (naming_template config (said begin)) request
 
@@ -118,7 +118,7 @@ abbrev pub is_limited : Config → Option ℕ → Bool
 is_limited config None = false
 is_limited config (Some bytes) = config.obeys_limit && nat_lt bytes 4096
 
--- What is stored of a core with these words: nothing exactly if it is lost for that limit, and else what the handler asks for.
+-- The request for a core with these words: no request if and only if the core is lost for that limit, and else that of the handler.
 abbrev pub IsWanted : {E : Type 0} → (Result Duration E → Type 0) → Config → HandleWords → Option StoreRequest → Type 0
 IsWanted gives config words None = is_limited config words.core_limit ≡ true
 IsWanted gives config words (Some request) = (is_limited config words.core_limit ≡ false) × IsRequested gives config words.begin.items words.length request

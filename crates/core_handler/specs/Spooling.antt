@@ -1,4 +1,4 @@
--- What of a core is taken into the spool, and where it is then.
+-- The bytes of a core that are taken into the spool, and the place of the core then.
 use Rattle.std.specs.Prelude.{ℕ, Bool, true, false, Result, Ok, Err}
 use Rattle.std.specs.Option.{unwrap_or}
 use Rattle.handler_config.specs.declared.config.Config.{Config}

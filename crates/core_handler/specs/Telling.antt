@@ -1,4 +1,4 @@
--- Where a handler tells outcomes, by its configuration and its words.
+-- The log of a handler, by its configuration and its words.
 use Rattle.std.specs.Prelude.{◌≡◌, ℕ, ◌==◌, List, [], ◌∷◌, ◌++◌, length, Option, Some, None, codes, if◌then◌else◌}
 use Rattle.std.specs.Option.{unwrap_or}
 use Rattle.script_words.specs.Printing.{shown}
@@ -33,7 +33,7 @@ unstored_words (Kept folder) name = place_words (codes "kept ") name folder.now
 abbrev pub meant_words : List ℕ → List ℕ
 meant_words words = if length words == 0 then [] else codes ": " ++ words
 
--- for which reason it is not stored, and what that means
+-- the reason why it is not stored, and its meaning
 unfoldable pub why_words : List ℕ → List ℕ → List ℕ
 why_words reason words = codes ": no " ++ (reason ++ meant_words words)
 
@@ -48,11 +48,11 @@ number_words number name = codes "stored " ++ (number ++ (codes " " ++ name))
 unfoldable pub archive_words : List ℕ → List ℕ → List ℕ
 archive_words details archive = details ++ (codes " in " ++ shown archive)
 
--- The line about a core that is stored. What is before that tells that it was cut, and what is after it of other cases.
+-- The line about a core that is stored. The text before says that it was cut, and the text after is about other cases.
 unfoldable pub stored_words : List ℕ → List ℕ → List ℕ → List ℕ → List ℕ → Option ℕ → List ℕ → List ℕ
 stored_words kept number name details archive mode more = kept ++ (number_words number name ++ (archive_words details archive ++ (mode_words mode ++ more)))
 
--- The line about one that is not. What is after it tells of cases.
+-- The line about a core that is not stored. The text after it is about other cases.
 unfoldable pub lost_words : Place → List ℕ → List ℕ → List ℕ → Option ℕ → List ℕ → List ℕ
 lost_words place name reason words mode more = unstored_words place name ++ (why_words reason words ++ (mode_words mode ++ more))
 

@@ -13,9 +13,9 @@ use whole_files::{NewFile, PartFile, remove};
 #[derive(Drop)]
 pub(crate) struct Berth<'a, R: Files<File = File>> {
     pub(crate) file: PartFile<'a, R>,
-    // The same file, open once more, so that what it has can be read.
+    // The same file, open once more, so that its bytes can be read.
     pub(crate) back: File,
-    // What was read of the core and is not in the file.
+    // The bytes of the core that were read and are not in the file.
     pub(crate) piece: Piece,
 }
 

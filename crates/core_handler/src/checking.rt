@@ -26,8 +26,8 @@ use whole_files::{PartFile, remove};
 // The bytes of a block.
 const BLOCK: u128 = 4096;
 
-// Tells what is wrong with the file as a whole, what holds, a line for each key, and then each fault. Last it says whether the archive can
-// keep what is asked. What is not in order is a refusal.
+// Prints the fault of the file as a whole, the values that hold, a line for each key, and then each fault. The last lines say whether the
+// archive has room for all that the configuration keeps. Anything that is not in order is a refusal.
 pub(crate) fn check<R: AllocGlobal + Files<File = File> + Clock, O: Output>(
     rt: &R,
     words: &HandleWords<'_>,
@@ -60,7 +60,7 @@ pub(crate) fn check<R: AllocGlobal + Files<File = File> + Clock, O: Output>(
     }
 }
 
-// Tells what is wrong with the file as a whole: then no line of it holds. Says whether anything is.
+// Prints the fault of the file as a whole: then no line of it holds. Returns whether there is one.
 fn tell_unread<R: AllocGlobal, O: Output>(
     rt: &R,
     reply: &mut Reply<'_, O>,
@@ -140,7 +140,8 @@ fn tell_flag_line<O: Output>(reply: &mut Reply<'_, O>, key: &[u8], flag: bool) {
     reply.tell(if flag { b"true\n" } else { b"false\n" });
 }
 
-// Tells of a path that the kernel's handler finds in another folder than the one who asks, and of one that others may give to another file.
+// Prints a note on a path that the kernel's handler finds in another folder than the one who asks, and on one that others may give to
+// another file.
 fn tell_path<R: AllocGlobal + Files<File = File>, O: Output>(
     rt: &R,
     reply: &mut Reply<'_, O>,
@@ -165,7 +166,7 @@ fn tell_path<R: AllocGlobal + Files<File = File>, O: Output>(
     }
 }
 
-// Tells what is to be known of the file system that the archive lies on.
+// Prints the notes on the file system that the archive lies on.
 fn tell_file_system<R: AllocGlobal + Files<File = File>, O: Output>(
     rt: &R,
     reply: &mut Reply<'_, O>,
@@ -185,7 +186,7 @@ fn tell_file_system<R: AllocGlobal + Files<File = File>, O: Output>(
     reply.tell(b"\n");
 }
 
-// Tells if `fair` does nothing, or if names have no user.
+// Prints a note if `fair` does nothing, or if names have no user.
 fn tell_fair<O: Output>(reply: &mut Reply<'_, O>, config: &Config<'_>) {
     if !config.fair {
         return;
@@ -209,7 +210,7 @@ fn tell_note<O: Output>(reply: &mut Reply<'_, O>, key: &[u8], path: &str) {
     reply.tell(b": ");
 }
 
-// Tells each fault. Says whether there is none.
+// Prints each fault. Returns whether there is none.
 fn tell_faults<R: AllocGlobal, O: Output>(
     rt: &R,
     reply: &mut Reply<'_, O>,
@@ -238,7 +239,7 @@ fn tell_faults<R: AllocGlobal, O: Output>(
     faults.is_empty() && words.left_out.is_empty() && words.faulty_length.is_none()
 }
 
-// Tells which values would be left out when a core comes, though they are of the right kind. Says whether there is none.
+// Prints the values that would be left out when a core comes, though they are of the right kind. Returns whether there is none.
 fn tell_values<R: AllocGlobal + Files<File = File>, O: Output>(
     rt: &R,
     reply: &mut Reply<'_, O>,
@@ -262,7 +263,7 @@ fn tell_values<R: AllocGlobal + Files<File = File>, O: Output>(
     is_template && is_label && is_log && is_spool
 }
 
-// Tells if no core can go to the spool, or others may enter it. Says whether neither is so.
+// Prints a fault if no core can go to the spool, or if others may enter it. Returns whether there is none.
 fn tell_spool<R: AllocGlobal + Files<File = File>, O: Output>(
     rt: &R,
     reply: &mut Reply<'_, O>,
@@ -281,7 +282,7 @@ fn tell_spool<R: AllocGlobal + Files<File = File>, O: Output>(
     false
 }
 
-// Why a folder is no spool, in words, if it is none.
+// Why a folder can't be a spool, in words. Nothing if it can.
 fn spool_trouble<R: AllocGlobal + Files<File = File>>(
     rt: &R,
     folder: &str,
@@ -314,7 +315,7 @@ fn takes_files<R: AllocGlobal + Files<File = File>>(rt: &R, folder: &str) -> boo
     true
 }
 
-// Tells if a log takes no line. Says whether it does. It is made if it is not there, as with the first line.
+// Prints a fault if a log takes no line. Returns whether it takes one. A missing log is made, as with the first line.
 fn tell_log<R: Files<File = File>, O: Output>(
     rt: &R,
     reply: &mut Reply<'_, O>,
@@ -336,7 +337,7 @@ fn tell_log<R: Files<File = File>, O: Output>(
     false
 }
 
-// Tells whether the archive can keep what is asked. Says whether it can.
+// Prints whether the archive has room for all that the configuration keeps. Returns whether it has.
 fn tell_size<R: AllocGlobal + Files<File = File> + Clock, O: Output>(
     rt: &R,
     reply: &mut Reply<'_, O>,
@@ -363,7 +364,7 @@ fn tell_size<R: AllocGlobal + Files<File = File> + Clock, O: Output>(
     }
 }
 
-// Tells the fault of a gate that may hide records of an archive that opens. Says whether there is one.
+// Prints the fault of a gate that may hide records of an archive that opens. Returns whether there is one.
 fn tell_hidden<R: AllocGlobal + Files<File = File> + Clock, O: Output>(
     rt: &R,
     reply: &mut Reply<'_, O>,
@@ -376,7 +377,7 @@ fn tell_hidden<R: AllocGlobal + Files<File = File> + Clock, O: Output>(
     true
 }
 
-// Tells whether the archive on a disk is large enough, and whether it opens. Says whether both hold.
+// Prints whether the archive on a disk is large enough, and whether it opens. Returns whether both hold.
 fn tell_archive<D: Disk + Drop, O: Output>(
     alloc: Global,
     reply: &mut Reply<'_, O>,
@@ -398,7 +399,7 @@ fn tell_archive<D: Disk + Drop, O: Output>(
     }
 }
 
-// Tells that the archive is at fault, and why.
+// Prints that the archive has a fault, and which.
 fn tell_refused<O: Output>(alloc: Global, reply: &mut Reply<'_, O>, what: &[u8], refusal: Refusal) {
     reply.tell(b"fault the archive ");
     reply.tell(what);
@@ -413,7 +414,7 @@ fn tell_refused<O: Output>(alloc: Global, reply: &mut Reply<'_, O>, what: &[u8],
     reply.tell(b"\n");
 }
 
-// Tells how many blocks are asked for, and how many there are.
+// Prints how many blocks are needed, and how many the archive has.
 fn tell_blocks<O: Output>(reply: &mut Reply<'_, O>, config: &Config<'_>, shape: Shape) -> bool {
     let Some(wanted) = blocks_wanted(config) else {
         reply.tell(b"fault neither fit nor keep is set: a full archive refuses each new core\n");
@@ -436,8 +437,8 @@ fn tell_blocks<O: Output>(reply: &mut Reply<'_, O>, config: &Config<'_>, shape: 
     is_large
 }
 
-// How many data blocks keep what a configuration asks for, with one more core of the limit. An image takes whole blocks. If cases go
-// so that it fits, that is one core of the limit.
+// How many data blocks are needed to keep as many cores as a configuration says, with one more core of the limit. An image takes whole
+// blocks. If older cases make room, one core of the limit is enough.
 fn blocks_wanted(config: &Config<'_>) -> Option<u128> {
     if config.fit {
         return Some(u128::from(config.limit.unwrap_or(HANDLER_LIMIT)).div_ceil(BLOCK));

@@ -9,22 +9,22 @@ use std::io::ErrorKind;
 use std::rt::Files;
 use toml::{Table, Value};
 
-// The configuration that a handler goes by if its words name none.
+// The configuration of a handler whose words name none.
 pub(crate) const DEFAULT_CONFIG: &str = "/etc/corekeep.conf";
 
-// A configuration: its text, and what it says.
+// A configuration: its text, and its values.
 #[derive(Drop)]
 pub(crate) struct Document {
     pub(crate) text: String,
     pub(crate) value: Value,
-    // What is wrong with the file as a whole, and at which line.
+    // The fault of the file as a whole, and its line.
     pub(crate) trouble: Option<Trouble>,
 }
 
 // Why a file is no configuration.
 #[derive(Clone, Copy, Debug, PartialEq, Eq)]
 pub(crate) enum Trouble {
-    // There is none.
+    // The file is missing.
     Missing,
     // It could not be read, or is not UTF-8.
     Unreadable,
@@ -75,7 +75,7 @@ fn line_at(text: &str, at: usize) -> usize {
     1 + front.iter().filter(|byte| **byte == b'\n').count()
 }
 
-// The number of the line on which a key is, from 1 on; 0 if there is none.
+// The number of the line on which a key is, from 1 on; 0 if it is on none.
 fn line_of(text: &str, key: &str) -> usize {
     for (index, line) in text.lines().enumerate() {
         if begins_with_key(line, key) {
@@ -92,7 +92,7 @@ fn begins_with_key(line: &str, key: &str) -> bool {
     }
 }
 
-// What is wrong with an entry, in words.
+// The fault of an entry, in words.
 fn fault_words(fault: Fault) -> &'static [u8] {
     match fault {
         Fault::Unknown => b"is no key",
@@ -104,7 +104,7 @@ fn fault_words(fault: Fault) -> &'static [u8] {
     }
 }
 
-// One line on a fault: the file, the line, the key if it is one's, and what is wrong.
+// One line on a fault: the file, the line, the key if it is one's, and the fault.
 fn fault_line(
     alloc: Global,
     path: &str,
@@ -129,7 +129,7 @@ fn fault_line(
     told
 }
 
-// What is wrong with the file as a whole.
+// The fault of the file as a whole.
 fn line_on(alloc: Global, path: &str, trouble: Trouble) -> Collected {
     match trouble {
         Trouble::Missing => fault_line(alloc, path, 0, None, b"there is no such file"),
@@ -145,12 +145,12 @@ fn line_on(alloc: Global, path: &str, trouble: Trouble) -> Collected {
 }
 
 impl Document {
-    // A line on what is wrong with the file as a whole, if anything is.
+    // A line on the fault of the file as a whole, if it has one.
     pub(crate) fn trouble_line(&self, alloc: Global, path: &str) -> Option<Collected> {
         Some(line_on(alloc, path, self.trouble?))
     }
 
-    // A line for each faulty entry.
+    // A line for each bad entry.
     pub(crate) fn faults(&self, alloc: Global, path: &str) -> Result<Vec<Collected>, AllocError> {
         let mut faults = Vec::new(alloc);
         let Some(table) = self.value.as_table() else {

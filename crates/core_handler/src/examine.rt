@@ -1,4 +1,4 @@
-// What is seen at once of a case that was stored.
+// A quick look at a case that was stored.
 ghost use Rattle.std.specs.Prelude.{◌≡◌, ◌≤◌, Some};
 ghost use Rattle.case_journal.specs.Viewing.{OnlyReads};
 ghost use Rattle.intake.specs.Parts.{state_of};
@@ -19,13 +19,13 @@ use unread_notes::{UnreadNotes, unread_notes};
 // RISC-V, as the field e_machine of an ELF file names it.
 const EM_RISCV: u16 = 243;
 
-// How many bytes of an image tell its machine.
+// How many bytes of an image show its machine.
 const HEAD: usize = 20;
 
 // How many bytes of an image are looked at.
 const FRONT: u64 = 65_536;
 
-// What is seen of a case.
+// The look at a case.
 #[derive(Drop)]
 pub(crate) struct Seen {
     // How many bytes its image has.
@@ -38,7 +38,7 @@ pub(crate) struct Seen {
     whole: Option<u64>,
 }
 
-// What is seen of an image.
+// The look at an image.
 #[derive(Drop)]
 struct Sight {
     trouble: Collected,
@@ -66,7 +66,8 @@ fn machine_name(machine: u16) -> &'static [u8] {
 }
 
 impl Seen {
-    // What can't be read of the image, in words: it is no ELF file, or of another machine, or a field is at fault, or its notes are not
+    // The part of the image that can't be read, in words: it is no ELF file, or of another machine, or a field has a fault, or its notes
+    // are not
     // read as they are meant. Nothing is said if its headers and notes are sound and read, or could not be looked at.
     pub(crate) fn trouble(&self) -> &[u8] {
         self.trouble.text()
@@ -88,7 +89,7 @@ impl Seen {
     }
 }
 
-// Tells in words if an image that begins so can't be read as an ELF file of RISC-V 64. Says whether it did.
+// Says in words if an image that begins so can't be read as an ELF file of RISC-V 64. Returns whether it did.
 fn tell_kind(reply: &mut Reply<'_, Collected>, front: &[u8]) -> bool {
     if front.len() < HEAD || !front.starts_with(b"\x7fELF") {
         reply.tell(b"is no ELF file");
@@ -114,7 +115,7 @@ fn kind_trouble(alloc: Global, front: &[u8]) -> Collected {
     words
 }
 
-// The first field of an image that is at fault, in words; empty if none is.
+// The first field of an image that has a fault, in words; empty if no field has one.
 fn field_trouble(alloc: Global, kind: Kind, image: &[u8]) -> Collected {
     let fault = match kind {
         Kind::Core => core_fault(alloc, image),
@@ -153,7 +154,7 @@ fn thread_trouble(alloc: Global, kind: Kind, image: &[u8]) -> Collected {
     words
 }
 
-// What can't be read of an image, in words: its first field that is at fault, or its threads.
+// The part of an image that can't be read, in words: its first field that has a fault, or its threads.
 fn image_trouble(alloc: Global, kind: Kind, image: &[u8]) -> Collected {
     let words = field_trouble(alloc, kind, image);
     if words.text().is_empty() {
@@ -162,7 +163,7 @@ fn image_trouble(alloc: Global, kind: Kind, image: &[u8]) -> Collected {
     words
 }
 
-// Tells the field that is at fault. If that is the file's type, the case may be of the wrong kind. If it is one of notes that are padded
+// Names the field that has a fault. If that is the file's type, the case may be of the wrong kind. If it is one of notes that are padded
 // otherwise than those that are read, nothing need be damaged.
 fn tell_field(
     reply: &mut Reply<'_, Collected>,
@@ -250,7 +251,7 @@ fn cut_whole(kind: Kind, length: u64, front: &[u8]) -> Option<u64> {
     }
 }
 
-// What is seen of the image of a case, of which the first bytes are looked at.
+// The look at the image of a case, by its first bytes.
 fn see_image<D: Disk>(
     alloc: Global,
     seq: u32,
@@ -268,8 +269,8 @@ fn see_image<D: Disk>(
     Some(Sight { trouble, whole })
 }
 
-// What can't be read of the image of a case that begins so, in words. If a field of its first bytes is at fault, and there are more, the
-// field may be one of those that are missing: the whole image is read then.
+// The part of the image of a case that can't be read, in words, if it begins so. If a field of its first bytes has a fault, and there are
+// more, the field may be one of those that are missing: the whole image is read then.
 fn see_trouble<D: Disk>(
     alloc: Global,
     seq: u32,

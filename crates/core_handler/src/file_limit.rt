@@ -6,17 +6,17 @@ use std::fs::File;
 use std::rt::Files;
 use std::{fs, io};
 
-// Where Linux tells the limits of the process (proc(5)).
+// The file in which Linux has the limits of the process (proc(5)).
 const LIMITS: &str = "/proc/self/limits";
 
-// What the line of the limit on files begins with. The soft limit follows, in bytes.
+// The beginning of the line of the limit on files. The soft limit follows, in bytes.
 const FILE_SIZE: &str = "Max file size";
 
 // The system's error of a write into a file that may not have so many bytes (errno(3)).
 const EFBIG: i32 = 27;
 
-/// What a write at the end of a file would meet, if the file has more bytes than the process may write. The system answers such a write
-/// with a signal that ends the process (`RLIMIT_FSIZE`, setrlimit(2)). It meets nothing, if the limit can't be read.
+/// The error of a write at the end of a file, if the file has more bytes than the process may write. The system answers such a write
+/// with a signal that ends the process (`RLIMIT_FSIZE`, setrlimit(2)). There is no error if the limit can't be read.
 pub fn write_trouble<R: AllocGlobal + Files<File = File>>(rt: &R, path: &str) -> Option<Trouble> {
     let most = file_limit(rt, rt.alloc())?;
     let file = fs::metadata(rt, path).ok()?;
@@ -29,7 +29,7 @@ pub fn write_trouble<R: AllocGlobal + Files<File = File>>(rt: &R, path: &str) ->
     })
 }
 
-// Whether a file may have so many bytes more. What is no regular file has no limit.
+// Whether a file may have so many bytes more. Only a regular file has a limit.
 pub(crate) fn may_grow<R: Files<File = File>>(
     rt: &R,
     alloc: Global,
@@ -54,7 +54,7 @@ fn file_limit<R: Files<File = File>>(rt: &R, alloc: Global) -> Option<u64> {
     None
 }
 
-// The soft limit at the front of what follows the name of a limit. `unlimited` is none.
+// The soft limit at the front of the text after the name of a limit. `unlimited` is no limit.
 fn soft_limit(rest: &str) -> Option<u64> {
     let (bytes, _) = rest.trim_start().split_once(' ')?;
     parse_number(bytes.as_bytes())

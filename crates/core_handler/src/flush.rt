@@ -109,7 +109,7 @@ fn remove_if_lone<R: AllocGlobal + Files<File = File>>(
     }
 }
 
-// Tells why nothing is stored.
+// Logs why nothing is stored.
 fn refuse<O: Output>(output: &mut O, why: &[u8]) -> Result<(), Failure> {
     let mut reply = Reply::new(output);
     reply.tell(why);
@@ -326,7 +326,7 @@ fn bytes_of(file: &File) -> u64 {
     }
 }
 
-// Tells that a core is stored already.
+// Logs that a core is stored already.
 fn tell_same<R: AllocGlobal + Files<File = File>>(
     rt: &R,
     handler: &Handler<'_>,

@@ -1,4 +1,4 @@
-// What the names of one program's cores begin with.
+// The front that the names of one program's cores share.
 ghost use Rattle.std.specs.Prelude.{◌≡◌, ◌<◌, ◌≤◌, ◌++◌, [], List, ℕ, length, take, drop, MatchOption};
 ghost use Rattle.script_lines.specs.Said.{said};
 ghost use Rattle.core_handler.specs.Fronts as spec;
@@ -7,7 +7,8 @@ use inspector_cli::{Naming, NewStream, line_stream};
 use journal_layout::Name;
 use name_template::Template;
 
-// What the names of a program's cores begin with: what the template gives up to its first process, thread or time. If it gives
+// The front that the names of a program's cores share: the text that the template gives up to its first process, thread or time. If it
+// gives
 // nothing, all names begin so.
 #[tactic(auto, using(crate::proofs::NamingLemmas::front_faulty))]
 pub(crate) fn program_front(begin: &[u8], template: &str) -> Name
@@ -54,7 +55,7 @@ fn after_shared(template: &[u8]) -> Option<&[u8]>
     Some(&template[length..])
 }
 
-// How many bytes the first part of a template has. If it is of one core alone, or there is none, that is 0.
+// How many bytes the first part of a template has. If it is of one core alone, or there is no such part, that is 0.
 #[tactic(auto, using(crate::proofs::FrontLemmas::front_short, crate::proofs::FrontLemmas::front_empty, crate::proofs::FrontLemmas::front_other, crate::proofs::FrontLemmas::front_stop, crate::proofs::FrontLemmas::front_key))]
 fn shared_length(template: &[u8]) -> usize
     ensures within { result ≤ length template.now }

@@ -1,4 +1,4 @@
-// What the kernel's handler does: a core from the input is stored as a configuration says, and the outcome is told to a log.
+// The kernel's handler: a core from the input is stored as a configuration says, and the outcome is logged.
 ghost use Rattle.std.specs.Prelude.{◌≡◌, codes, IfOk, IfErr, None};
 ghost use Rattle.std.specs.Option.{option_copied};
 ghost use Rattle.archive_files.specs.Telling.{IsToldAs};
@@ -39,13 +39,13 @@ pub(crate) const HANDLER_TEMPLATE: &str = "core.%u.%h.%e.%p.%t";
 // The template whose names are never refused.
 const PLAIN_TEMPLATE: &str = "core.%u.%p.%t";
 
-// What is told where neither the configuration nor the pattern names an archive.
+// The message if neither the configuration nor the pattern names an archive.
 pub(crate) const UNNAMED: &[u8] = b"no archive is named";
 
 // The most bytes of an image if the configuration doesn't say.
 pub(crate) const HANDLER_LIMIT: u64 = 1 << 30;
 
-/// What the words of `handle` ask for.
+/// The request of the words of `handle`.
 #[derive(Drop)]
 pub struct HandleWords<'a> {
     /// The path of the configuration, if one is named.
@@ -68,13 +68,13 @@ pub struct HandleWords<'a> {
     pub core_limit: Option<u64>,
     /// The dump mode of its process, if that is stated.
     pub mode: Option<u64>,
-    /// Nothing is stored, and what holds by the configuration is told.
+    /// Nothing is stored, and the values of the configuration are printed.
     pub is_check: bool,
     /// No core is taken from the input, and those that wait in the spool are stored.
     pub is_flush: bool,
 }
 
-// What a handler goes by: a configuration, and where it is told what became of a core.
+// The settings of a handler: a configuration, and the log of its outcomes.
 #[derive(Clone, Copy)]
 pub(crate) struct Handler<'a> {
     pub(crate) config: Config<'a>,
@@ -91,15 +91,17 @@ impl<'a> HandleWords<'a> {
     }
 }
 
-/// Stores a core from the input as a configuration says, and tells its outcome to a log. With `--check` nothing is stored, and what
-/// holds is told on the output, but for what the two halves of the archive's journal say of one another: that is noted. With a spool the core goes
+/// Stores a core from the input as a configuration says, and logs its outcome. With `--check` nothing is stored, and the
+/// values that hold are printed on the output; a difference between the two halves of the archive's journal is a note. With a spool the
+/// core goes
 /// there first, and with `--flush` those that wait there are stored.
 ///
 /// # Errors
 ///
 /// Those of `store_told`, and `File` if no archive is named. `Told`, with the reply `no Limit`, if the configuration obeys the limit of the
-/// core's process, and that is less than a page. With `--check` it is `Told` if not all is in order, and with `--flush` if not all that waits
-/// is stored.
+/// core's process, and that is less than a page. With `--check` it is `Told` if not all is in order, and with `--flush` if not all cores
+/// that
+/// wait are stored.
 pub fn handle<
     R: AllocGlobal + Files<File = File> + Clock + Clone + Drop,
     I: Read,
@@ -137,7 +139,7 @@ fn with_stall<'t>(config: Config<'t>, stall: Option<u64>) -> Config<'t> {
     }
 }
 
-// The handler that goes by a configuration. The words may name an archive.
+// The handler of a configuration. The words may name an archive.
 fn handler_of<'a>(
     alloc: Global,
     config: Config<'a>,
@@ -211,7 +213,7 @@ pub(crate) fn log_of<'a>(config: &Config<'a>, archive: Option<&'a str>) -> Log<'
     }
 }
 
-/// Tells the kernel's log of a core that is lost since the words can't be read: no configuration names another log.
+/// Reports in the kernel's log a core that is lost since the words can't be read: no configuration names another log.
 pub fn tell_lost_words<R: AllocGlobal + Files<File = File>>(rt: &R) {
     let log = Log {
         path: KERNEL_LOG,
@@ -230,7 +232,7 @@ pub fn tell_lost_words<R: AllocGlobal + Files<File = File>>(rt: &R) {
     log.tell(rt, rt.alloc(), Level::Error, line.text());
 }
 
-// Tells what is wrong with the configuration and the pairs, which is left out.
+// Logs the bad parts of the configuration and the pairs, which are left out.
 fn tell_faults<R: AllocGlobal + Files<File = File>>(
     rt: &R,
     handler: &Handler<'_>,
@@ -302,7 +304,7 @@ impl<'a> Handler<'a> {
         self.teller.tell(rt, level, text);
     }
 
-    // Tells that a word is left out, and why.
+    // Logs that a word is left out, and why.
     fn tell_left_out<R: AllocGlobal + Files<File = File>>(&self, rt: &R, why: &[u8], word: &str) {
         let mut line = Collected::new(rt.alloc());
         let mut reply = Reply::new(&mut line);
@@ -313,7 +315,7 @@ impl<'a> Handler<'a> {
         self.tell(rt, Level::Warning, line.text());
     }
 
-    // Tells that a core is lost before its archive is opened, for this reason, which means this.
+    // Logs that a core is lost before its archive is opened, with this reason and this meaning.
     pub(crate) fn tell_lost<R: Files<File = File> + Clock>(
         &self,
         rt: &R,
@@ -349,7 +351,7 @@ impl<'a> Handler<'a> {
         Err(Failure::Told)
     }
 
-    // What is stored, and by what. Nothing if the core is lost for the limit of its process.
+    // The request to store the core. Nothing if the core is lost for the limit of its process.
     fn wanted<R: Files<File = File> + TimeSource>(
         &self,
         rt: &R,
@@ -364,7 +366,7 @@ impl<'a> Handler<'a> {
         Ok(Some(self.request(rt, words)?))
     }
 
-    // What is stored, and by what. A template or a label that is faulty is told and left out, and so is a name.
+    // The request to store the core. A bad template or label is logged and left out, and so is a bad name.
     fn request<R: Files<File = File> + TimeSource>(
         &self,
         rt: &R,
@@ -418,7 +420,7 @@ impl<'a> Handler<'a> {
         HANDLER_TEMPLATE
     }
 
-    // Tells that a template is left out since the name that it gives is refused.
+    // Logs that a template is left out since the name that it gives is refused.
     fn tell_unnamed_by<R: Files<File = File>>(&self, rt: &R, reason: &[u8]) {
         let mut line = Collected::new(self.teller.alloc);
         let mut reply = Reply::new(&mut line);
@@ -445,7 +447,7 @@ impl<'a> Handler<'a> {
         }
     }
 
-    // The time in seconds since 1970, if the configuration says an age, and the clock tells.
+    // The time in seconds since 1970, if the configuration has an age, and the clock has a time.
     fn time<R: TimeSource>(&self, rt: &R) -> Option<u64>
         ensures { IsTime (R.TimeSource.gives rt.now) self.now.config.before result }
     {
@@ -455,7 +457,7 @@ impl<'a> Handler<'a> {
         seconds_of(rt.moment())
     }
 
-    // What is stored, and by what, under its name with this end.
+    // The request to store the core, under its name with this end.
     pub(crate) fn request_ended<R: Files<File = File> + Clock>(
         &self,
         rt: &R,
@@ -480,7 +482,7 @@ impl<'a> Handler<'a> {
         )
     }
 
-    // Stores the core, and tells what became of it.
+    // Stores the core, and logs the outcome.
     pub(crate) fn store<
         R: AllocGlobal + Files<File = File> + Clock,
         I: Read,

@@ -1,4 +1,4 @@
-//! What the kernel's handler of core files does, and what a log is told of a case that is stored.
+//! The kernel's handler of core files, and the log of each case that is stored.
 #![tactic(auto)]
 
 mod berth;

@@ -29,7 +29,7 @@ impl<'w, R: Clock, W: Onlooker> LockWatch<'w, R, W> {
         self.waited
     }
 
-    // How many seconds have passed since this time; 0 if the clock does not tell.
+    // How many seconds have passed since this time; 0 if the clock has no time.
     fn seconds_since(&self, begun: Duration) -> u64 {
         match self.rt.monotonic() {
             Ok(now) => now.saturating_sub(begun).as_secs(),

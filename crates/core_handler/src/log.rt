@@ -29,12 +29,12 @@ pub(crate) enum Level {
     Info,
 }
 
-/// Where outcomes are told.
+/// The log of outcomes.
 #[derive(Clone, Copy)]
 pub struct Log<'a> {
-    /// The file's path. None is told if it is empty.
+    /// The file's path. Nothing is logged if it is empty.
     pub path: &'a str,
-    /// The archive's path, if it is known. If both name one file, nothing is told: a line would be written over the archive.
+    /// The archive's path, if it is known. If both name one file, nothing is logged: a line would overwrite the archive.
     pub archive: Option<&'a str>,
 }
 
@@ -59,7 +59,7 @@ fn mark_of(level: Level) -> &'static [u8] {
 }
 
 impl<'a> Log<'a> {
-    // Tells a line, in one write. A log that can't be written, or may not grow so large, changes nothing else.
+    // Writes a line, in one write. A log that can't be written, or may not grow so large, changes nothing else.
     pub(crate) fn tell<R: Files<File = File>>(
         &self,
         rt: &R,
@@ -79,7 +79,8 @@ impl<'a> Log<'a> {
         }
     }
 
-    // Opens the log to add a line, and makes it if there is none. No call waits: what is no regular file is refused, but for the kernel's
+    // Opens the log to add a line, and makes it if it is missing. No call waits: anything but a regular file is refused, except the
+    // kernel's
     // log, and so is a link.
     pub(crate) fn open<R: Files<File = File>>(&self, rt: &R) -> Result<File, LogFault> {
         let file = open_to_add(rt, self.path)?;

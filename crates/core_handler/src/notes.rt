@@ -1,8 +1,8 @@
-// What people are told beside the replies.
+// The notes for people beside the replies.
 use archive_files::Collected;
 use std::alloc::Global;
 
-/// What people are told though a command did what was asked. An empty note is not told.
+/// The notes for people although a command did what it was asked to do. An empty note is not printed.
 #[derive(Drop)]
 pub struct Notes {
     /// On the case that is stored, on the archive that is looked at, or on the folder of the file that is made.

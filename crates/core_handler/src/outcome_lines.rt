@@ -1,4 +1,4 @@
-// What the replies of a store say of its outcome, for a log.
+// The outcome of a store by its replies, as a log has it.
 ghost use Rattle.std.specs.Prelude.{◌≡◌, List, ℕ};
 ghost use Rattle.archive_files.specs.Telling.{IsKeptAs};
 ghost use Rattle.script_streams.specs.Replies.{TellsText, telling};
@@ -13,7 +13,7 @@ use spool::{Outcome, outcome_of};
 use std::alloc::Global;
 use std::str;
 
-// The outcome of a store, as its replies tell it.
+// The outcome of a store, by its replies.
 #[derive(Clone, Copy)]
 pub(crate) struct Replied<'a> {
     // The name of the case, printed.
@@ -62,7 +62,7 @@ fn with_line<'a>(outcome: Replied<'a>, line: &'a [u8]) -> Replied<'a> {
     outcome
 }
 
-// What a case that is stored was to get, and did not: for which reason, if so.
+// The label or the pin that a case that is stored was to get, and did not: the reason, if so.
 #[derive(Clone, Copy)]
 pub(crate) struct Lacks<'a> {
     pub(crate) label: Option<&'a [u8]>,
@@ -110,7 +110,7 @@ fn with_reply<'a>(lacks: Lacks<'a>, behind: u32, has_label: bool, line: &'a [u8]
     }
 }
 
-// What is told of a case that lacks this, for this reason.
+// The text about a case that lacks this, with this reason.
 pub(crate) fn lack_words(
     alloc: Global,
     lack: &[u8],
@@ -134,7 +134,7 @@ pub(crate) fn lack_words(
 // The dump mode of a process that changed its user or group, or that others may not read (`suid_dumpable`, proc(5)).
 const SAFE_MODE: u64 = 2;
 
-// Adds to a line that the process had this dump mode, if that is told.
+// Adds to a line that the process had this dump mode, if it is known.
 fn tell_mode<O: Output>(reply: &mut Reply<'_, O>, mode: Option<u64>)
     ensures { TellsText (telling O.Output reply.old reply.new) (spec.mode_words mode) }
 {
@@ -167,7 +167,7 @@ fn dropped_text(alloc: Global, replies: &[u8]) -> Collected {
     text
 }
 
-// What is told of a core that is stored.
+// The text about a core that is stored.
 pub(crate) fn stored_line(
     alloc: Global,
     replies: &[u8],
@@ -207,7 +207,7 @@ fn cut_text(alloc: Global, name: &[u8], cut: Option<&[u8]>) -> Collected {
     text
 }
 
-// Tells that a core is stored as the case of this number.
+// The text that a core is stored as the case of this number.
 fn tell_number<O: Output>(reply: &mut Reply<'_, O>, number: &[u8], name: &[u8])
     ensures { TellsText (telling O.Output reply.old reply.new) (spec.number_words number.now name.now) }
 {
@@ -217,7 +217,7 @@ fn tell_number<O: Output>(reply: &mut Reply<'_, O>, number: &[u8], name: &[u8])
     reply.tell(name);
 }
 
-// Adds what is known of a case, and its archive.
+// Adds the known facts of a case, and its archive.
 fn tell_archive<O: Output>(reply: &mut Reply<'_, O>, details: &[u8], archive: &str)
     ensures { TellsText (telling O.Output reply.old reply.new) (spec.archive_words details.now archive.now) }
 {
@@ -226,7 +226,7 @@ fn tell_archive<O: Output>(reply: &mut Reply<'_, O>, details: &[u8], archive: &s
     reply.tell_text(archive.as_bytes());
 }
 
-// What a refusal for this reason means, in words: of a file which one, and why it could not be opened; of a disk that failed which
+// The meaning of a refusal with this reason, in words: for a file which one, and why it could not be opened; for a disk that failed which
 // call of the system that was, if it is known.
 pub(crate) fn words_of(
     alloc: Global,
@@ -277,8 +277,8 @@ pub(crate) fn reason_outcome(reason: &[u8], makes_room: bool) -> Outcome {
     }
 }
 
-// What is told of a core that is lost or kept for this reason, which means this, and of the cases that were dropped even so. A name that
-// isn't known is a minus, and so is an archive.
+// The text about a core that is lost or kept for this reason, with this meaning, and about the cases that were dropped even so. An unknown
+// name is a minus, and so is an archive.
 pub(crate) fn lost_line(
     alloc: Global,
     replies: &[u8],
@@ -301,7 +301,7 @@ pub(crate) fn lost_line(
     line
 }
 
-// Tells where a core is that is not stored.
+// The text with the place of a core that is not stored.
 fn tell_unstored<O: Output>(reply: &mut Reply<'_, O>, name: &[u8], place: Place<'_>)
     ensures { TellsText (telling O.Output reply.old reply.new) (spec.unstored_words place.entry name.now) }
 {
@@ -329,7 +329,7 @@ fn name_or_minus(name: &[u8]) -> &[u8]
     }
 }
 
-// Adds for which reason a core is not stored, and what that means.
+// Adds the reason why a core is not stored, and its meaning.
 fn tell_why<O: Output>(reply: &mut Reply<'_, O>, reason: &[u8], words: &[u8])
     ensures { TellsText (telling O.Output reply.old reply.new) (spec.why_words reason.now words.now) }
 {

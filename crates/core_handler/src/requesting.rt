@@ -1,4 +1,4 @@
-// What the kernel's handler asks for, by its configuration and by the words that the kernel gives it.
+// The request of the kernel's handler, by its configuration and by the words that the kernel gives it.
 ghost use Rattle.std.specs.Prelude.{◌≡◌, ℕ, ◌+◌, ◌-◌, ◌<◌, ◌↔◌, IfOk, IfErr, None, Some};
 ghost use Rattle.name_template.specs.Template.{template_fault};
 ghost use Rattle.script_lines.specs.Said.{said};
@@ -16,7 +16,7 @@ use retention::Policy;
 use std::io;
 use std::time::Duration;
 
-// What is stored, and by what: the core that a line begins, named by this template, with the length that is stated. The time is in
+// The request to store the core that a line begins, named by this template, with the length that is stated. The time is in
 // seconds since 1970.
 #[tactic(auto, using(crate::proofs::NamingLemmas::named_by_is))]
 pub(crate) fn request_of(
@@ -133,7 +133,7 @@ fn time_before(now: Option<u64>, age: Option<u64>) -> Option<u64>
     }
 }
 
-// The time that is so many seconds before this one, or 0. What was made before it is older than that.
+// The time that is so many seconds before this one, or 0. A core from before it is older than that.
 fn earlier(now: u64, age: u64) -> u64
     ensures exact { result ≡ now - age }
     ensures older { (made : ℕ) → (made < result ↔ made + age < now) }
@@ -141,7 +141,7 @@ fn earlier(now: u64, age: u64) -> u64
     now.saturating_sub(age)
 }
 
-// What a clock gave, in seconds since 1970.
+// The time of a clock, in seconds since 1970.
 pub(crate) fn seconds_of(read: io::Result<Duration>) -> Option<u64>
     ensures { spec.IsTimeRead read result }
 {

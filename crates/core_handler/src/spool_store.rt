@@ -28,7 +28,7 @@ use std::{fs, io};
 use toml::Value;
 use whole_files::{NameFault, NewFile, PartFile};
 
-/// The spool that a core goes to, and what it keeps of the core's words.
+/// The spool that a core goes to, and those of the core's words that it keeps.
 #[derive(Drop)]
 pub struct SpoolWords<'a> {
     /// The directory.
@@ -116,8 +116,8 @@ fn stream_at<R: Files<File = File>>(rt: &R, path: &str) -> Option<File> {
     Some(file)
 }
 
-// Takes a core from the input into the spool, and stores it from there. One that is not in the spool then is stored as it comes: what was
-// taken of it, and the rest.
+// Takes a core from the input into the spool, and stores it from there. A core that is not in the spool then is stored as it comes: the
+// bytes that were taken of it, and the rest.
 pub(crate) fn store_by_spool<
     R: AllocGlobal + Files<File = File> + Clock + Clone + Drop,
     I: Read,
@@ -222,8 +222,9 @@ fn bytes_in<R: AllocGlobal + Files<File = File> + Clone + Drop>(rt: &R, folder: 
     }
 }
 
-// Takes a core from the input into its file, and stores it from there; or else what was taken of it, and the rest. The lock of its file is
-// kept until then.
+// Takes a core from the input into its file, and stores it from there; or else the bytes that were taken of it, and the rest. The lock of
+// its
+// file is kept until then.
 fn take<'a, R: AllocGlobal + Files<File = File> + Clock, I: Read, O: Output, W: Onlooker>(
     rt: &'a R,
     handler: &Handler<'_>,
@@ -321,7 +322,7 @@ fn keep_cut(file: &File, bytes: u64) -> bool {
     if bytes == 0 {
         return false;
     }
-    // If this fails, what is there stays.
+    // If this fails, the file stays as it is.
     let _ = file.sync_all();
     true
 }
@@ -350,7 +351,7 @@ fn refuse_stalled<R: AllocGlobal + Files<File = File> + Clock, O: Output>(
     Err(Failure::Stalled(seconds))
 }
 
-// What was taken of a core, and the rest of it.
+// The bytes that were taken of a core, and the rest of it.
 #[derive(Drop)]
 struct Rest<'x, I: Read> {
     reader: Chain<Chain<Take<File>, &'x [u8]>, &'x mut I>,
@@ -438,7 +439,7 @@ pub(crate) fn settle_files<R: AllocGlobal + Files<File = File>>(
     }
 }
 
-// Tells that a file of the spool was to be removed, and is not.
+// Logs that a file of the spool was to be removed, and is not.
 pub(crate) fn tell_unremoved<R: AllocGlobal + Files<File = File>>(
     rt: &R,
     handler: &Handler<'_>,
@@ -452,7 +453,7 @@ pub(crate) fn tell_unremoved<R: AllocGlobal + Files<File = File>>(
     handler.tell(rt, Level::Warning, line.text());
 }
 
-// Tells that a core is not in the spool, and why.
+// Logs that a core is not in the spool, and why.
 fn tell_unspooled<R: Files<File = File>>(
     rt: &R,
     handler: &Handler<'_>,

@@ -26,15 +26,15 @@ use std::rt::Files;
 use std::time::Clock;
 use thread_regs::signal_name;
 
-// The seconds from which on a wait for the archive's lock is told.
+// The seconds from which on a wait for the archive's lock is logged.
 const LONG_WAIT: u64 = 10;
 
-/// What tells outcomes.
+/// The reporter of outcomes.
 #[derive(Clone, Copy)]
 pub struct Teller<'a> {
-    /// Where what is told is put together.
+    /// The memory for its texts.
     pub alloc: Global,
-    /// Where it is told.
+    /// Its log.
     pub log: Log<'a>,
     /// The dump mode of the process, if it is stated.
     pub mode: Option<u64>,
@@ -51,7 +51,7 @@ pub struct Spooling<'a> {
     pub makes_room: bool,
 }
 
-/// What is stored.
+/// The stream to store.
 #[derive(Clone, Copy)]
 pub struct Source<'a> {
     /// The path of a file, or - for the standard input.
@@ -60,8 +60,9 @@ pub struct Source<'a> {
     pub stall: Option<u64>,
 }
 
-/// Stores a file, or the standard input, tells what became of it, and answers that. What can't be read of the case goes to a note, too. An onlooker is
-/// told how far the store is, and which call on the archive's file failed. A long wait for the archive's lock is told to the log.
+/// Stores a file, or the standard input, logs the outcome, and returns it. A part of the case that can't be read goes to a note, too. An
+/// onlooker
+/// hears how far the store is, and which call on the archive's file failed. A long wait for the archive's lock is logged.
 ///
 /// # Errors
 ///
@@ -114,12 +115,12 @@ pub fn store_told<R: AllocGlobal + Files<File = File> + Clock, I: Read, O: Outpu
     }
 }
 
-/// Stores a file, or the standard input, under the name that its build ID gives, and tells what became of it, as `store_told` does. The file
+/// Stores a file, or the standard input, under the name that its build ID gives, and logs the outcome, as `store_told` does. The file
 /// is read whole before the archive's lock is taken.
 ///
 /// # Errors
 ///
-/// Those of `store_told`, and those of `BuildRequest::for_image` and `read_whole` of `archive_files`, which come after what is wrong with the
+/// Those of `store_told`, and those of `BuildRequest::for_image` and `read_whole` of `archive_files`, which come after a fault of the
 /// archive.
 pub fn store_build_told<
     R: AllocGlobal + Files<File = File> + Clock,
@@ -177,7 +178,7 @@ fn store_timed<R: AllocGlobal + Files<File = File> + Clock, I: Read, O: Output, 
 }
 
 impl<'a> Teller<'a> {
-    // Tells for how many seconds the lock of an archive was waited for, if that was long.
+    // Logs for how many seconds the lock of an archive was waited for, if that was long.
     pub(crate) fn tell_wait<R: Files<File = File>>(&self, rt: &R, archive: &str, seconds: u64) {
         if seconds < LONG_WAIT {
             return;
@@ -192,7 +193,7 @@ impl<'a> Teller<'a> {
         self.tell(rt, Level::Warning, line.text());
     }
 
-    // Tells a line.
+    // Logs a line.
     pub(crate) fn tell<R: Files<File = File>>(&self, rt: &R, level: Level, text: &[u8]) {
         self.log.tell(rt, self.alloc, level, text);
     }
@@ -218,7 +219,7 @@ impl<'a> Teller<'a> {
         }
     }
 
-    // Tells that a case is lost, or kept in the spool, for this reason, which means this.
+    // Logs that a case is lost, or kept in the spool, with this reason and this meaning.
     pub(crate) fn tell_lost<R: Files<File = File>>(
         &self,
         rt: &R,
@@ -237,7 +238,7 @@ impl<'a> Teller<'a> {
         self.tell(rt, level, line.text());
     }
 
-    // Tells that a case is lost since a write of the archive would meet this, and what it is refused for: as if it had been made.
+    // Logs that a case is lost since a write of the archive would get this error, and returns its refusal: as if the write had been made.
     fn refuse_unwritten<R: Files<File = File>>(
         &self,
         rt: &R,
@@ -250,7 +251,7 @@ impl<'a> Teller<'a> {
         Failure::Refused(Refusal::Disk)
     }
 
-    // Tells why a case is not stored: as its replies say, or why there are none.
+    // Logs why a case is not stored: as its replies say, or why it has none.
     fn tell_refused<R: Files<File = File>>(
         &self,
         rt: &R,
@@ -281,7 +282,7 @@ impl<'a> Teller<'a> {
         }
     }
 
-    // Tells of a case that is stored. The disk is let go.
+    // Logs a case that is stored. The disk is let go.
     fn tell_stored<R: Files<File = File>>(
         &self,
         rt: &R,
@@ -314,7 +315,7 @@ impl<'a> Teller<'a> {
         }
     }
 
-    // Tells what became of a case, by the replies of its store, and answers that. The disk is let go.
+    // Logs the outcome of a case, by the replies of its store, and returns it. The disk is let go.
     fn tell_outcome<R: Files<File = File>>(
         &self,
         rt: &R,
@@ -342,8 +343,8 @@ impl<'a> Teller<'a> {
         }
     }
 
-    // Tells of a case that it has no label, or no pin, though it was to. People are told the last reply apart from this: what came before
-    // it is noted.
+    // Logs that a case has no label, or no pin, though it was to get one. People get the last reply apart from this: the replies before
+    // it are noted.
     fn tell_lacks<R: Files<File = File>>(
         &self,
         rt: &R,
@@ -367,7 +368,7 @@ impl<'a> Teller<'a> {
         }
     }
 
-    // Tells what can't be read of a case, if anything is told of it, and notes it.
+    // Logs the part of a case that can't be read, if there is one, and notes it.
     fn tell_trouble<R: Files<File = File>>(
         &self,
         rt: &R,
@@ -381,7 +382,7 @@ impl<'a> Teller<'a> {
         }
     }
 
-    // Tells something of a case.
+    // Logs a text about a case.
     fn tell_case<R: Files<File = File>>(&self, rt: &R, number: &[u8], words: &[u8]) {
         let mut told = Collected::new(self.alloc);
         let mut reply = Reply::new(&mut told);
@@ -446,7 +447,7 @@ fn details_of(alloc: Global, seen: &Option<Seen>) -> Collected {
     details
 }
 
-// Tells a signal by its name, or by its number if it has none.
+// Prints a signal by its name, or by its number if it has no name.
 fn tell_signal(reply: &mut Reply<'_, Collected>, signal: u32) {
     let name = match i32::try_from(signal) {
         Ok(number) => signal_name(number),

@@ -25,14 +25,14 @@ pub(crate) enum Twin {
     Other,
 }
 
-// What is found of a case by its name.
+// The result of a search for a case by its name.
 #[derive(Clone, Copy, Debug, PartialEq, Eq)]
 struct Found {
     seq: u32,
     length: u64,
 }
 
-// An output that compares what it takes with a file.
+// An output that compares the bytes that it takes with a file.
 #[derive(Drop)]
 struct Comparison<'a> {
     file: &'a File,
