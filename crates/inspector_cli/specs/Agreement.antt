@@ -1,4 +1,4 @@
--- What is answered is a function of the script and of what the archive holds, unless there is no memory or the disk fails.
+-- The answers are a function of the script and of the contents of the archive, unless there is no memory or the disk fails.
 use Rattle.std.specs.Prelude.{◌≡◌, ◌⊎◌, ℕ, List, ◌++◌, map, option_map, codes, IsTrue}
 use Rattle.disk_model.specs.declared.disk.Disk as disk
 use Rattle.intake.specs.Contents.{Taken}

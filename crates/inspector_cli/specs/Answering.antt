@@ -1,4 +1,4 @@
--- What the calls that answer a line do.
+-- The calls that answer a line.
 use Rattle.std.specs.Prelude.{◌≡◌, ◌≢◌, ℕ, ◌+◌, ◌<◌, ◌≤◌, Bool, true, false, List, [], ◌++◌, length, Option, Result, Ok, Err}
 use Rattle.intake.specs.declared.faults.ArchiveFault.{ArchiveFault}
 use Rattle.disk_model.specs.declared.disk.Disk as disk
@@ -53,7 +53,7 @@ PieceEnds g r begun slot so_far most verdict new (Ok x) =
 PieceEnds g r begun slot so_far most verdict new (Err stop) =
     GivesBytes r [] × (held_bytes r.buffer' ≡ []) × Takes g begun slot so_far verdict new
 
--- the bytes of a part are taken; it is told how many of them are missing where the input ended
+-- the bytes of a part are taken; the result says how many of them are missing if the input ended
 abbrev pub PartEnds : {D : Type 0} → disk.Ghosts D → Reading → Parts D → ℕ → ℕ → Parts D → Result (ℕ × Result (Unit {0}) ArchiveFault) ReadStop → Type 0
 PartEnds g r old slot count new (Ok x) =
     (raw : List ℕ) × (length raw + x.0 ≡ count) × GivesBytes r raw × (x.0 ≢ 0 → IsReadUp r) × Takes g old slot raw x.1 new
@@ -73,7 +73,7 @@ abbrev pub LastAnswers : {D : Type 0} → disk.Ghosts D → Naming → Telling �
 LastAnswers g naming t old what new = (reply : List ℕ) × LastReplies g naming (raw_length what) old what reply new × TellsText t reply
 
 -- One command: an item is answered, or the script ends, and before its reply no write has failed; or it can't be read on, or the output has
--- failed, and what was read is not carried out
+-- failed, and the item that was read is not carried out
 abbrev pub CommandEnds : {D : Type 0} → disk.Ghosts D → Naming → Reading → Telling → Parts D → Parts D → Result Bool ScriptStop → Type 0
 CommandEnds g naming r t old new (Ok true) =
     (i : Item) × IsItem i × GivesBytes r (spelled i) × (answer : AnswersTo g naming t old (said i.line) i.raw new) × TellsReady t answer.0
@@ -102,7 +102,7 @@ Halts before after buffer (Ok x) = after ≡ before
 Halts before after buffer (Err (Read stop)) = Stops {T = Unit {0}} before after buffer (Err stop)
 Halts before after buffer (Err Unheard) = after ≡ before
 
--- what a session answers where its script was not answered to its end
+-- the result of a session whose script was not answered to its end
 abbrev pub session_fault : ScriptStop → SessionFault
 session_fault (Read stop.ReadFailed) = fault.ReadFailed
 session_fault (Read stop.TooManyReads) = fault.TooManyReads

@@ -33,7 +33,7 @@ abbrev pub as_life : Result Bool SessionFault → Result Bool LifeFault
 as_life (Ok done) = Ok done
 as_life (Err f) = Err (Session f)
 
--- what is left of the script: all of it where the archive could not be opened
+-- the rest of the script: all of it if the archive could not be opened
 abbrev pub rest_of : Result Bool LifeFault → List ℕ → List ℕ
 rest_of (Err (Open f)) script = script
 rest_of _ script = []

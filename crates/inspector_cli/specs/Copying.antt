@@ -50,7 +50,7 @@ abbrev pub HasPlace : {D : Type 0} → disk.Ghosts D → Parts D → ℕ → Res
 HasPlace g a seq (Ok place) = Locates g a seq place.0.items × (0 < length place.1.items)
 HasPlace g a seq (Err f) = RangesReply g a seq (Err f)
 
--- what ended a copy, as it is told
+-- the reason why a copy ended, as it is reported
 abbrev pub fault_of : Halt → CopyFault
 fault_of Disk = fault.Disk
 fault_of Output = fault.Output

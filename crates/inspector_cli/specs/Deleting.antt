@@ -21,7 +21,7 @@ use Rattle.inspector_cli.specs.declared.session.LifeFault.TheVariants.{Open}
 use Rattle.inspector_cli.specs.declared.session.SessionFault.{SessionFault}
 use Rattle.inspector_cli.specs.declared.session.SessionFault.TheVariants.{WriteFailed}
 
--- ---- What is deleted, and told.
+-- ---- The cases that are deleted, and the report.
 
 -- all of them are deleted, one after the other
 abbrev pub DeletesEach : {D : Type 0} → disk.Ghosts D → Parts D → List ℕ → Parts D → Type 0
@@ -42,22 +42,22 @@ abbrev pub TriesEach : {D : Type 0} → disk.Ghosts D → Parts D → List ℕ �
 TriesEach g old numbers (Ok u) gone new = (gone ≡ numbers) × DeletesEach g old numbers new
 TriesEach g old numbers (Err f) gone new = IsRefusedAt g old numbers gone f new
 
--- what is told of a deletion: that the case is gone; nothing, if it is refused
+-- the text about a deletion: that the case is gone; nothing, if it is refused
 abbrev pub told_of : ℕ → Result (Unit {0}) ArchiveFault → List ℕ
 told_of seq (Ok u) = dropped_line seq
 told_of seq (Err f) = []
 
--- what is told once they were tried: `unmet` if that is so, and `ok`; or why one is refused
+-- the text once all were tried: `unmet` if that is so, and `ok`; or why one is refused
 abbrev pub ending_of : Bool → Result (Unit {0}) ArchiveFault → List ℕ
 ending_of unmet (Ok u) = unmet_line unmet ++ ok_reply
 ending_of unmet (Err f) = no_reply (reason_of f)
 
--- They are deleted in turn, and it is told which are gone: `dropped N` for each, and how it ended.
+-- They are deleted in turn, and those that are gone are printed: `dropped N` for each, and how it ended.
 abbrev pub DeletesInTurn : {D : Type 0} → disk.Ghosts D → Parts D → List ℕ → Bool → List ℕ → Bool → Parts D → Type 0
 DeletesInTurn g old numbers unmet text done new =
     (r : Result (Unit {0}) ArchiveFault) × (gone : List ℕ) × TriesEach g old numbers r gone new × (done ≡ is_ok r) × (text ≡ flat_map dropped_line gone ++ ending_of unmet r)
 
--- The same over an archive that was opened for it. What is told is written, or the output has failed.
+-- The same over an archive that was opened for it. The text is written, or the output has failed.
 abbrev pub DeletesAlone : {D : Type 0} → disk.Ghosts D → List ℕ → Bool → Option (List ℕ) → Option (List ℕ) → Result Bool SessionFault → Parts D → Parts D → Type 0
 DeletesAlone {D} g numbers unmet taken taken' (Ok done) opened closed =
     (text : List ℕ) × (mid : Parts D) × DeletesInTurn g opened numbers unmet text done mid × DropsStreams g mid closed × Appends taken taken' text
@@ -102,7 +102,7 @@ abbrev pub IsSessionOfLines : {D : Type 0} → disk.Ghosts D → Naming → (ℕ
 IsSessionOfLines g naming line numbers old r new =
     (tried : List ℕ) × AreTried numbers tried r × (replies : List ℕ) × SessionEnds g naming (lines_streams line tried replies) old new (Ok tt)
 
--- how such a session ends: it is answered, whatever became of what is told here
+-- how such a session ends: it is answered, whether or not the text is written
 abbrev pub as_lines : Result Bool LifeFault → Result (Unit {0}) LifeFault
 as_lines (Ok done) = Ok tt
 as_lines (Err (Open f)) = Err (Open f)
@@ -113,7 +113,7 @@ abbrev pub IsLifeOfLines : {D : Type 0} → disk.Ghosts D → ℕ → Naming →
 IsLifeOfLines g limit naming line numbers before r after =
     (tried : List ℕ) × AreTried numbers tried r × (replies : List ℕ) × LifeEnds g limit (lines_streams line tried replies) before (as_lines r) after (RunsOver g naming (lines_streams line tried replies))
 
--- The headline of that session: what a stop of the machine leaves is what the archive held before a deletion, or after it.
+-- The headline of that session: a stop of the machine leaves the archive as it was before a deletion, or after it.
 abbrev pub DeletesAsLines : {D : Type 0} → disk.Ghosts D → Naming → (ℕ → List ℕ) → List ℕ → D → Result Bool LifeFault → D → Type 0
 DeletesAsLines g naming line numbers before r after =
     (tried : List ℕ) × AreTried numbers tried r × (replies : List ℕ) × Headline (Unit {0}) g naming (lines_streams line tried replies) before (as_lines r) after

@@ -46,7 +46,7 @@ abbrev pub next_core : Order → List Case → Option Case
 next_core Oldest cases = find may_go_first cases
 next_core Fair cases = fairest cases
 
--- The case that goes next: that core. If there is none, it is the first executable that is not pinned.
+-- The case that goes next: that core. If there is no such core, it is the first executable that is not pinned.
 abbrev pub next_to_go : Order → List Case → Option Case
 next_to_go order cases = or_else (next_core order cases) (find may_go cases)
 
@@ -75,7 +75,7 @@ pub record IsGoing {D : Type 0} (g : disk.Ghosts D) (order : Order) (w : Going D
   pub needed : FindsNoRoom (state_of w.before)
   pub deletes : DeleteCall g w.before w.seq w.answer w.after
 
--- what is told of it; of a case that could not be deleted the reason is the reply to the stream
+-- the text about it; if a case could not be deleted, the reason is the reply to the stream
 abbrev pub gone_text : ℕ → Result (Unit {0}) ArchiveFault → List ℕ
 gone_text seq (Ok u) = dropped_line seq
 gone_text seq (Err f) = []
@@ -83,7 +83,7 @@ gone_text seq (Err f) = []
 abbrev pub going_text : {D : Type 0} → Going D → List ℕ
 going_text w = gone_text w.seq w.answer
 
--- Where a case is deleted, the stream goes on. Where it could not be, that refuses the stream.
+-- If a case is deleted, the stream goes on. If it could not be deleted, that refuses the stream.
 abbrev pub GoesOn : {D : Type 0} → Result (Unit {0}) ArchiveFault → List (Going D) → List ℕ → Result (Unit {0}) ArchiveFault → Parts D → Parts D → Type 0 → Type 0
 GoesOn (Ok u) later rest r after new On = On
 GoesOn (Err f) later rest r after new On = (later ≡ []) × (rest ≡ []) × (r ≡ Err f) × (new ≡ after)
@@ -117,9 +117,9 @@ NoneMayGo s = filter may_go s.cases ≡ []
 abbrev pub NextMustStay : Order → ArchiveState → Type 0
 NextMustStay order s = (c : Case) × (next_to_go order s.cases ≡ Some c) × IsFull s (drop_size 1) (cases_without s (c.seq ∷ []))
 
--- How the archive is where a stream is refused for this reason, if cases may go so that it finds room. No data block is free: no case may
--- go any more. The journal has no room for the record of its case: so it is too, or the journal was written anew as often as it can be,
--- or the next case can't go for want of room in the journal.
+-- The state of the archive if a stream is refused for this reason, although cases may go so that it finds room. No data block is free: no case
+-- may go any more. The journal has no room for the record of its case: no case may go either, or the journal was written anew as often as it
+-- can be, or the next case can't go since the journal has no room for that.
 abbrev pub IsSpent : Order → ArchiveFault → ArchiveState → Type 0
 IsSpent order SpaceFull s = NoneMayGo s
 IsSpent order JournalFull s = NoneMayGo s ⊎ IsLastGeneration s ⊎ NextMustStay order s

@@ -1,5 +1,5 @@
--- The headline: what a session does, told by its lines, and what a stop of the machine leaves of it. It rests on what bytes encode (`StandsFor`), what an archive holds
--- (`Durable`), what a line says (`Said`), and the text of replies (`Texts`).
+-- The headline: the effect of a session, line by line, and the archive that a stop of the machine leaves. It rests on the archive that bytes
+-- encode (`StandsFor`), the contents of an archive (`Durable`), the meaning of a line (`Said`), and the text of replies (`Texts`).
 use Rattle.std.specs.Prelude.{◌≡◌, ◌⊎◌, ℕ, ◌==◌, ◌<◌, Bool, true, false, List, [], ◌∷◌, ◌++◌, length, map, Option, None, Some, option_map, Result, Ok, Err, IsTrue, codes, if◌then◌else◌}
 use Rattle.std.specs.Result.{result_ok}
 use Rattle.std.specs.List.{flat_map, AllByRecursion}
@@ -35,7 +35,7 @@ begins_as naming (begin_exec slot name) = option_map empty_stream (result_ok (ex
 begins_as naming (begin_core slot process) = option_map empty_stream (result_ok (core_stream naming process))
 begins_as naming _ = None
 
--- what a slot holds after a command, by the reply to it: the stream as it began
+-- the contents of a slot after a command, by the reply to it: the stream as it began
 abbrev pub begun_then : (Said → Option StreamFacts) → ℕ → Said → Bool → Option StreamFacts → Option StreamFacts
 begun_then begins slot (begin_exec s name) refused o = if s == slot then (if refused then o else begins (begin_exec s name)) else o
 begun_then begins slot (begin_core s process) refused o = if s == slot then (if refused then o else begins (begin_core s process)) else o
@@ -48,7 +48,7 @@ abbrev pub begun_behind : (Said → Option StreamFacts) → ℕ → Option Strea
 begun_behind begins slot o [] = o
 begun_behind begins slot o (a ∷ list) = begun_behind begins slot (begun_then begins slot (what_of a) (is_no a.reply) o) list
 
--- the stream in a slot after these commands, as it began, where there was none before them
+-- the stream in a slot after these commands, as it began, if the slot was empty before them
 abbrev pub begun_in : (Said → Option StreamFacts) → ℕ → List Answer → Option StreamFacts
 begun_in begins slot list = begun_behind begins slot None list
 
@@ -59,11 +59,11 @@ HasFlag x seq flag = (c : FoundCase) × IsAmong x.cases c × (c.case.seq ≡ seq
 abbrev pub HasLabel : Durable → ℕ → List ℕ → Type 0
 HasLabel x seq text = (c : FoundCase) × IsAmong x.cases c × (c.case.seq ≡ seq) × (c.case.label ≡ text)
 
--- what the rule of a retirement looks at of a case
+-- the facts of a case that the rule of a retirement uses
 abbrev pub brief_of : FoundCase → Brief
 brief_of c = brief_of_case c.case
 
--- What a line that is carried out does to what the archive holds, x before it and y after it. `earlier` are the lines before it:
+-- The effect of a line that is carried out on the contents of the archive, x before it and y after it. `earlier` are the lines before it:
 -- a case is the stream that its line began, and its image is the bytes of its parts. A pin or a label that is set already changes
 -- nothing. Any other line changes no case.
 abbrev pub Does : (Said → Option StreamFacts) → List Answer → Said → List ℕ → Durable → Durable → Type 0
@@ -79,8 +79,8 @@ Does begins earlier (retire_by policy) reply x y =
     × (reply ≡ flat_map dropped_line dropped ++ (unmet_line unmet ++ ok_reply)) × (y ≡ without x dropped)
 Does begins earlier _ reply x y = y ≡ x
 
--- A line is carried out, or it is refused and changes nothing. A blank line is told nothing of, and one that is not in the grammar
--- is refused. (What the replies of lines are that change no case is told by `Replies`.)
+-- A line is carried out, or it is refused and changes nothing. A blank line has no reply, and one that is not in the grammar
+-- is refused. (`Replies` has the replies of lines that change no case.)
 abbrev pub Leads : (Said → Option StreamFacts) → List Answer → Said → List ℕ → Durable → Durable → Type 0
 Leads begins earlier silence reply x y = (reply ≡ []) × (y ≡ x)
 Leads begins earlier bad_line reply x y = (reply ≡ no_reply (codes "BadLine")) × (y ≡ x)
@@ -104,7 +104,7 @@ WouldLeave begins earlier what x y = (changes what ≡ true) × (reply : List �
 -- The state at a moment between two lines.
 pub record Moment (D : Type 0) : Type 0 where
   pub disk : D
-  -- what the archive holds
+  -- the contents of the archive
   pub holds : Durable
   -- what lines that were answered `no Disk` would have left
   pub in_doubt : List Durable
@@ -118,12 +118,12 @@ pub record Line (D : Type 0) : Type 0 where
 pub record Course (D : Type 0) : Type 0 where
   pub begin : Moment D
   pub lines : List (Line D)
-  -- what is said after the whole commands, and the reply to it
+  -- the command after the whole ones, and the reply to it
   pub last : Said
   pub reply : List ℕ
   pub end : Moment D
 
--- A line leads from moment to moment. Only where it is answered `no Disk` is anything in doubt anew.
+-- A line leads from moment to moment. Only if it is answered `no Disk` is anything in doubt anew.
 pub record LeadsOn {D : Type 0} (begins : Said → Option StreamFacts) (earlier : List Answer) (old : Moment D) (what : Said) (reply : List ℕ) (new : Moment D) : Type 0 where
   pub leads : Leads begins earlier what reply old.holds new.holds
   pub doubts : List Durable
@@ -149,14 +149,14 @@ abbrev pub last_moment : {D : Type 0} → Moment D → List (Line D) → Moment 
 last_moment m [] = m
 last_moment m (l ∷ ls) = last_moment l.after ls
 
--- each line does what it says, from what the archive held before it
+-- each line does its work, on the contents of the archive before it
 pub record IsCourse {D : Type 0} (begins : Said → Option StreamFacts) (c : Course D) : Type 0 where
   pub clear : c.begin.in_doubt ≡ []
   pub lines : AllLead begins [] c.begin c.lines
   pub frozen : IsFrozen (last_moment c.begin c.lines) c.end
   pub last : LeadsOn begins (map answer_of c.lines) (last_moment c.begin c.lines) c.last c.reply c.end
 
--- An opening of these bytes finds what the archive held at this moment, or what was in doubt then.
+-- An opening of these bytes finds the contents of the archive at this moment, or those that were in doubt then.
 abbrev pub FindsMoment : {D : Type 0} → List ℕ → Moment D → Type 0
 FindsMoment left m = (x : Durable) × StandsFor left x × ((x ≡ m.holds) ⊎ IsOneOf m.in_doubt x)
 
@@ -165,8 +165,8 @@ abbrev pub FindsSince : {D : Type 0} → List ℕ → Moment D → List (Moment 
 FindsSince left m [] = FindsMoment left m
 FindsSince left m (n ∷ ns) = FindsMoment left m ⊎ FindsSince left n ns
 
--- What reads of the disk give at a moment opens as that moment. And whenever the machine stops from then on, between two disk
--- writes or within one, what is left opens as what the archive held then, or after a later line.
+-- The bytes that reads of the disk give at a moment open as that moment. And whenever the machine stops from then on, between two disk
+-- writes or within one, the bytes that are left open as the contents of the archive then, or after a later line.
 pub record IsSafe {D : Type 0} (g : disk.Ghosts D) (end : D) (m : Moment D) (later : List (Moment D)) : Type 0 where
   pub reads : FindsMoment (g.seen m.disk) m
   pub stops : (left : List ℕ) → g.left_since end (g.clock m.disk) left → FindsSince left m later
@@ -201,7 +201,7 @@ pub record IsText {D : Type 0} (t : Streams) (c : Course D) : Type 0 where
   -- after the whole commands
   pub rest : List ℕ
   pub ends : EndsSo rest c.last
-  -- what was read and not looked at, since the output had failed
+  -- the bytes that were read and not looked at, since the output had failed
   pub more : List ℕ
   pub consumed : Consumes t.input t.input' (read ++ more)
   pub script : read ≡ flat_map spelled (commands c) ++ rest
@@ -211,7 +211,7 @@ pub record IsText {D : Type 0} (t : Streams) (c : Course D) : Type 0 where
   pub appended : Appends t.taken t.taken' written
   pub replies : written ++ unwritten ≡ flat_map (λ (a : Answer). a.reply) (answers_of c) ++ c.reply
 
--- the line shows what is in an archive, is blank, or is not in the grammar
+-- the line shows something of an archive, is blank, or is not in the grammar
 abbrev pub is_idle : Said → Bool
 is_idle silence = true
 is_idle bad_line = true
@@ -224,8 +224,8 @@ is_idle _ = false
 abbrev pub AllIdle : {D : Type 0} → Course D → Type 0
 AllIdle c = AllByRecursion (λ (a : Answer). is_idle (what_of a) ≡ true) (answers_of c) × (is_idle c.last ≡ true)
 
--- A script of such lines, carried out to its end, only reads: reads give what they gave, and a stop leaves what one before could
--- have left.
+-- A script of such lines, carried out to its end, only reads: reads give the same bytes as before, and a stop leaves only bytes that one
+-- before could have left.
 abbrev pub IsIdle : {D : Type 0} {T E : Type 0} → disk.Ghosts D → Result T E → Course D → D → D → Type 0
 IsIdle g (Ok x) c before after = AllIdle c → OnlyReads g before after
 IsIdle g (Err f) c before after = Unit {0}
@@ -243,7 +243,7 @@ IsAll (Err f) more input' unwritten = Unit {0}
 -- The headline of a session over a disk, `before` it and `after` it.
 pub record IsCrashSafe {D : Type 0} (T E : Type 0) (g : disk.Ghosts D) (naming : Naming) (t : Streams) (before after : D) (r : Result T E) : Type 0 where
   pub course : Course D
-  -- it begins with exactly what the disk encodes
+  -- it begins with exactly the archive that the disk encodes
   pub found : (x : Durable) → StandsFor (g.seen before) x → course.begin.holds ≡ x
   pub is : IsCourse (begins_as naming) course
   pub text : IsText t course
@@ -255,8 +255,8 @@ pub record IsCrashSafe {D : Type 0} (T E : Type 0) (g : disk.Ghosts D) (naming :
   pub opening : (left : List ℕ) → g.left_since after (g.clock before) left → g.may_leave before left ⊎ FindsSince left course.begin (map moment_of course.lines ++ course.end ∷ [])
   pub safe : AreSafe g after course.begin (map moment_of course.lines ++ course.end ∷ [])
 
--- What a life of an archive promises of stops: over an honest disk a session is crash-safe, and an opening that is refused
--- leaves what reads give, and what a stop may leave, as they were.
+-- The promises of a life of an archive about stops: over an honest disk a session is crash-safe, and an opening that is refused
+-- changes neither the bytes that reads give, nor those that a stop may leave.
 abbrev pub Headline : {D : Type 0} (T : Type 0) → disk.Ghosts D → Naming → Streams → D → Result T LifeFault → D → Type 0
 Headline T g naming t before (Ok x) after = IsTrue (g.is_honest before) → IsCrashSafe T LifeFault g naming t before after (Ok x)
 Headline T g naming t before (Err (life.Session f)) after = IsTrue (g.is_honest before) → IsCrashSafe T LifeFault g naming t before after (Err (life.Session f))

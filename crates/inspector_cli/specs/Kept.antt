@@ -72,7 +72,7 @@ pub record IsSession {D : Type 0} (g : disk.Ghosts D) (k : Kept) (c : Command D)
   pub lines : AllSpare k (answers_of safe.course)
   pub last : Spares k safe.course.last safe.course.reply
 
--- It stores a stream, and what it retires, the cases that go and the label that it gives spare the case.
+-- It stores a stream, and neither its retirement, nor the cases that go, nor the label that it gives concern the case.
 pub record IsStore {D : Type 0} (g : disk.Ghosts D) (k : Kept) (c : Command D) : Type 0 where
   pub streams : Streams
   pub asked : Option Policy
@@ -84,7 +84,7 @@ pub record IsStore {D : Type 0} (g : disk.Ghosts D) (k : Kept) (c : Command D) :
   pub gone : AllByRecursion (λ (x : Gone D). Spares k (delete_of x.seq) x.reply) safe.course.gone
   pub gives : Spares k (said_label safe.course.stored given.label) safe.course.labels
 
--- Its opening was refused: reads give what they gave, and a stop leaves what one before could have left.
+-- Its opening was refused: reads give the same bytes as before, and a stop leaves only bytes that one before could have left.
 pub record IsRefused {D : Type 0} (g : disk.Ghosts D) (c : Command D) : Type 0 where
   pub seen : g.seen c.after ≡ g.seen c.before
   pub leaves : (left : List ℕ) → g.left_since c.after (g.clock c.before) left → g.may_leave c.before left
@@ -94,19 +94,19 @@ IsCommand g k c = IsSession g k c ⊎ IsStore g k c ⊎ IsRefused g c
 
 -- The disk that the next command begins with, when the machine stopped, or the process ended or was killed, at any moment after
 -- `since`: `end` is the disk when the command ends, had it not been stopped. Reads give one of the lists that a stop since then
--- could have left, and until something is written a further stop leaves such a list too. So what a killed process wrote may read
+-- could have left, and until something is written a further stop leaves such a list too. So bytes that a killed process wrote may read
 -- back without being durable.
 pub record TakesUp {D : Type 0} (g : disk.Ghosts D) (end since next : D) : Type 0 where
   pub honest : IsTrue (g.is_honest next)
   pub reads : g.left_since end (g.clock since) (g.seen next)
   pub leaves : (left : List ℕ) → g.may_leave next left → g.left_since end (g.clock since) left
 
--- the machine stopped at a moment since then, and the disk restarts with what was left
+-- the machine stopped at a moment since then, and the disk restarts with the bytes that were left
 abbrev pub AStopIsTakenUp : {D : Type 0} → disk.Ghosts D → Type 0
 AStopIsTakenUp {D} g = (end since next : D) (left : List ℕ) → g.left_since end (g.clock since) left → Restarts g left next → TakesUp g end since next
 
--- The process ended or was killed, the machine goes on, and the file is opened again: what was written reads back, and is as little
--- durable as it was.
+-- The process ended or was killed, the machine goes on, and the file is opened again: the written bytes read back, and are as little
+-- durable as before.
 pub record IsReopened {D : Type 0} (g : disk.Ghosts D) (end next : D) : Type 0 where
   pub honest : IsTrue (g.is_honest next)
   pub seen : g.seen next ≡ g.seen end
@@ -120,7 +120,7 @@ abbrev pub AreNext : {D : Type 0} → disk.Ghosts D → Kept → D → D → Lis
 AreNext g k end since [] = Unit {0}
 AreNext g k end since (c ∷ cs) = TakesUp g end since c.before × IsCommand g k c × AreNext g k c.after c.before cs
 
--- Whenever the machine stops since then, an opening of what is left finds the case.
+-- Whenever the machine stops since then, an opening of the bytes that are left finds the case.
 abbrev pub StaysFound : {D : Type 0} → disk.Ghosts D → Kept → D → D → Type 0
 StaysFound g k end since = (left : List ℕ) → g.left_since end (g.clock since) left → FindsKept k left
 
@@ -144,7 +144,7 @@ ALineStoresACase {D} g = (naming : Naming) (t : Streams) (before after : D) (ans
     → (k : Kept) × (k.seq ≡ told) × (begun_in (begins_as naming) slot (map answer_of front) ≡ Some k.stream) × (parts_in slot (map answer_of front) ≡ Some k.image)
     × (k.label ≡ Some []) × HoldsKept k line.after.holds × (line.after.in_doubt ≡ [])
 
--- The same of a store: the case is the stream that was begun, with the bytes of FILE, or its first ones, where it was cut.
+-- The same for a store: the case is the stream that was begun, with the bytes of FILE, or its first ones, if it was cut.
 abbrev pub AStoreStoresACase : {D : Type 0} → disk.Ghosts D → Type 0
 AStoreStoresACase {D} g = (t : Streams) (asked : Option Policy) (found : Result StreamFacts (List ℕ)) (given : Options) (before after : D) (answer : Result StoreOutcome LifeFault) (s : IsStoreSafe g t asked found given before after answer)
     (n : ℕ) → s.course.stored ≡ Some n

@@ -18,7 +18,7 @@ use Rattle.inspector_cli.specs.declared.session.LifeFault.TheVariants.{Open, Ses
 use Rattle.inspector_cli.specs.Session.{Streams, SessionEnds}
 use Rattle.inspector_cli.specs.Storing.{Options, StoreEnds}
 
--- The opening with all that it promises, of its moments too; and what was done over the archive that it answered.
+-- The opening with all that it promises, of its moments too; and the session over the archive that it answered.
 pub record OpensThen {D : Type 0} (g : disk.Ghosts D) (limit : ℕ) (before after : D) (Goes : Parts D → Parts D → Type 0) : Type 0 where
   pub opened : Parts D
   -- exactly the archive that the disk encoded: its cases, its shape and the bytes of its journal that are in use; its limit

@@ -35,12 +35,12 @@ pub record OverFresh {D : Type 0} (g : disk.Ghosts D) (shape : Shape) (limit : �
   pub closed : Parts D
   pub goes : Goes opened closed
 
--- what is answered where such a session did not end with its script: a disk in memory fails only for want of memory
+-- the result of such a session that did not end with its script: a disk in memory fails only if there is no memory
 abbrev pub memory_fault : LifeFault → MemoryFault
 memory_fault (life.Open f) = OutOfMemory
 memory_fault (life.Session f) = Session f
 
--- The session over it, by its answer. Where there was none, the shape is outside its limits, or there was no memory; the streams
+-- The session over it, by its result. If there was no session, the shape is outside its limits, or there was no memory; the streams
 -- are not touched then.
 abbrev pub MemoryEnds : {D : Type 0} → disk.Ghosts D → Shape → ℕ → Naming → Streams → Result (Unit {0}) MemoryFault → Type 0
 MemoryEnds g shape limit naming t (Ok u) = OverFresh g shape limit (RunsOver g naming t (Ok u))
@@ -48,7 +48,7 @@ MemoryEnds g shape limit naming t (Err (Session f)) = OverFresh g shape limit (R
 MemoryEnds g shape limit naming t (Err BadShape) = (IsWithinLimits shape → ⊥) × IsUntouched t
 MemoryEnds g shape limit naming t (Err OutOfMemory) = IsWithinLimits shape × IsUntouched t
 
--- why there is no disk for it, if there is none
+-- why there is no disk for it, if that is so
 abbrev pub NoDisk : {T : Type 0} → Shape → Result T MemoryFault → Type 0
 NoDisk shape (Ok disk) = IsWithinLimits shape
 NoDisk shape (Err (Session f)) = ⊥

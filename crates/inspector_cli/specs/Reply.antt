@@ -1,4 +1,4 @@
--- The reply to what a line says, and what it does to the archive.
+-- The reply to a line, and its effect on the archive.
 use Rattle.std.specs.Prelude.{◌≡◌, ℕ, ◌+◌, ◌-◌, ◌/◌, ◌%◌, ◌<◌, ◌≤◌, Bool, true, false, List, [], ◌++◌, length, Option, None, Some, Result, Ok, Err, is_ok, IsTrue, codes, if◌then◌else◌}
 use Rattle.std.specs.Result.{result_ok}
 use Rattle.script_streams.specs.Replies.{no_reply}
@@ -21,7 +21,7 @@ use Rattle.case_queries.specs.Inspecting.{Inspects}
 use Rattle.script_lines.specs.Queries.{QuerySaid, by_build}
 use Rattle.script_lines.specs.Said.{Said, silence, bad_line, long_line, begin_exec, begin_core, part_of, end_of, drop_of, delete_of, pin_of, label_of, retire_by, list_all_cases, count_free, upgrade_archive, inspect_of}
 
--- `begin`: what is wrong with the name comes first. It is accepted or not.
+-- `begin`: the fault of the name comes first. It is accepted or not.
 abbrev pub Begins : {D : Type 0} → disk.Ghosts D → Parts D → ℕ → Result StreamFacts (List ℕ) → List ℕ → Parts D → Bool → Type 0
 Begins g old slot (Err reason) reply new accepted = (reply ≡ no_reply reason) × (new ≡ old) × (accepted ≡ false)
 Begins g old slot (Ok stream) reply new accepted =
@@ -43,8 +43,8 @@ MayTake s stream n = (stream.len + n ≤ s.limit) × ((m : ℕ) → IsWall s str
 abbrev pub IsOpen : ArchiveState → ℕ → StreamFacts → Type 0
 IsOpen s slot stream = (s.stopped ≡ false) × (stream_at s.streams slot ≡ Some stream)
 
--- n bytes more as one step, whatever pieces they come in: they take the lowest free blocks. Of the limit and the full disk that is told which the bytes meet
--- first. Where memory or the disk failed, that was while some of them were taken.
+-- n bytes more as one step, whatever pieces they come in: they take the lowest free blocks. If they meet the limit and the full disk, the one
+-- that they meet first is the reply. If memory or the disk failed, that was while some of them were taken.
 abbrev pub TakeStep : ArchiveState → ℕ → ℕ → Result (Unit {0}) ArchiveFault → ArchiveState → Type 0
 TakeStep old slot n (Ok u) new =
     (s : StreamFacts) × IsOpen old slot s × MayTake old s n
@@ -105,7 +105,7 @@ Retires g old policy reply new = (result : Result Decision ArchiveFault) × Reti
 abbrev pub Frees : {D : Type 0} → Parts D → List ℕ → Parts D → Type 0
 Frees old reply new = (result : Result Space ArchiveFault) × FreeReply (state_of old) result × (reply ≡ free_reply result) × (new ≡ old)
 
--- what a line asks of an image, where the session has executables chosen by build
+-- the query of a line about an image, if the session has executables chosen by build
 abbrev pub query_by : Naming → QuerySaid → QuerySaid
 query_by naming query = if naming.by_build then by_build query else query
 

@@ -83,7 +83,7 @@ EndReplies g naming old complete reply new = (reply ≡ []) × (new ≡ old)
 EndReplies g naming old (last_line line) reply new = LastReplies g naming (raw_length (said line)) old (said line) reply new
 EndReplies g naming old (cut_part line raw) reply new = Truncates g old (said line) raw reply new
 
--- what the last line says
+-- the meaning of the last line
 abbrev pub said_last : Ending → Said
 said_last complete = silence
 said_last (last_line line) = said line
@@ -114,7 +114,7 @@ BreaksOff g old rest new =
     (IsLine rest × (new ≡ old))
     ⊎ ((line : List ℕ) × (raw : List ℕ) × (rest ≡ line ++ 10 ∷ raw) × IsLine line × (length raw < raw_length (said line)) × TakesFront g old (said line) raw new)
 
--- what was read of a script that could not be read on, and the replies to all commands that are whole in it
+-- the bytes that were read of a script that could not be read on, and the replies to all commands that are whole in them
 pub record AnswersWhole {D : Type 0} (g : disk.Ghosts D) (naming : Naming) (read out : List ℕ) (old : Stage D) (stages : List (Stage D)) (new : Stage D) : Type 0 where
   pub items : List Item
   pub each : AllByRecursion IsItem items
@@ -135,7 +135,7 @@ pub record DropsStreams {D : Type 0} (g : disk.Ghosts D) (old new : Parts D) : T
   pub disk : new.disk ≡ old.disk
   pub stays : ChangesNoCase g old new
 
--- what the streams of a session are before and after it
+-- the streams of a session before and after it
 pub record Streams : Type 0 where
   pub input : Option (List ℕ)
   pub input' : Option (List ℕ)
@@ -176,13 +176,13 @@ pub record ButTheLast {D : Type 0} (g : disk.Ghosts D) (naming : Naming) (old : 
 abbrev pub IsHeard : ℕ → List ℕ → Type 0
 IsHeard n replies = length replies ≤ n + 8192
 
--- The output failed. The commands of a front of what was read are carried out, and the output has a front of their replies: all replies
--- but that to the last of them, save for at most 8,192 bytes. What was read after them is not carried out.
+-- The output failed. The commands of a front of the bytes that were read are carried out, and the output has a front of their replies: all
+-- replies but that to the last of them, except at most 8,192 bytes. The commands after them are not carried out.
 pub record StopsUnheard {D : Type 0} (g : disk.Ghosts D) (naming : Naming) (t : Streams) (old : Stage D) (new : Parts D) : Type 0 where
-  -- the bytes of the commands that are carried out, and what was read after them
+  -- the bytes of the commands that are carried out, and those that were read after them
   pub read : List ℕ
   pub more : List ℕ
-  -- the replies: what the output has, and what it has not
+  -- the replies: those that the output has, and those that it has not
   pub out : List ℕ
   pub rest : List ℕ
   pub stages : List (Stage D)
@@ -198,9 +198,9 @@ pub record StopsUnheard {D : Type 0} (g : disk.Ghosts D) (naming : Naming) (t : 
   pub found : IsFoundAfterAStop g old stages end new
   pub lost : HasRisen t.lost t.lost'
 
--- Whether a session answered to the end, or why it did not: on Ok all that the input had was read and answered; where it
--- could not be read on, the commands that are whole in what was read were answered; where the output failed, the session stops
--- unheard. In each case what is found after a stop is told by the stages.
+-- Whether a session answered to the end, or why it did not: on Ok all that the input had was read and answered; if it
+-- could not be read on, the commands that are whole in the bytes that were read were answered; if the output failed, the session stops
+-- unheard. In each case the stages say what an opening finds after a stop.
 abbrev pub SessionEnds : {D : Type 0} → disk.Ghosts D → Naming → Streams → Stage D → Parts D → Result (Unit {0}) SessionFault → Type 0
 SessionEnds {D} g naming t old new (Ok u) =
     (read : List ℕ) × (out : List ℕ) × (stages : List (Stage D)) × (end : Stage D) × Consumes t.input t.input' read × IsAtEnd t.input' × Appends t.taken t.taken' out

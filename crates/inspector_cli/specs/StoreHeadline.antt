@@ -1,5 +1,5 @@
--- The headline of a store: what the archive holds when it begins, when cases are retired, when others go while FILE is taken, when the case is stored,
--- when it has its label, and when it is pinned; and what a stop of the machine leaves of it.
+-- The headline of a store: the contents of the archive when it begins, when cases are retired, when others go while FILE is taken, when the case
+-- is stored, when it has its label, and when it is pinned; and the archive that a stop of the machine leaves.
 use Rattle.std.specs.Prelude.{◌≡◌, ◌⊎◌, ℕ, ◌≤◌, ◌%◌, true, false, List, [], ◌∷◌, ◌++◌, length, map, Option, None, Some, Result, Ok, Err, IsTrue, codes, if◌then◌else◌}
 use Rattle.std.specs.List.{AllByRecursion, filter, flat_map}
 use Rattle.std.specs.Io.KnownBytes.{Appends}
@@ -34,7 +34,7 @@ pub record AddsCase (found : Result StreamFacts (List ℕ)) (want : Option ℕ) 
   pub number : n ≡ x.next
   pub adds : y ≡ with_case x (record stream { len = length image }) blocks image
 
--- the case of the number that is told, or none
+-- the case of the number that is printed, or none
 abbrev pub StoresOrNot : Result StreamFacts (List ℕ) → Option ℕ → Option (List ℕ) → Option (List ℕ) → Option ℕ → Durable → Option ℕ → Durable → Type 0
 StoresOrNot found want file file' cut x (Some n) y = AddsCase found want file file' cut x n y
 StoresOrNot found want file file' cut x None y = y ≡ x
@@ -48,7 +48,7 @@ IsCutShort most (Some kept) = (n : ℕ) × (most ≡ Some n) × (kept ≤ n) × 
 abbrev pub no_stream : Said → Option StreamFacts
 no_stream what = None
 
--- Where a case is stored, its number is the reply to the stream's end; where none is, the stream is refused when it begins, or later.
+-- If a case is stored, its number is the reply to the stream's end; if none is, the stream is refused when it begins, or later.
 abbrev pub TellsStored : Option ℕ → List ℕ → List ℕ → Type 0
 TellsStored (Some n) first reply = reply ≡ end_reply (Ok n)
 TellsStored None first reply = ((reason : List ℕ) × (reply ≡ no_reply reason)) ⊎ ((reply ≡ []) × ((reason : List ℕ) × (first ≡ no_reply reason)))
@@ -61,7 +61,7 @@ pub record Gone (D : Type 0) : Type 0 where
   pub reply : List ℕ
   pub after : Moment D
 
--- What is told of it is `dropped`. If it could not be deleted, the reason is the reply to the stream.
+-- The text about it is `dropped`. If it could not be deleted, the reason is the reply to the stream.
 abbrev pub gone_line : {D : Type 0} → Gone D → List ℕ
 gone_line x = if is_no x.reply then [] else dropped_line x.seq
 
@@ -81,7 +81,7 @@ GoInTurn order m (x ∷ xs) filled =
 
 pub record StoreCourse (D : Type 0) : Type 0 where
   pub begin : Moment D
-  -- by which cases are retired, if there is one, and what is told of it
+  -- the policy by which cases are retired, if there is one, and its text
   pub policy : Option Policy
   pub told : List ℕ
   pub retired : Moment D
@@ -102,7 +102,7 @@ pub record StoreCourse (D : Type 0) : Type 0 where
   pub pins : List ℕ
   pub end : Moment D
 
--- Each step does what it says, from what the archive held before it, or is refused and changes nothing.
+-- Each step does its work, on the contents of the archive before it, or is refused and changes nothing.
 pub record IsStoreCourse {D : Type 0} (asked : Option Policy) (found : Result StreamFacts (List ℕ)) (options : Options) (file file' : Option (List ℕ)) (c : StoreCourse D) : Type 0 where
   pub clear : c.begin.in_doubt ≡ []
   pub chosen : (c.policy ≡ asked) ⊎ (c.policy ≡ None)
@@ -114,7 +114,7 @@ pub record IsStoreCourse {D : Type 0} (asked : Option Policy) (found : Result St
   -- a case is stored only if nothing is in doubt
   pub sure : (n : ℕ) → c.stored ≡ Some n → c.filled.in_doubt ≡ []
   pub tells : TellsStored c.stored c.first c.reply
-  -- if cases may go, the stream is refused for want of a data block only where all cases that are left are pinned
+  -- if cases may go, the stream is refused since no data block is free only if all cases that are left are pinned
   pub spent : options.fit ≡ true → c.reply ≡ no_reply (codes "SpaceFull") → filter may_go (map case_in c.filled.holds.cases) ≡ []
   -- FILE is cut only if that is asked for, and only where no more of it may be kept
   pub short : IsCutShort options.cut c.cut
@@ -133,7 +133,7 @@ IsTold (Err f) stored unwritten = Unit {0}
 -- The headline of a store over a disk, `before` it and `after` it.
 pub record IsStoreSafe {D : Type 0} (g : disk.Ghosts D) (t : Streams) (asked : Option Policy) (found : Result StreamFacts (List ℕ)) (options : Options) (before after : D) (r : Result StoreOutcome LifeFault) : Type 0 where
   pub course : StoreCourse D
-  -- it begins with exactly what the disk encodes
+  -- it begins with exactly the archive that the disk encodes
   pub found_again : (x : Durable) → StandsFor (g.seen before) x → course.begin.holds ≡ x
   pub is : IsStoreCourse asked found options t.input t.input' course
   pub written : List ℕ
@@ -147,13 +147,13 @@ pub record IsStoreSafe {D : Type 0} (g : disk.Ghosts D) (t : Streams) (asked : O
       → g.may_leave before left ⊎ FindsSince left course.begin (course.retired ∷ (moments_of course.gone ++ (course.filled ∷ course.ended ∷ course.labelled ∷ course.end ∷ [])))
   pub safe : AreSafe g after course.begin (course.retired ∷ (moments_of course.gone ++ (course.filled ∷ course.ended ∷ course.labelled ∷ course.end ∷ [])))
 
--- The same with the stream that is admitted by what the archive holds when the store begins.
+-- The same with the stream that is admitted by the contents of the archive when the store begins.
 abbrev pub IsAdmittedSafe : {D : Type 0} → disk.Ghosts D → Streams → Option Policy → Result StreamFacts (List ℕ) → Options → D → D → Result StoreOutcome LifeFault → Type 0
 IsAdmittedSafe g t asked found options before after r =
     (stream : Result StreamFacts (List ℕ)) × (s : IsStoreSafe g t asked stream options before after r) × (stream ≡ admitted options.burst false (map case_in s.course.begin.holds.cases) found)
 
--- What a store promises of stops, over an honest disk. An opening that is refused leaves what reads give, and what a stop may
--- leave, as they were.
+-- The promises of a store about stops, over an honest disk. An opening that is refused changes neither the bytes that reads give, nor those
+-- that a stop may leave.
 abbrev pub StoreHeadline : {D : Type 0} → disk.Ghosts D → Streams → Option Policy → Result StreamFacts (List ℕ) → Options → D → Result StoreOutcome LifeFault → D → Type 0
 StoreHeadline g t asked found options before (Ok x) after = IsTrue (g.is_honest before) → IsAdmittedSafe g t asked found options before after (Ok x)
 StoreHeadline g t asked found options before (Err (life.Session f)) after = IsTrue (g.is_honest before) → IsAdmittedSafe g t asked found options before after (Err (life.Session f))

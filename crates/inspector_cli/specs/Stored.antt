@@ -68,7 +68,7 @@ Spared g n (s ∷ ss) [] = ⊥
 Spared g n (s ∷ ss) (l ∷ ls) =
     IsHad g s × Spares s n s.answers × IsLifeOf g.seen s.first s.stages s.end s.closed l × Spared g n ss ls
 
--- Whenever the machine stops in this life, since its last acknowledgement, an opening of what is left finds the case with these
+-- Whenever the machine stops in this life, since its last acknowledgement, an opening of the bytes that are left finds the case with these
 -- bytes.
 abbrev pub FindsImage : {D : Type 0} → disk.Ghosts D → ℕ → List ℕ → Life D → Type 0
 FindsImage g n bytes l = (left : List ℕ) (x : Durable) → g.left_since (last_of (last_acknowledged l) l.later).disk (g.clock (last_acknowledged l).disk) left → StandsFor left x → HasImage n bytes x

@@ -37,19 +37,19 @@ use Rattle.stream_names.specs.Streams.{exec_stream, core_stream}
 use Rattle.archive_replies.specs.Reasons.{reason_of}
 use Rattle.archive_replies.specs.Texts.{plain_reply}
 
--- The stream that a line begins in slot 0, or why it begins none there. Any other line is none that is known.
+-- The stream that a line begins in slot 0, or why it begins none there. Any other line is an unknown one.
 abbrev pub line_stream : Naming → Said → Result StreamFacts (List ℕ)
 line_stream naming (begin_exec slot name) = if slot == 0 then exec_stream name else Err (codes "BadLine")
 line_stream naming (begin_core slot process) = if slot == 0 then core_stream naming process else Err (codes "BadLine")
 line_stream naming long_line = Err (codes "LineTooLong")
 line_stream naming _ = Err (codes "BadLine")
 
--- what it is that bytes are taken, or refused
+-- the meaning of `bytes are taken, or refused`
 abbrev pub Taking : Type 1
 Taking = List ℕ → Result (Unit {0}) ArchiveFault → Type 0
 
--- What is read of a file of which these bytes are kept: they are all, and it has ended, with the length that was stated, if one was. Or it is
--- cut: they are as many as is told, some at least, and more follow; they are fewer than were stated.
+-- The bytes that are read of a file of which these bytes are kept: they are all, and it has ended, with the length that was stated, if one was.
+-- Or it is cut: they are as many as is printed, some at least, and more follow; they are fewer than were stated.
 abbrev pub KeepsOf : Option ℕ → Option (List ℕ) → Option (List ℕ) → Option ℕ → List ℕ → Type 0
 KeepsOf want file file' None raw = Consumes file file' raw × IsAtEnd file' × IsStated want (length raw)
 KeepsOf want file file' (Some kept) raw = (more : List ℕ) × Consumes file file' (raw ++ more) × (0 < length more) × (length raw ≡ kept) × (0 < kept) × IsUnder want kept
@@ -75,7 +75,7 @@ TakesFile want file file' fails fails' T (Err (Cut kept)) =
 TakesFile want file file' fails fails' T (Err (Length f)) =
     (raw : List ℕ) × Differs want file file' raw f × T raw (Ok tt)
 
--- the next bytes of a file are taken after those so far, as many as is told, or there are none; or they are refused, or could not be
+-- the next bytes of a file are taken after those so far, as many as is said, or there are none; or they are refused, or could not be
 -- read; or they are there, and are not taken
 abbrev pub TakesMore : Option (List ℕ) → Option (List ℕ) → ℕ → ℕ → List ℕ → Taking → Result ℕ TakeStop → Type 0
 TakesMore file file' fails fails' so_far T (Ok zero) =
@@ -107,7 +107,7 @@ AfterRoom T so_far (Err (Refused fault)) = T so_far (Err fault)
 AfterRoom T so_far (Err (Cut kept)) = ⊥
 AfterRoom T so_far (Err (Length f)) = ⊥
 
--- Cases go, and are told, while this much was taken.
+-- Cases go, and are printed, while this much was taken.
 abbrev pub MakesRoom : {D : Type 0} → disk.Ghosts D → Order → Parts D → List ℕ → List (Going D) → Telling → Parts D → Result (Unit {0}) TakeStop → Type 0
 MakesRoom {D} g order begun so_far gone t new r =
     (more : List (Going D)) × TellsText t (flat_map going_text more) × AfterRoom (λ raw v. TakesWhile g order begun raw (gone ++ more) v new) so_far r
@@ -121,12 +121,12 @@ stop_of (Err stop) = Err stop
 abbrev pub GoesNext : {D : Type 0} → disk.Ghosts D → Order → Parts D → List ℕ → List (Going D) → Telling → Parts D → Result Bool TakeStop → Type 0
 GoesNext g order begun so_far gone t new r = MakesRoom g order begun so_far gone t new (stop_of r)
 
--- the next bytes of a file are taken, and cases go, and are told
+-- the next bytes of a file are taken, and cases go, and are printed
 abbrev pub TakesNext : {D : Type 0} → disk.Ghosts D → Order → Option (List ℕ) → Option (List ℕ) → ℕ → ℕ → Parts D → List ℕ → List (Going D) → Bool → Telling → Parts D → Result ℕ TakeStop → Type 0
 TakesNext {D} g order file file' fails fails' begun so_far gone fit t new r =
     (more : List (Going D)) × TellsText t (flat_map going_text more) × TakesMore file file' fails fails' so_far (λ raw v. TakesWhile g order begun raw (gone ++ more) v new) r × (fit ≡ false → more ≡ [])
 
--- all bytes of a file are taken, or the first that are refused, and cases go, and are told, if that is asked for
+-- all bytes of a file are taken, or the first that are refused, and cases go, and are printed, if that is asked for
 abbrev pub TakesAll : {D : Type 0} → disk.Ghosts D → Order → Bool → Option ℕ → Option (List ℕ) → Option (List ℕ) → ℕ → ℕ → Parts D → Telling → Parts D → Result (Unit {0}) TakeStop → Type 0
 TakesAll {D} g order fit want file file' fails fails' old t new r =
     (gone : List (Going D)) × TellsText t (flat_map going_text gone) × TakesFile want file file' fails fails' (λ raw v. TakesWhile g order old raw gone v new) r × (fit ≡ false → gone ≡ [])
@@ -141,7 +141,7 @@ FillsFile most want file file' fails fails' T (Err (Refused fault)) =
     TakesFile want file file' fails fails' T (Err (Refused fault))
     ⊎ ((n : ℕ) × (most ≡ Some n) × (kept : ℕ) × (raw : List ℕ) × KeepsOf want file file' (Some kept) raw × T raw (Err fault))
 
--- all of that, with the cases that go, and are told
+-- all of that, with the cases that go, and are printed
 abbrev pub FillsAll : {D : Type 0} → disk.Ghosts D → Order → Bool → Option ℕ → Option ℕ → Option (List ℕ) → Option (List ℕ) → ℕ → ℕ → Parts D → Telling → Parts D → Result (Unit {0}) TakeStop → Type 0
 FillsAll {D} g order fit most want file file' fails fails' old t new r =
     (gone : List (Going D)) × TellsText t (flat_map going_text gone) × FillsFile most want file file' fails fails' (λ raw v. TakesWhile g order old raw gone v new) r × (fit ≡ false → gone ≡ [])
@@ -152,7 +152,7 @@ abbrev pub length_reason : LengthFault → List ℕ
 length_reason Short = codes "Short"
 length_reason Long = codes "TooLong"
 
--- the reply after the bytes, and the case's number where it is stored
+-- the reply after the bytes, and the case's number if it is stored
 abbrev pub FileReplies : {D : Type 0} → disk.Ghosts D → Parts D → Result (Unit {0}) TakeStop → List ℕ → Parts D → Option ℕ → Type 0
 FileReplies g old (Ok u) reply new stored = Ends g old 0 reply new stored
 FileReplies g old (Err File) reply new stored = (reply ≡ no_reply (codes "File")) × (new ≡ old) × (stored ≡ None)
@@ -164,28 +164,28 @@ FileReplies g old (Err (Length f)) reply new stored = (reply ≡ no_reply (lengt
 abbrev pub cut_line : ℕ → List ℕ
 cut_line kept = (codes "cut " ++ decimal kept) ++ 10 ∷ []
 
--- what is told of a file that is cut, before the reply to the end: nothing, if no case is stored
+-- the text about a file that is cut, before the reply to the end: nothing, if no case is stored
 abbrev pub cut_text : Option ℕ → Option ℕ → List ℕ
 cut_text (Some kept) (Some seq) = cut_line kept
 cut_text (Some kept) None = []
 cut_text None stored = []
 
--- a file after a first line that was accepted or not, with the cases that go meanwhile, where it is cut, if it is, and the archive when its
--- bytes are taken: where the line was not accepted, none is read
+-- a file after a first line that was accepted or not, with the cases that go meanwhile, the place at which it is cut, if it is, and the archive
+-- when its bytes are taken: if the line was not accepted, none is read
 abbrev pub RestReplies : {D : Type 0} → disk.Ghosts D → Order → Option ℕ → Option ℕ → Option (List ℕ) → Option (List ℕ) → ℕ → ℕ → Parts D → Bool → List (Going D) → Option ℕ → Parts D → List ℕ → Parts D → Option ℕ → Type 0
 RestReplies g order most want file file' fails fails' old true gone cut filled reply new stored =
     (taken : Result (Unit {0}) TakeStop) × FillsFile most want file file' fails fails' (λ raw r. TakesWhile g order old raw gone r filled) taken × FileReplies g filled taken reply new stored × (cut ≡ cut_of taken)
 RestReplies g order most want file file' fails fails' old false gone cut filled reply new stored =
     (file' ≡ file) × (fails' ≡ fails) × (filled ≡ old) × (reply ≡ []) × (new ≡ old) × (stored ≡ None) × (gone ≡ []) × (cut ≡ None)
 
--- all of that for a stream that has begun: the cases that go are told, then a cut, and then the reply
+-- all of that for a stream that has begun: the cases that go are printed, then a cut, and then the reply
 abbrev pub FillsAndEnds : {D : Type 0} → disk.Ghosts D → Order → Bool → Option ℕ → Option ℕ → Option (List ℕ) → Option (List ℕ) → ℕ → ℕ → Parts D → List ℕ → Parts D → Option ℕ → Type 0
 FillsAndEnds {D} g order fit most want file file' fails fails' old text new stored =
     (gone : List (Going D)) × (cut : Option ℕ) × (filled : Parts D) × (rest : List ℕ) × (text ≡ flat_map going_text gone ++ (cut_text cut stored ++ rest)) × (fit ≡ false → gone ≡ [])
     × RestReplies g order most want file file' fails fails' old true gone cut filled rest new stored
     × (fit ≡ true → IsServed (state_of old) → RefusedIfSpent order rest (state_of filled)) × IsShort g order fit most old gone cut
 
--- a stream that is begun, or why there is none, and its file: the replies, and the case's number where it is stored
+-- a stream that is begun, or why it is not, and its file: the replies, and the case's number if it is stored
 pub record StoresStream {D : Type 0} (g : disk.Ghosts D) (order : Order) (fit : Bool) (most want : Option ℕ) (file file' : Option (List ℕ)) (fails fails' : ℕ) (old : Parts D) (found : Result StreamFacts (List ℕ))
     (replies : List ℕ) (new : Parts D) (stored : Option ℕ) : Type 0 where
   pub first : List ℕ
@@ -201,14 +201,14 @@ pub record StoresStream {D : Type 0} (g : disk.Ghosts D) (order : Order) (fit : 
   pub filled : Parts D
   pub rest : List ℕ
   pub goes_on : RestReplies g order most want file file' fails fails' mid accepted gone cut filled rest new stored
-  -- a stream for which cases may go is refused for want of room only where none may go any more
+  -- a stream for which cases may go is refused since there is no room only if no case may go any more
   pub spent : fit ≡ true → RefusedIfSpent order rest (state_of filled)
   -- a file is cut only if that is asked for, and only where no more of it may be kept
   pub short : IsShort g order fit most mid gone cut
   pub text : replies ≡ first ++ (flat_map going_text gone ++ (cut_text cut stored ++ rest))
 
--- Cases are retired by a policy: what `retire` does in a session, and whether it was answered other than `no REASON`. Where there is no
--- policy nothing is done and nothing is said.
+-- Cases are retired by a policy: the work of `retire` in a session, and whether it was answered other than `no REASON`. If there is no
+-- policy, nothing is done and nothing is said.
 abbrev pub RetiresFirst : {D : Type 0} → disk.Ghosts D → Parts D → Option Policy → List ℕ → Parts D → Bool → Type 0
 RetiresFirst g old None reply new made = (reply ≡ []) × (new ≡ old) × (made ≡ true)
 RetiresFirst g old (Some policy) reply new made = (answered : Retires g old policy reply new) × (made ≡ is_ok answered.0)
@@ -228,7 +228,7 @@ abbrev pub IsChosen : ArchiveState → Option Policy → Result StreamFacts (Lis
 IsChosen s asked found None = (asked ≡ None) ⊎ ((policy : Policy) × (asked ≡ Some policy) × CannotBegin s policy found)
 IsChosen s asked found (Some policy) = asked ≡ Some policy
 
--- What is retired for a stream: something goes only where the stream can begin then.
+-- The cases that are retired for a stream: something goes only if the stream can begin then.
 pub record RetiresForStream {D : Type 0} (g : disk.Ghosts D) (old : Parts D) (asked : Option Policy) (found : Result StreamFacts (List ℕ)) (told : List ℕ) (new : Parts D) (made : Bool) : Type 0 where
   pub policy : Option Policy
   pub chosen : IsChosen (state_of old) asked found policy
@@ -256,11 +256,11 @@ LabelsCase g old (Some seq) (Some label) reply new done = (answered : Labels g o
 LabelsCase g old (Some seq) None reply new done = (reply ≡ []) × (new ≡ old) × (done ≡ true)
 LabelsCase g old None label reply new done = (reply ≡ []) × (new ≡ old) × (done ≡ true)
 
--- the bytes of a label, where there is one
+-- the bytes of a label, if there is one
 abbrev pub label_asked : Option (ArrayVec ℕ) → Option (List ℕ)
 label_asked label = option_map label_bytes label
 
--- what is asked for where a stream is stored
+-- the options of a stream that is stored
 pub record Options : Type 0 where
   pub label : Option (List ℕ)
   pub pin : Bool
@@ -278,7 +278,7 @@ pub record Options : Type 0 where
 abbrev pub options_asked : StoreOptions → Options
 options_asked options = record { label = label_asked options.label; pin = options.pin; fit = options.fit; order = options.order; cut = options.cut; length = options.length; burst = options.burst }
 
--- what is retired for a stream by a policy, the stream with its file, and then the label and the pin of its case
+-- the retirement for a stream by a policy, the stream with its file, and then the label and the pin of its case
 pub record Stores {D : Type 0} (g : disk.Ghosts D) (file file' : Option (List ℕ)) (fails fails' : ℕ) (old : Parts D) (asked : Option Policy) (found : Result StreamFacts (List ℕ)) (options : Options)
     (replies : List ℕ) (new : Parts D) (outcome : StoreOutcome) : Type 0 where
   pub told : List ℕ
@@ -326,11 +326,11 @@ GoneStages g order old (w ∷ ws) (s ∷ t ∷ ss) filled =
     × IsGoing g order w × Moves g s (delete_of w.seq) (plain_reply w.answer) t × (t.archive ≡ w.after) × GoneStages g order t ws ss filled
 GoneStages g order old _ _ filled = ⊥
 
--- What a stop leaves of it, told as of lines of a session: cases are retired, then others go while bytes are taken, then a case is stored, and only then it gets
--- its label, and is pinned. The stream's beginning and the file's bytes change no case.
+-- The archive that a stop leaves of it, as if by lines of a session: cases are retired, then others go while bytes are taken, then a case is
+-- stored, and only then it gets its label, and is pinned. The stream's beginning and the file's bytes change no case.
 pub record StoreStages {D : Type 0} (g : disk.Ghosts D) (order : Order) (old : Stage D) (policy : Option Policy) (told : List ℕ) (retired : Parts D) (gone : List (Going D)) (filled : Parts D) (reply : List ℕ) (ended : Parts D)
     (labels : Said) (named : List ℕ) (labelled : Parts D) (pins : Said) (last : List ℕ) (end : Stage D) (new : Parts D) : Type 0 where
-  -- what is in doubt when cases are retired
+  -- the doubt while cases are retired
   pub in_doubt : List Durable
   pub retires_first : Moves g old (retire_line policy) told (record { archive = retired; in_doubt = in_doubt })
   -- while bytes are taken and cases go
@@ -348,14 +348,14 @@ pub record StoreStages {D : Type 0} (g : disk.Ghosts D) (order : Order) (old : S
   pub found : IsFoundAfterAStop g old
       (record { archive = retired; in_doubt = in_doubt } ∷ (stages ++ (record { archive = filled; in_doubt = filled_doubt } ∷ record { archive = ended; in_doubt = later_doubt } ∷ record { archive = labelled; in_doubt = named_doubt } ∷ []))) end new
 
--- What a stop leaves of a store.
+-- The archive that a stop leaves of a store.
 abbrev pub StopsStore : {D : Type 0} → (g : disk.Ghosts D) → (t : Streams) → (old : Stage D) → (asked : Option Policy) → (found : Result StreamFacts (List ℕ)) → (options : Options)
     → (replies : List ℕ) → (end : Stage D) → (outcome : StoreOutcome) → Stores g t.input t.input' t.fails t.fails' old.archive asked found options replies end.archive outcome → Parts D → Type 0
 StopsStore g t old asked found options replies end outcome s new =
     StoreStages g options.order old s.retires_first.policy s.told s.retired s.stores.gone s.stores.filled s.stores.rest s.ended (said_label outcome.stored options.label) s.named s.labelled (said_pin outcome.stored options.pin) s.last end new
 
--- What came of the store, where the replies were written; or the output failed, and has a front of them. A stream that is left in
--- slot 0 is dropped. In each case what is found after a stop is told by the stages.
+-- The result of the store, if the replies were written; or the output failed, and has a front of them. A stream that is left in
+-- slot 0 is dropped. In each case the stages say what an opening finds after a stop.
 abbrev pub StoreEnds : {D : Type 0} → disk.Ghosts D → Streams → Stage D → Option Policy → Result StreamFacts (List ℕ) → Options → Parts D → Result StoreOutcome SessionFault → Type 0
 StoreEnds {D} g t old asked found options new (Ok outcome) =
     (replies : List ℕ) × (end : Stage D) × (dropped : Result (Unit {0}) ArchiveFault)
@@ -386,7 +386,7 @@ RetiresUnlessRefused {D} g = (file file' : Option (List ℕ)) (fails fails' : �
     → (s : Stores g file file' fails fails' old asked found options replies end outcome)
     → (s.retires_first.policy ≡ Some policy) ⊎ (s.stores.accepted ≡ false)
 
--- Where no policy is asked for, nothing is retired and nothing is told of it.
+-- If no policy is asked for, nothing is retired, and there is no text about it.
 abbrev pub RetiresNothingUnasked : {D : Type 0} → disk.Ghosts D → Type 0
 RetiresNothingUnasked {D} g = (file file' : Option (List ℕ)) (fails fails' : ℕ) (old : Parts D) (found : Result StreamFacts (List ℕ)) (options : Options)
     (replies : List ℕ) (end : Parts D) (outcome : StoreOutcome)

@@ -1,4 +1,4 @@
--- The commands of a session with the reply to each, and what they say of one stream and of one case.
+-- The commands of a session with the reply to each, and the facts of one stream and of one case among them.
 use Rattle.std.specs.Prelude.{◌≡◌, ◌⊎◌, ℕ, ◌==◌, ◌&&◌, Bool, true, false, List, [], ◌∷◌, ◌++◌, Option, None, Some, option_map, map, codes, if◌then◌else◌}
 use Rattle.std.specs.List.{flat_map, AllByRecursion}
 use Rattle.disk_model.specs.declared.disk.Disk as disk
@@ -16,7 +16,7 @@ pub record Answer : Type 0 where
   pub item : Item
   pub reply : List ℕ
 
--- what the command says
+-- the meaning of the command
 abbrev pub what_of : Answer → Said
 what_of a = said a.item.line
 
@@ -35,13 +35,13 @@ pub record Session (D : Type 0) : Type 0 where
   pub answers : List Answer
   -- after each command
   pub stages : List (Stage D)
-  -- what the last line says that no newline ends, or whose bytes are not all there, and the reply to it
+  -- the meaning of the last line that no newline ends, or whose bytes are not all there, and the reply to it
   pub last : Said
   pub reply : List ℕ
   pub end : Stage D
   pub closed : Parts D
 
--- how a script ends after its whole commands, or how it breaks off where it could not be read on
+-- how a script ends after its whole commands, or how it breaks off if it could not be read on
 abbrev pub Finishes : {D : Type 0} → disk.Ghosts D → Naming → Parts D → Said → List ℕ → Parts D → Type 0
 Finishes g naming old last reply new =
     ((ending : Ending) × (last ≡ said_last ending) × EndReplies g naming old ending reply new)
@@ -67,8 +67,8 @@ is_no (a ∷ []) = false
 is_no (a ∷ b ∷ []) = false
 is_no (a ∷ b ∷ c ∷ rest) = a == 110 && (b == 111 && c == 32)
 
--- what the stream in the slot of a line has taken after the line: nothing where it begins, the bytes of a part more; there is
--- no stream where it ended, was dropped, or a part was refused
+-- the bytes that the stream in the slot of a line has taken after the line: nothing if the line begins it, the bytes of a part more; there is
+-- no stream after it ended, was dropped, or a part was refused
 abbrev pub begun : Bool → Option (List ℕ) → Option (List ℕ)
 begun true held = held
 begun false held = Some []
@@ -77,7 +77,7 @@ abbrev pub fed : Bool → List ℕ → Option (List ℕ) → Option (List ℕ)
 fed true raw held = None
 fed false raw held = option_map (λ (bytes : List ℕ). bytes ++ raw) held
 
--- what the stream in a slot has taken after a command, by the reply to it
+-- the bytes that the stream in a slot has taken after a command, by the reply to it
 abbrev pub held_then : ℕ → Said → List ℕ → Bool → Option (List ℕ) → Option (List ℕ)
 held_then slot (begin_exec s name) raw refused held = if s == slot then begun refused held else held
 held_then slot (begin_core s process) raw refused held = if s == slot then begun refused held else held
@@ -90,7 +90,7 @@ abbrev pub held_behind : ℕ → Option (List ℕ) → List Answer → Option (L
 held_behind slot held [] = held
 held_behind slot held (a ∷ list) = held_behind slot (held_then slot (what_of a) a.item.raw (is_no a.reply) held) list
 
--- the bytes of the parts of the stream in a slot after these commands, if there is one, where there was none before them
+-- the bytes of the parts of the stream in a slot after these commands, if there is one, and if the slot was empty before them
 abbrev pub parts_in : ℕ → List Answer → Option (List ℕ)
 parts_in slot list = held_behind slot None list
 

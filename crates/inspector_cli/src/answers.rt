@@ -90,7 +90,7 @@ fn answer_call<O: Output, D: Disk>(
     }
 }
 
-// Answers `end`. Says the number of the case, where it is stored.
+// Answers `end`. Returns the number of the case, if it is stored.
 pub(crate) fn answer_end<O: Output, D: Disk>(
     slot: u8,
     reply: &mut Reply<'_, O>,

@@ -32,7 +32,7 @@ pub(crate) fn answer_begin<O: Output, D: Disk>(
     }
 }
 
-// Begins a stream, and tells its name. Says whether it has begun.
+// Begins a stream, and prints its name. Returns whether it has begun.
 fn begin_stream<O: Output, D: Disk>(
     slot: u8,
     stream: NewStream,
@@ -55,8 +55,8 @@ fn begin_stream<O: Output, D: Disk>(
     is_begun
 }
 
-/// The stream that a line begins in slot 0, or why it begins none there, as a reply tells it: what is wrong with its name, or
-/// `BadLine`, and of a line of more than 1,024 bytes `LineTooLong`.
+/// The stream that a line begins in slot 0, or why it begins none there, as a reply has it: the fault of its name, or
+/// `BadLine`, and for a line of more than 1,024 bytes `LineTooLong`.
 pub fn line_stream(line: &[u8], naming: &Naming) -> Result<NewStream, &'static [u8]>
     ensures { stream_found result ≡ line_stream naming.now (said line.now) }
 {

@@ -14,7 +14,7 @@ use stream_names::NewStream;
 /// So many cores of one program, in so many seconds.
 #[derive(Drop)]
 pub struct Burst {
-    /// What the names of its cores begin with.
+    /// The front that the names of its cores share.
     pub front: Name,
     /// How many of them are stored.
     pub most: u64,
@@ -23,7 +23,7 @@ pub struct Burst {
 }
 
 /// The stream that may begin: the one that is found, unless it is a core whose time is known, and as many of its program's unpinned
-/// cores as may be were made not long before it. That is told by the reason `Burst`.
+/// cores as may be were made shortly before it. The reason is `Burst` then.
 pub(crate) fn admitted<D: Disk>(
     burst: &Option<Burst>,
     found: Result<NewStream, &'static [u8]>,

@@ -124,7 +124,7 @@ fn write_out<D: Disk, O: Output>(
     }
 }
 
-// Tells an output the bytes of these ranges of a disk, one after another.
+// Writes the bytes of these ranges of a disk to an output, one after another.
 fn copy_ranges<D: Disk, O: Output>(
     disk: &mut D,
     ranges: &[ByteRange],
@@ -142,7 +142,7 @@ fn copy_ranges<D: Disk, O: Output>(
     Ok(())
 }
 
-// Tells an output the bytes of a range of a disk, as many at a time as the buffer holds.
+// Writes the bytes of a range of a disk to an output, as many at a time as the buffer holds.
 fn copy_range<D: Disk, O: Output>(
     disk: &mut D,
     range: ByteRange,
@@ -168,7 +168,7 @@ fn copy_range<D: Disk, O: Output>(
     Ok(())
 }
 
-// Tells an output the bytes of a disk from a place on, as many as the piece has.
+// Writes the bytes of a disk from a place on to an output, as many as the piece has.
 fn copy_piece<D: Disk, O: Output>(
     disk: &mut D,
     start: u64,

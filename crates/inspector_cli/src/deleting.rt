@@ -21,13 +21,13 @@ use script_streams::{Output, Reply, tell_no, tell_ok};
 use std::alloc::Global;
 
 /// Opens the archive on a disk, deletes the cases of these numbers in their order, each as the line `delete N` of a session does, and
-/// hands the disk back. It tells `dropped N` for each, `unmet` if that is so, and `ok`. The first deletion that is refused ends it: the
-/// cases before it are gone, and the reply ends with `no REASON`. It says whether all are gone.
+/// hands the disk back. It prints `dropped N` for each, `unmet` if that is so, and `ok`. The first deletion that is refused ends it: the
+/// cases before it are gone, and the reply ends with `no REASON`. It returns whether all are gone.
 ///
 /// # Errors
 ///
-/// `Open` where the archive could not be opened: nothing is written then, and the output is not touched. `Session` with `WriteFailed`
-/// where the output failed: it has a front of the reply.
+/// `Open` if the archive could not be opened: nothing is written then, and the output is not touched. `Session` with `WriteFailed`
+/// if the output failed: it has a front of the reply.
 pub fn open_and_delete<O: Output, D: Disk>(
     alloc: Global,
     disk: D,
@@ -93,7 +93,7 @@ fn delete_alone<O: Output, D: Disk>(
     Ok(is_done)
 }
 
-// Deletes the cases, and tells it. Says whether all are gone.
+// Deletes the cases, and prints that. Returns whether all are gone.
 fn delete_in_turn<O: Output, D: Disk>(
     numbers: &[u32],
     unmet: bool,
@@ -115,7 +115,7 @@ fn delete_in_turn<O: Output, D: Disk>(
     }
 }
 
-// Tells that the limits do not hold, if that is so.
+// Prints that the limits do not hold, if that is so.
 fn tell_unmet<O: Output>(unmet: bool, reply: &mut Reply<'_, O>)
     ensures { TellsText (telling O.Output reply.old reply.new) (unmet_line unmet) }
 {
@@ -124,7 +124,7 @@ fn tell_unmet<O: Output>(unmet: bool, reply: &mut Reply<'_, O>)
     }
 }
 
-// Deletes the cases up to the first that is refused, and tells those that are gone.
+// Deletes the cases up to the first that is refused, and prints those that are gone.
 fn delete_each<O: Output, D: Disk>(
     numbers: &[u32],
     reply: &mut Reply<'_, O>,
@@ -138,7 +138,7 @@ fn delete_each<O: Output, D: Disk>(
     Ok(())
 }
 
-// Deletes a case, and tells it.
+// Deletes a case, and prints that.
 fn delete_one<O: Output, D: Disk>(
     seq: u32,
     reply: &mut Reply<'_, O>,

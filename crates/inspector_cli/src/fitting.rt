@@ -18,7 +18,7 @@ use journal_layout::{Entry, Kind};
 use script_streams::{Output, Reply};
 use std::alloc::Global;
 
-// What a stream may find no room for.
+// The need of a stream for which there may be no room.
 #[derive(Clone, Copy)]
 pub(crate) enum Need {
     // A data block.
@@ -27,7 +27,7 @@ pub(crate) enum Need {
     Record,
 }
 
-// Deletes the cases that go next, and tells them, until there is room for this or no case may go. A case that can't be deleted
+// Deletes the cases that go next, and prints them, until there is room for this or no case may go. A case that can't be deleted
 // refuses the stream in slot 0.
 pub(crate) fn make_room<O: Output, D: Disk>(
     order: Order,
@@ -48,7 +48,7 @@ pub(crate) fn make_room<O: Output, D: Disk>(
     }
 }
 
-// Deletes the case that goes next, and tells it, if there is no room for this. Says whether one went.
+// Deletes the case that goes next, and prints it, if there is no room for this. Returns whether one went.
 fn drop_if_full<O: Output, D: Disk>(
     order: Order,
     need: Need,
@@ -178,7 +178,7 @@ fn is_loose_core(case: &Entry) -> bool
     !case.pinned && case.kind == Kind::Core
 }
 
-// Tells a case that went.
+// Prints a case that went.
 pub(crate) fn tell_gone<O: Output>(reply: &mut Reply<'_, O>, seq: u32)
     ensures { TellsText (telling O.Output reply.old reply.new) (dropped_line seq) }
 {

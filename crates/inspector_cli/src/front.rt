@@ -14,7 +14,7 @@ use disk_model::Disk;
 use intake::Archive;
 use script_streams::{Input, Output, Reply};
 
-// Makes the stream in slot 0 a case, of a file that was cut behind these bytes. Says its number, where it is stored: then the cut is told
+// Makes the stream in slot 0 a case, of a file that was cut after these bytes. Returns its number, if it is stored: then the cut is printed
 // before that.
 pub(crate) fn answer_front<O: Output, D: Disk>(
     kept: u64,
@@ -37,7 +37,7 @@ pub(crate) fn answer_front<O: Output, D: Disk>(
     }
 }
 
-// Tells how many bytes of a file are kept.
+// Prints how many bytes of a file are kept.
 fn tell_cut<O: Output>(reply: &mut Reply<'_, O>, kept: u64)
     ensures { TellsText (telling O.Output reply.old reply.new) (cut_line kept) }
 {

@@ -24,9 +24,9 @@ pub fn a_script_has_one_cut()
     lines_are_cut_one_way();
 }
 
-/// What is answered is a function of the script and of what the archive holds: two archives that hold the same, whatever their
-/// disks, give a script the same text, unless a reply is `no OutOfMemory` or `no Disk`, which any line may get. They hold the same
-/// after each line, too.
+/// The answers are a function of the script and of the contents of the archive: two archives with the same contents, whatever their
+/// disks, give a script the same text, unless a reply is `no OutOfMemory` or `no Disk`, which any line may get. They have the same
+/// contents after each line, too.
 pub fn a_text_is_one<D: Disk, E: Disk>()
     ensures lines { LinesAgree D.Disk E.Disk }
     ensures scripts { ScriptsAgree D.Disk E.Disk }
@@ -48,8 +48,8 @@ pub fn sessions_are_runs<D: Disk>()
 }
 
 /// The headline, of each session from an opening on. Whenever the machine stops after a line has been answered, between two disk
-/// writes or within one, what is left opens as what the archive held then, or after a later line, or as what a line that was
-/// answered `no Disk` would have left. Each line does what it says, or is refused and changes nothing.
+/// writes or within one, the bytes that are left open as the contents of the archive then, or after a later line, or as those that a line
+/// answered with `no Disk` would have left. Each line does its work, or is refused and changes nothing.
 pub fn a_session_is_crash_safe<D: Disk>()
     ensures { SessionsAreCrashSafe D.Disk }
 {
@@ -58,7 +58,7 @@ pub fn a_session_is_crash_safe<D: Disk>()
     sessions_are_runs::<D>();
 }
 
-/// The headline of each store from an opening on: what the archive holds when cases are retired, when the case is stored, when it has
+/// The headline of each store from an opening on: the contents of the archive when cases are retired, when the case is stored, when it has
 /// its label, and when it is pinned. The case is the stream that was begun, with all bytes of FILE as its image.
 pub fn a_store_is_crash_safe<D: Disk>()
     ensures { StoresAreCrashSafe D.Disk }
@@ -77,9 +77,11 @@ pub fn the_oldest_core_goes_first()
     ensures none { AllArePinned }
 {}
 
-/// `store_stream` retires no case in vain: over an archive as an opening answers it, what was retired is followed by the stream
-/// that it is for, and only want of memory keeps that from beginning; a policy that was asked for is left out only where the stream
-/// is refused. Where no policy is asked for, nothing is retired.
+/// `store_stream` retires no case in vain: over an archive as an opening answers it, the stream for which cases were retired follows, and
+/// only
+/// a lack of memory keeps it from beginning; a policy that was asked for is left out only if the stream is refused. If no policy is asked
+/// for,
+/// nothing is retired.
 pub fn retiring_is_for_a_stream<D: Disk>()
     ensures begun { RetiresForAStreamAlone D.Disk }
     ensures left_out { RetiresUnlessRefused D.Disk }

@@ -16,13 +16,13 @@ use stream_names::Naming;
 ///
 /// Crash safety, whole: on an honest disk that encodes an archive, after a stop of the machine or not, the session is one over
 /// exactly that archive. Whenever the machine stops, in the opening or from then on, between two disk writes or within one,
-/// an opening of what is left finds exactly the cases and images after a line of the script that is not before the last one
-/// that was answered, or, where the disk failed, what that line would have left. A disk fault is answered only where the
+/// an opening of the bytes that are left finds exactly the cases and images after a line of the script that is not before the last one
+/// that was answered, or, if the disk failed, those that this line would have left. A disk fault is answered only if the
 /// disk failed.
 ///
 /// # Errors
 ///
-/// `Open` where the archive could not be opened: nothing is written then, and no stream is touched. `Session` as
+/// `Open` if the archive could not be opened: nothing is written then, and no stream is touched. `Session` as
 /// `run_session` ends.
 pub fn open_and_run<I: Input, O: Output, D: Disk>(
     alloc: Global,

@@ -16,12 +16,12 @@ use script_streams::{Input, Output};
 use std::alloc::Global;
 use stream_names::Naming;
 
-/// Makes an archive of this shape in memory, and runs a session over it, as `run_session` does: what is answered is the text of
-/// the script over an archive with no case, whatever the disk of it is. The archive is gone then.
+/// Makes an archive of this shape in memory, and runs a session over it, as `run_session` does: the answer is the text of
+/// the script over an archive with no case, whatever disk it has. The archive is gone then.
 ///
 /// # Errors
 ///
-/// `BadShape` if the shape is outside its limits. `OutOfMemory` if there was no memory for the disk, for what it keeps of its
+/// `BadShape` if the shape is outside its limits. `OutOfMemory` if there was no memory for the disk, for the copies that it keeps of its
 /// writes, or to open the archive: a disk in memory fails for no other reason. No stream is touched then. `Session` as
 /// `run_session` ends.
 pub fn memory_session<I: Input, O: Output>(
@@ -42,7 +42,7 @@ pub fn memory_session<I: Input, O: Output>(
     }
 }
 
-// What is answered where a session over a disk in memory did not end with its script. Such a disk fails only for want of memory.
+// The result of a session over a disk in memory that did not end with its script. Such a disk fails only if there is no memory.
 fn memory_fault(fault: LifeFault) -> MemoryFault
     ensures { result ≡ memory_fault fault }
 {
@@ -52,7 +52,7 @@ fn memory_fault(fault: LifeFault) -> MemoryFault
     }
 }
 
-// The disk of a fresh archive. Its writes fail only for want of memory.
+// The disk of a fresh archive. Its writes fail only if there is no memory.
 fn fresh_disk(alloc: Global, shape: Shape) -> Result<MemDisk, MemoryFault>
     ensures honest { IfOk result (λ d. IsTrue (⟦<MemDisk as Disk>⟧.is_honest d)) }
     ensures made { IfOk result (λ d. Stands (⟦<MemDisk as Disk>⟧.seen d) (fresh shape Half.A 1 1)) }

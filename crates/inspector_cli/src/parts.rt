@@ -38,7 +38,7 @@ pub(crate) fn answer_part<I: Input, O: Output, D: Disk>(
     Ok(false)
 }
 
-// Takes the bytes of a part. Answers how many were missing where the input ended, and what the archive answers.
+// Takes the bytes of a part. Returns how many were missing if the input ended, and the archive's answer.
 fn take_part<I: Input, O: Output, D: Disk>(
     slot: u8,
     count: u32,

@@ -1,4 +1,4 @@
-// What is retired before a stream is stored.
+// The cases that are retired before a stream is stored.
 ghost use Rattle.inspector_cli.specs.Storing.{RetiresForStream, RetiresForName};
 ghost use Rattle.stream_names.specs.Commands.{stream_found};
 ghost use Rattle.script_streams.specs.Replies.{TellsReply, telling};

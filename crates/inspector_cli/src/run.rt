@@ -16,8 +16,8 @@ use stream_names::Naming;
 ///
 /// # Errors
 ///
-/// `ReadFailed` where the input failed, and `TooManyReads` where 2^40 reads were made and each gave a byte: the commands
-/// that are whole in what was read are answered. `WriteFailed` where the output failed: it has a front of the replies. No
+/// `ReadFailed` if the input failed, and `TooManyReads` if 2^40 reads were made and each gave a byte: the commands
+/// that are whole in the bytes that were read are answered. `WriteFailed` if the output failed: it has a front of the replies. No
 /// line that was read after a write had failed is carried out, since its reply could not be seen.
 /// In each case no stream is open.
 pub fn run_session<I: Input, O: Output, D: Disk>(
@@ -45,7 +45,7 @@ pub fn run_session<I: Input, O: Output, D: Disk>(
     }
 }
 
-// What a session answers where its script was not answered to its end.
+// The result of a session whose script was not answered to its end.
 fn session_fault(stop: ScriptStop) -> SessionFault
     ensures { result ≡ session_fault stop }
 {

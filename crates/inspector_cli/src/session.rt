@@ -14,7 +14,7 @@ pub enum Order {
     Fair,
 }
 
-/// What is asked for where a stream is stored.
+/// The options of a stream that is stored.
 #[derive(Drop)]
 pub struct StoreOptions {
     /// The label of its case, if it is to have one.
@@ -35,12 +35,12 @@ pub struct StoreOptions {
     pub burst: Option<Burst>,
 }
 
-/// What came of a stream that was to be stored, of what was to be retired before it, and of the label and the pin of its case.
+/// The result of a stream that was to be stored, of the retirement before it, and of the label and the pin of its case.
 #[derive(Clone, Copy, PartialEq, Eq, Debug)]
 pub struct StoreOutcome {
     /// False only if cases were to be retired first, and that was answered `no REASON`.
     pub retired_first: bool,
-    /// The number of the case, where it is stored.
+    /// The number of the case, if it is stored.
     pub stored: Option<u32>,
     /// False only where the case was to have a label, and that was answered `no REASON`.
     pub labelled: bool,
@@ -79,7 +79,7 @@ pub enum MemoryFault {
     /// The shape is outside its limits.
     #[error("the shape is outside its limits")]
     BadShape,
-    /// There was no memory for the disk, for what it keeps of its writes while the archive was made, or to open the archive.
+    /// There was no memory for the disk, for the copies that it keeps of its writes while the archive was made, or to open the archive.
     #[error("out of memory")]
     OutOfMemory,
     /// The session ended before its script.

@@ -56,23 +56,23 @@ pub(crate) enum LengthFault {
 /// Stores one stream, with these options. A policy, if one is given, is carried out before it.
 ///
 /// - Room is made as by the line `retire` of a session, if the stream can begin then: `found` is a stream, and no case that
-///   stays has its name. Otherwise nothing is retired, and nothing is told of it. The stream is stored whatever was answered.
-/// - If the options have a burst, and the stream is a core that would be one too many of its program, no stream is found, for the
-///   reason `Burst`: all that follows is as of a `found` with that reason.
-/// - The stream begins in slot 0, or is refused for the reason that `found` has. Where it begins, it takes all bytes of `file`
+///   stays has its name. Otherwise nothing is retired, and there is no text about it. The stream is stored whatever the reply was.
+/// - If the options have a burst, and the stream is a core that would be one too many of its program, no stream is found, with the
+///   reason `Burst`: all that follows is as for a `found` with that reason.
+/// - The stream begins in slot 0, or is refused for the reason that `found` has. If it begins, it takes all bytes of `file`
 ///   and becomes a case. The reply is that of the line `begin`, and then that of the first step that was refused, or else
 ///   that of the line `end 0`. A `file` that cannot be read, or that has not ended after 2^40 reads, is a step that is
 ///   refused with the reply `no File`.
-/// - If cases may go so that it fits, and no data block is free where bytes come, or the journal has no room for the case's record
-///   at the end, the case that goes next is deleted, as by the line `delete` of a session, and told as `dropped N` after the reply to
+/// - If cases may go so that it fits, and no data block is free when bytes come, or the journal has no room for the case's record
+///   at the end, the case that goes next is deleted, as by the line `delete` of a session, and `dropped N` is printed after the reply to
 ///   `begin`; and so on, until there is room or all cases that are left are pinned. If one can't be deleted, that is the step that
 ///   was refused. The record is taken to lie in one run of blocks more than the image has so far.
-/// - If so many bytes may be kept at most of a `file` that has more, it is cut: where that many are taken, or whole blocks are, and no
-///   data block is free, after cases went, if they may. What was taken becomes the case. If it is stored, that is told as `cut KEPT`
+/// - If so many bytes may be kept at most of a `file` that has more, it is cut: when that many are taken, or whole blocks are, and no
+///   data block is free, after cases went, if they may. The bytes that were taken become the case. If it is stored, `cut KEPT` is printed
 ///   before the reply to the end.
 /// - If the length of `file` is stated, a case is stored only if its image has it, or `file` was cut before. A `file` that ends earlier is a
-///   step that is refused with the reply `no Short`. One that goes on is one with `no TooLong`: its first byte that is too many is read, and
-///   none behind it.
+/// step that is refused with the reply `no Short`. One that goes on is one with `no TooLong`: its first byte that is too many is read, and
+///   none after it.
 /// - Once the case is stored, it gets its label as by the line `label` of a session, and then it is pinned as by the line `pin`.
 ///   A case whose label or pin is refused stays.
 ///
@@ -80,7 +80,7 @@ pub(crate) enum LengthFault {
 ///
 /// # Errors
 ///
-/// `WriteFailed` where the output failed: it has a front of the replies. All is done that would have been done.
+/// `WriteFailed` if the output failed: it has a front of the replies. All is done that would have been done.
 pub fn store_stream<I: Input, O: Output, D: Disk>(
     policy: Option<Policy>,
     found: Result<NewStream, &'static [u8]>,
@@ -175,7 +175,7 @@ fn label_case<O: Output, D: Disk>(
     }
 }
 
-// Begins this stream, or is refused for this reason, and then takes its file. Says the number of the case, where it is stored.
+// Begins this stream, or is refused for this reason, and then takes its file. Returns the number of the case, if it is stored.
 fn answer_store<I: Input, O: Output, D: Disk>(
     fit: bool,
     order: Order,
@@ -209,7 +209,7 @@ fn answer_first<O: Output, D: Disk>(
     answer_begin(0, found, reply, archive)
 }
 
-// Takes a file into the stream in slot 0, and makes it a case. Says its number, where it is stored.
+// Takes a file into the stream in slot 0, and makes it a case. Returns its number, if it is stored.
 fn answer_file<I: Input, O: Output, D: Disk>(
     fit: bool,
     order: Order,

@@ -16,13 +16,13 @@ use std::alloc::Global;
 use stream_names::NewStream;
 
 /// Opens the archive on a disk, stores one stream as `store_stream` does, and hands the disk back. Crash safety is that of
-/// `open_and_run` over the lines `retire`, `begin`, `end 0`, `label` and `pin`, of which each is there that was carried out. So a
-/// machine that stops once cases are retired may have lost what was retired, and not have the new case; and one that stops once the
+/// `open_and_run` over those of the lines `retire`, `begin`, `end 0`, `label` and `pin` that were carried out. So a
+/// machine that stops once cases are retired may have lost these cases, and not have the new one; and one that stops once the
 /// case is stored may not have its label, nor its pin.
 ///
 /// # Errors
 ///
-/// `Open` where the archive could not be opened: nothing is written then, and no stream is touched. `Session` as
+/// `Open` if the archive could not be opened: nothing is written then, and no stream is touched. `Session` as
 /// `store_stream` ends.
 pub fn open_and_store<I: Input, O: Output, D: Disk>(
     alloc: Global,
