@@ -1,4 +1,4 @@
--- What is told of the cases that would go.
+-- The text about the cases that would go.
 use Rattle.std.specs.Prelude.{◌≡◌, ℕ, List, ◌∷◌, map, Option, None, Some, Result, Ok, Err, codes}
 use Rattle.archive_files.specs.declared.failures.Failure.{Failure}
 use Rattle.archive_files.specs.declared.failures.Failure.TheVariants.{Refused, Faulted}
@@ -19,7 +19,7 @@ use Rattle.script_lines.specs.Said.{retire_by, said}
 use Rattle.script_streams.specs.Telling.{IsDelivered}
 use Rattle.script_streams.specs.declared.streams.StreamFault.{StreamFault}
 
--- The policy is that of the line `retire` with the words behind `would-retire`. If there is none, the first word is another.
+-- The policy is that of the line `retire` with the words after `would-retire`. If there is no policy, the first word is another.
 abbrev pub IsPolicyOf : List (List ℕ) → Option Policy → Type 0
 IsPolicyOf words None = (others : List (List ℕ)) → words ≡ codes "would-retire" ∷ others → ⊥
 IsPolicyOf words (Some policy) = (others : List (List ℕ)) × (words ≡ codes "would-retire" ∷ others) × (said (joined (codes "retire" ∷ others)) ≡ retire_by policy)
@@ -33,12 +33,12 @@ sent_told (Err fault) = Err (Faulted WriteFailed)
 abbrev pub ForeseenTold : Decision → Option (List ℕ) → Option (List ℕ) → ℕ → ℕ → Result (Unit {0}) StreamFault → Type 0
 ForeseenTold d before after count count' sent = IsDelivered before count after count' (retire_reply (Ok d)) sent
 
--- What the rule says of these cases is told, all of it or a front of it.
+-- The decisions of the rule about these cases are printed, all of them or a front.
 abbrev pub IsForeseen : List Case → Policy → Option (List ℕ) → Option (List ℕ) → ℕ → ℕ → Result (Unit {0}) Failure → Type 0
 IsForeseen cases policy before after count count' r =
     (d : Decision) × (sent : Result (Unit {0}) StreamFault) × IsDecision policy (map brief_of cases) d.dropped.items d.unmet × ForeseenTold d before after count count' sent × (r ≡ sent_told sent)
 
--- the same, by the answer; where it is refused nothing is told
+-- the same, by the answer; if it is refused, nothing is printed
 abbrev pub ForeseenIn : List Case → Policy → Option (List ℕ) → Option (List ℕ) → ℕ → ℕ → Result (Unit {0}) Failure → Type 0
 ForeseenIn cases policy before after count count' (Err (Refused refusal)) = (after ≡ before) × (count' ≡ count)
 ForeseenIn cases policy before after count count' r = IsForeseen cases policy before after count count' r
@@ -48,7 +48,7 @@ abbrev pub ForeseenOf : {D : Type 0} → Policy → Option (List ℕ) → Option
 ForeseenOf policy before after count count' (Ok a) r = ForeseenIn (state_of a).cases policy before after count count' r
 ForeseenOf policy before after count count' (Err (fault, d)) r = (r ≡ Err (Refused (Open fault))) × (after ≡ before) × (count' ≡ count)
 
--- The archive on a disk is opened, and it is told which of its cases would go.
+-- The archive on a disk is opened, and the cases that would go are printed.
 abbrev pub Foresees : {D : Type 0} → disk.Ghosts D → Policy → Option (List ℕ) → Option (List ℕ) → ℕ → ℕ → D → Result (Unit {0}) Failure → Type 0
 Foresees {D} g policy before after count count' before_disk r =
     (opened : Result (Parts D) (OpenFault × D)) × OpenCall g 0 before_disk opened × ForeseenOf policy before after count count' opened r

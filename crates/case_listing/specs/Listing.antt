@@ -1,4 +1,4 @@
--- What is listed of the cases of an archive.
+-- The list of the cases of an archive.
 use Rattle.std.specs.Prelude.{◌≡◌, ◌==◌, ℕ, Bool, true, false, not, List, [], ◌∷◌, ◌++◌, length, Option, None, Some, Result, Ok, Err, IfOk}
 use Rattle.std.specs.Io.KnownBytes.{Appends}
 use Rattle.std.specs.Option.{option_copied}
@@ -22,7 +22,7 @@ use Rattle.journal_layout.specs.declared.faults.OpenFault.{OpenFault}
 abbrev pub TellsCases : List Case → Option (List ℕ) → Option (List ℕ) → Type 0
 TellsCases cases before after = (text : List ℕ) × (read text ≡ Some (cases_json cases)) × Appends before after (text ++ 10 ∷ [])
 
--- Those of the cases that are wanted are told, as a table or as JSON, to an output that had taken `before`; and whether there are any.
+-- The wanted cases are printed, as a table or as JSON, to an output that had taken `before`; and whether there are any.
 pub record Lists (is_json : Bool) (wanted : Wanted) (cases : List Case) (before after : Option (List ℕ)) (some : Bool) : Type 0 where
   pub told : is_json ≡ false → Appends before after (list_table (chosen wanted cases))
   pub told_json : is_json ≡ true → TellsCases (chosen wanted cases) before after
@@ -38,7 +38,7 @@ abbrev pub ListsOn : {D : Type 0} → disk.Ghosts D → Bool → Wanted → Opti
 ListsOn {D} g is_json wanted before after before_disk r =
     (opened : Result (Parts D) (OpenFault × D)) × OpenCall g 0 before_disk opened × ListsBy is_json wanted before after opened r
 
--- what the text of a filter says is a time, if there is one
+-- the text of a filter is a time, if there is such a text
 abbrev pub IsTimeSaid : Option ℕ → Option (List ℕ) → Option ℕ → Type 0
 IsTimeSaid now None time = time ≡ None
 IsTimeSaid now (Some text) None = ⊥

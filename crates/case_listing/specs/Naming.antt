@@ -27,7 +27,7 @@ NamedBy word (Err (fault, d)) r = r ≡ Err (Open fault)
 abbrev pub NamesOn : {D : Type 0} → disk.Ghosts D → List ℕ → D → Result ℕ Refusal → Type 0
 NamesOn {D} g word before r = (opened : Result (Parts D) (OpenFault × D)) × OpenCall g 0 before opened × NamedBy word opened r
 
--- What a line asks is what the script says of it, or nothing.
+-- The request of a line is that of the script, or none.
 abbrev pub AsksLine : List ℕ → Option Question → Type 0
 AsksLine line None = is_question (said line) ≡ false
 AsksLine line (Some question) = question_said question ≡ said line
@@ -43,7 +43,7 @@ abbrev pub AsksWith : List ℕ → List (List ℕ) → Option Question → Type 
 AsksWith number (first ∷ second ∷ others) asked = AsksLine (joined (with_second number (first ∷ second ∷ others))) asked
 AsksWith number words asked = asked ≡ None
 
--- Words whose second one may name a case ask what they ask of the case 1.
+-- Words whose second one may name a case have the same request as with the case 1.
 abbrev pub NamesCase : List (List ℕ) → Option Question → Type 0
 NamesCase words None = Unit {0}
 NamesCase words (Some question) = AsksWith (codes "1") words (Some question)

@@ -28,7 +28,8 @@ fn is_number(word: &str) -> bool {
     parse_number(word.as_bytes()).is_some()
 }
 
-/// What a line asks whose second word names a case instead of giving its number, as if the number were 1. `None` if that word is a number, or
+/// The request of a line whose second word names a case instead of giving its number, as if the number were 1. `None` if that word is a
+/// number, or
 /// these words are no such line.
 ///
 /// # Errors
@@ -43,7 +44,8 @@ pub fn named_question(alloc: Global, words: &[&str]) -> Result<Option<Question>,
     }
 }
 
-// What the line of these words asks with this number for the case, which is the second word. Other words stay, even if they have its text.
+// The request of the line of these words with this number for the case, which is the second word. Other words stay, even if they have its
+// text.
 fn numbered(alloc: Global, words: &[&str], number: &str) -> Result<Option<Question>, AllocError>
     ensures with_second { IfOk result (AsksWith number.now (map (λ word. word.now) words.now)) }
 {
@@ -130,7 +132,7 @@ fn number_found(number: Option<u32>) -> Result<u32, Refusal>
 ///
 /// # Errors
 ///
-/// Those of `extract` of `archive_files`. If the word is no number, what the look at the archive is refused for, and `NoCase` if no case
+/// Those of `extract` of `archive_files`. If the word is no number, the refusal of the look at the archive, and `NoCase` if no case
 /// has this name.
 pub fn extract_case<R: AllocGlobal + Files<File = File>, O: Output, W: Onlooker>(
     rt: &R,
@@ -164,7 +166,7 @@ pub struct NamedLine<'w> {
 ///
 /// # Errors
 ///
-/// Those of `ask` of `archive_files`. Before, what the look at the archive is refused for, and `NoCase` if no case has this name.
+/// Those of `ask` of `archive_files`. Before, the refusal of the look at the archive, and `NoCase` if no case has this name.
 pub fn ask_case<R: AllocGlobal + Files<File = File> + Clock, O: Output, W: Onlooker>(
     rt: &R,
     place: ArchivePath<'_>,

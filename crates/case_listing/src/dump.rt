@@ -9,7 +9,7 @@ use script_words::{Words, decode_hex};
 // The most bytes of a row.
 const ROW: usize = 16;
 
-// Tells the reply of `dump` that ended so.
+// Prints the reply of `dump` that ended so.
 pub(crate) fn deliver_dump<O: Output>(
     text: &[u8],
     asked: Result<(), Failure>,
@@ -25,7 +25,7 @@ pub(crate) fn deliver_dump<O: Output>(
     asked
 }
 
-// Tells a line of the reply, and the text of its bytes below that of the other rows.
+// Prints a line of the reply, and the text of its bytes below that of the other rows.
 fn tell_row<O: Output>(reply: &mut Reply<'_, O>, line: &[u8]) {
     tell_plain(reply, line);
     if let Some(bytes) = bytes_of(line) {

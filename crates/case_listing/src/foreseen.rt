@@ -64,11 +64,11 @@ fn retire_line(alloc: Global, words: &[&str]) -> Result<Vec<u8>, AllocError>
     line_of(alloc, &line)
 }
 
-/// Tells which cases `retire` would drop, as it would tell it, from a look at the archive. Nothing is changed.
+/// Prints which cases `retire` would drop, as it would print it, from a look at the archive. Nothing is changed.
 ///
 /// # Errors
 ///
-/// What `take_look` of `archive_files` and an opening are refused for. `OutOfMemory`: nothing is told. `WriteFailed` if the reply could
+/// The refusals of `take_look` of `archive_files` and of an opening. `OutOfMemory`: nothing is printed. `WriteFailed` if the reply could
 /// not be written.
 pub fn would_retire<R: AllocGlobal + Files<File = File>, O: Output>(
     rt: &R,
@@ -82,7 +82,7 @@ pub fn would_retire<R: AllocGlobal + Files<File = File>, O: Output>(
     foresee(alloc, disk, policy, output)
 }
 
-// Opens the archive on a disk, and tells what the rule says of its cases.
+// Opens the archive on a disk, and prints the decisions of the rule about its cases.
 fn foresee<D: Disk + Drop, O: Output>(
     alloc: Global,
     disk: D,
@@ -97,7 +97,7 @@ fn foresee<D: Disk + Drop, O: Output>(
     }
 }
 
-// Tells what the rule says of an archive's cases.
+// Prints the decisions of the rule about an archive's cases.
 fn foresee_in<D: Disk, O: Output>(
     alloc: Global,
     archive: &Archive<D>,
@@ -118,7 +118,7 @@ fn foresee_in<D: Disk, O: Output>(
     }
 }
 
-// Tells a decision, as `retire` tells it.
+// Prints a decision, as `retire` does.
 fn tell_decision<O: Output>(decision: Decision, output: &mut O) -> Result<(), Failure>
     ensures { (sent : Result (Unit {0}) StreamFault) × ForeseenTold decision (O.taken output.old) (O.taken output.new) (O.failures output.old) (O.failures output.new) sent × (result ≡ sent_told sent) }
 {
@@ -136,7 +136,7 @@ pub(crate) fn sent_told(sent: Result<(), StreamFault>) -> Result<(), Failure>
     }
 }
 
-// What the rule says of cases, if their numbers rise: an opening sees to it that they do.
+// The decisions of the rule about cases, if their numbers rise: an opening sees to it that they do.
 fn decided(alloc: Global, cases: &[Entry], policy: &Policy) -> Result<Option<Decision>, AllocError>
     ensures { IfOk result (λ o. IfSome o (λ d. IsDecision policy.now (map brief_of_entry cases.now) d.dropped.items d.unmet)) }
 {
@@ -147,7 +147,7 @@ fn decided(alloc: Global, cases: &[Entry], policy: &Policy) -> Result<Option<Dec
     Ok(Some(decide(alloc, &briefs, policy)?))
 }
 
-// What the rule looks at of the cases.
+// The facts of the cases that the rule uses.
 fn briefs_of(alloc: Global, cases: &[Entry]) -> Result<Vec<Brief>, AllocError>
     ensures { IfOk result (λ briefs. briefs.items ≡ map brief_of_entry cases.now) }
 {

@@ -20,7 +20,7 @@ use std::fs::File;
 use std::rt::Files;
 use std::time::Clock;
 
-/// What the words of `list` ask for.
+/// The request of the words of `list`.
 #[derive(Clone, Copy)]
 pub struct ListWords<'a> {
     /// Which cases, but for their times.
@@ -29,7 +29,7 @@ pub struct ListWords<'a> {
     pub since: Option<&'a str>,
     /// The time that the last is before, as the words have it.
     pub until: Option<&'a str>,
-    /// They are told as JSON.
+    /// They are printed as JSON.
     pub is_json: bool,
 }
 
@@ -48,7 +48,7 @@ impl<'a> ListWords<'a> {
             || wanted.last.is_some()
     }
 
-    // What is wanted, at this time.
+    // The wanted cases, at this time.
     fn wanted_at(&self, now: Option<u64>) -> Result<Wanted<'a>, Refusal>
         ensures { IfOk result (IsWantedAt now self.now) }
     {
@@ -71,11 +71,11 @@ fn time_said(text: Option<&str>, now: Option<u64>) -> Result<Option<u64>, Refusa
     }
 }
 
-/// Tells the cases that are asked for, from a look at the archive.
+/// Prints the cases that are asked for, from a look at the archive.
 ///
 /// # Errors
 ///
-/// `BadLine` if a time can't be read. What `take_look` of `archive_files` and an opening are refused for. `WriteFailed` if the list could
+/// `BadLine` if a time can't be read. The refusals of `take_look` of `archive_files` and of an opening. `WriteFailed` if the list could
 /// not be written. `Told` if only some cases are asked for, and there are none.
 pub fn list<R: AllocGlobal + Files<File = File> + Clock, O: Output>(
     rt: &R,
@@ -96,7 +96,7 @@ pub fn list<R: AllocGlobal + Files<File = File> + Clock, O: Output>(
     }
 }
 
-// Opens the archive on a disk, and tells the cases that are wanted. Says whether there are any.
+// Opens the archive on a disk, and prints the wanted cases. Returns whether there are any.
 fn list_over<D: Disk + Drop, O: Output>(
     alloc: Global,
     disk: D,

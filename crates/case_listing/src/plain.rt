@@ -13,12 +13,13 @@ use std::fs::File;
 use std::rt::Files;
 use std::time::Clock;
 
-/// Answers a line, and tells its reply as people read it; that of `dump` has the bytes as text too. Without a question its second word names a case. The reply is
-/// held until the line is done.
+/// Answers a line, and prints its reply for people; that of `dump` has the bytes as text too. Without a question its second word names a
+/// case. The
+/// reply is held until the line is done.
 ///
 /// # Errors
 ///
-/// Those of `ask` and of `ask_case`. `WriteFailed` too if there is no memory to hold the reply: a front of it is told.
+/// Those of `ask` and of `ask_case`. `WriteFailed` too if there is no memory to hold the reply: a front of it is printed.
 pub fn ask_plain<R: AllocGlobal + Files<File = File> + Clock, O: Output, W: Onlooker>(
     rt: &R,
     place: ArchivePath<'_>,
@@ -38,7 +39,7 @@ pub fn ask_plain<R: AllocGlobal + Files<File = File> + Clock, O: Output, W: Onlo
     deliver_plain(reply.text(), asked, output)
 }
 
-// Tells the reply of a line that ended so.
+// Prints the reply of a line that ended so.
 fn deliver_plain<O: Output>(
     text: &[u8],
     asked: Result<(), Failure>,

@@ -23,7 +23,7 @@ abbrev pub AnswersOver : {D : Type 0} → disk.Ghosts D → Said → Option (Lis
 AnswersOver {D} g what taken taken' lost lost' before r =
     (after : D) × LifeEnds g 0 (line_streams [] r taken taken' lost lost') before r after (AsksAlone g what taken taken')
 
--- one question is answered over what the last look saw
+-- one question is answered over the archive that the last look saw
 abbrev pub AnswersSeen : {S : Type 0} (g : shared.Ghosts S) → disk.Ghosts (Unlocked S g) → S → Said → Option (List ℕ) → Option (List ℕ) → ℕ → ℕ → Result Bool LifeFault → Type 0
 AnswersSeen {S} g U s what taken taken' lost lost' r = (d : Unlocked S g) × (under d ≡ s) × AnswersOver U what taken taken' lost lost' d r
 
@@ -31,8 +31,8 @@ AnswersSeen {S} g U s what taken taken' lost lost' r = (d : Unlocked S g) × (un
 abbrev pub AnswersInVain : {S : Type 0} (g : shared.Ghosts S) → disk.Ghosts (Unlocked S g) → S → Said → Option (List ℕ) → Option (List ℕ) → ℕ → ℕ → Type 0
 AnswersInVain {S} g U s what taken taken' lost lost' = (done : Bool) × AnswersSeen g U s what taken taken' lost lost' (Ok done)
 
--- What the question promises of a disk holds: that disk gives what the look saw, and is honest whenever the disk that others change is
--- and holds an archive all the time. Each refusal has its reason. `Gone` says that a case was there at the look, and not at the next.
+-- The promises of the question about a disk hold: that disk gives the bytes that the look saw, and is honest whenever the disk that others
+-- change is and holds an archive all the time. Each refusal has its reason. `Gone` says that a case was there at the look, and not at the next.
 abbrev pub AsksUnlocked : {S : Type 0} (g : shared.Ghosts S) → disk.Ghosts (Unlocked S g) → S → Said → Option (List ℕ) → Option (List ℕ) → ℕ → ℕ → Result Bool AskFault → Type 0
 AsksUnlocked {S} g U s what taken taken' lost lost' (Ok done) =
     (d : Unlocked S g) × (under d ≡ s) × AnswersOver U what taken taken' lost lost' d (Ok done) × Meanwhile g s (λ x ys. IsTrue (U.is_honest d))
@@ -44,7 +44,7 @@ AsksUnlocked g U s what taken taken' lost lost' (Err (fault.Reopen f)) = Answers
 AsksUnlocked g U s what taken taken' lost lost' (Err fault.Gone) =
     AnswersInVain g U s what taken taken' lost lost' × Meanwhile g s (λ x ys. (n : ℕ) × HasOne x n × HasNone (last_state x ys) n)
 
--- At the next look all cases of these numbers are there, or one of them is not, or nobody can tell.
+-- At the next look all cases of these numbers are there, or one of them is not, or nobody can say.
 abbrev pub LeavesAllThere : {S : Type 0} (g : shared.Ghosts S) → disk.Ghosts (Unlocked S g) → S → List ℕ → Result (Unit {0}) AskFault → Type 0
 LeavesAllThere g U s numbers (Ok u) = IsTrue (g.is_honest s) → (b : List ℕ) × EndsWith (g.meanwhile s) b × ((z : Durable) → StandsFor b z → HasEach z numbers)
 LeavesAllThere g U s numbers (Err (fault.Look f)) = Unit {0}

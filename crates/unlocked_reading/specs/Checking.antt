@@ -32,11 +32,11 @@ use Rattle.unlocked_reading.specs.declared.faults.UnlockedCheckFault.{UnlockedCh
 use Rattle.unlocked_reading.specs.declared.faults.UnlockedCheckFault.TheVariants as fault
 use Rattle.unlocked_reading.specs.declared.images.SeenCase.{SeenCase}
 
--- what is found of the image of the case of this number at the last look
+-- the finding on the image of the case of this number at the last look
 abbrev pub IsVerdictOf : Durable → ℕ → Verdict → Type 0
 IsVerdictOf x seq verdict = HasOne x seq × ((f : FoundCase) → IsNumbered x seq f → verdict ≡ verdict_of f.case.origin.kind f.image)
 
--- the line of a case that is there at the next look too: what is found of its image
+-- the line of a case that is there at the next look too: the finding on its image
 abbrev pub ToldAsThere : {S : Type 0} → shared.Ghosts S → S → ℕ → List ℕ → Type 0
 ToldAsThere g s seq line = (verdict : Verdict) × (line ≡ verdict_line seq verdict) × Meanwhile g s (λ x ys. HasOne (last_state x ys) seq × IsVerdictOf x seq verdict)
 
@@ -49,15 +49,15 @@ abbrev pub CasesTold : {S : Type 0} → shared.Ghosts S → S → List Case → 
 CasesTold g s [] lines = lines ≡ []
 CasesTold g s (c ∷ cs) lines = (one : List ℕ) × (rest : List ℕ) × (lines ≡ one ++ rest) × (ToldAsThere g s c.seq one ⊎ ToldAsGone g s c.seq one) × CasesTold g s cs rest
 
--- The text of a check: what the archive holds that the last look saw, a line for each of its cases if the images are asked for, and `sound`.
+-- The text of a check: the contents of the archive that the last look saw, a line for each of its cases if the images are asked for, and `sound`.
 abbrev pub IsCheckText : {S : Type 0} (g : shared.Ghosts S) → disk.Ghosts (Unlocked S g) → S → Bool → List ℕ → Type 0
 IsCheckText {S} g U s sees text =
     (d : Unlocked S g) × (under d ≡ s) × Meanwhile g s (λ x ys. IsTrue (U.is_honest d)) × (a : Parts (Unlocked S g)) × OpenCall U 0 d (Ok a)
     × (space : Space) × FreeReply (state_of a) (Ok space) × (lines : List ℕ) × CasesTold g s (cases_seen (state_of a) sees) lines
     × (text ≡ facts_lines (state_of a).version (length (state_of a).cases) space ++ (lines ++ codes "sound\n"))
 
--- It is told what the archive held at the last look, and of each case what was found of its image, or that it is gone. Each refusal has
--- its reason. On all but a failure of the output nothing is written.
+-- The contents of the archive at the last look are printed, and for each case the finding on its image, or that it is gone. Each refusal has
+-- its reason. With any result but a failure of the output nothing is written.
 abbrev pub ChecksUnlocked : {S : Type 0} (g : shared.Ghosts S) → disk.Ghosts (Unlocked S g) → S → Bool → Option (List ℕ) → Option (List ℕ) → ℕ → ℕ → Result (Unit {0}) UnlockedCheckFault → Type 0
 ChecksUnlocked g U s sees taken taken' lost lost' (Ok u) = (text : List ℕ) × IsCheckText g U s sees text × Appends taken taken' text
 ChecksUnlocked g U s sees taken taken' lost lost' (Err fault.Output) = (text : List ℕ) × IsCheckText g U s sees text × (why : StreamFault) × IsDelivered taken lost taken' lost' text (Err why)
@@ -66,18 +66,18 @@ ChecksUnlocked g U s sees taken taken' lost lost' (Err (fault.Archive f)) = (tak
 ChecksUnlocked g U s sees taken taken' lost lost' (Err (fault.Look f)) = (taken' ≡ taken) × (lost' ≡ lost) × (sees ≡ true)
 ChecksUnlocked g U s sees taken taken' lost lost' (Err (fault.Reopen f)) = (taken' ≡ taken) × (lost' ≡ lost) × (sees ≡ true) × RefusesAgain g U s f
 
--- What was seen of a case: if it is there at the next look, this is what is found of its image.
+-- The result for a case: if it is there at the next look, this is the finding on its image.
 abbrev pub IsSeen : {S : Type 0} → shared.Ghosts S → S → ℕ → Verdict → Type 0
 IsSeen g s seq verdict = Meanwhile g s (λ x ys. HasOne (last_state x ys) seq → IsVerdictOf x seq verdict)
 
--- What an open archive holds, and what was found of its images if they are asked for.
+-- The contents of an open archive, and the findings on its images if they are asked for.
 pub record Holds {S : Type 0} {D : Type 0} (g : shared.Ghosts S) (U : disk.Ghosts D) (s : S) (a : Parts D) (sees : Bool) (f : Findings) : Type 0 where
   pub version : f.version ≡ (state_of a).version
   pub count : f.count ≡ length (state_of a).cases
   pub free : FreeReply (state_of a) (Ok f.space)
   pub cases : AreSeen (IsRead g U s a) (cases_seen (state_of a) sees) f.cases.items
 
--- the same of what the last look saw, or why nobody can tell
+-- the same for the archive that the last look saw, or why nobody can say
 abbrev pub Examines : {S : Type 0} (g : shared.Ghosts S) → disk.Ghosts (Unlocked S g) → S → Bool → Result Findings UnlockedCheckFault → Type 0
 Examines {S} g U s sees (Ok f) =
     (d : Unlocked S g) × (under d ≡ s) × Meanwhile g s (λ x ys. IsTrue (U.is_honest d)) × (a : Parts (Unlocked S g)) × OpenCall U 0 d (Ok a)
@@ -86,7 +86,7 @@ Examines g U s sees (Err (fault.Open f)) = RefusesOpening g U s f
 Examines g U s sees (Err (fault.Archive f)) = IsReadFault f
 Examines g U s sees (Err _) = ⊥
 
--- what is to be told of a case, where these numbers are there
+-- the line about a case, if these numbers are there
 abbrev pub settled : (ℕ → Bool) → SeenCase → ToldCase
 settled there c = record { seq = c.seq; verdict = if there c.seq then Some c.verdict else None }
 
@@ -101,7 +101,7 @@ AreSettled g s [] [] = Unit {0}
 AreSettled g s (c ∷ cs) (t ∷ ts) = (t.seq ≡ c.seq) × IsSettled g s c.seq c.verdict t.verdict × AreSettled g s cs ts
 AreSettled g s _ _ = ⊥
 
--- It is looked at again, if there are cases: which of them are there by then, or why nobody can tell.
+-- The archive is looked at again, if there are cases: which of them are there by then, or why nobody can say.
 abbrev pub LooksBack : {S : Type 0} (g : shared.Ghosts S) → disk.Ghosts (Unlocked S g) → S → List SeenCase → Result (Vec ToldCase Global) UnlockedCheckFault → Type 0
 LooksBack g U s cases (Ok told) = AreSettled g s cases told.items
 LooksBack g U s cases (Err (fault.Archive f)) = f ≡ OutOfMemory
@@ -117,7 +117,7 @@ told_words seq (Some verdict) = verdict_line seq verdict
 abbrev pub told_line : ToldCase → List ℕ
 told_line c = told_words c.seq c.verdict
 
--- the lines of what was found
+-- the lines of the findings
 abbrev pub report_text : Findings → List ToldCase → List ℕ
 report_text f cases = facts_lines f.version f.count f.space ++ (flat_map told_line cases ++ codes "sound\n")
 

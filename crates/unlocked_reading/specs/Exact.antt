@@ -1,4 +1,4 @@
--- What a check of the images has told where it is done.
+-- The text of a check of the images that is done.
 use Rattle.std.specs.Prelude.{◌≡◌, ◌⊎◌, ℕ, true, List, [], ◌∷◌, ◌++◌, length, Option, Ok, IsTrue, codes}
 use Rattle.std.specs.Io.KnownBytes.{Appends}
 use Rattle.disk_model.specs.declared.disk.Disk as disk
@@ -13,7 +13,7 @@ use Rattle.archive_checks.specs.Verdicts.{gone_line, image_line}
 use Rattle.unlocked_reading.specs.Checking.{ChecksUnlocked}
 use Rattle.unlocked_reading.specs.History.{HasNone, HasOne, HoldsArchive}
 
--- The line of a case: what is found of its image, if the archive still has it, and else that it is gone.
+-- The line of a case: the finding on its image, if the archive still has it, and else that it is gone.
 abbrev pub IsLineOf : Durable → FoundCase → List ℕ → Type 0
 IsLineOf last f line =
     (HasOne last f.case.seq × (line ≡ image_line f.case.seq f.case.origin.kind f.image)) ⊎ (HasNone last f.case.seq × (line ≡ gone_line f.case.seq))

@@ -1,4 +1,4 @@
--- What no call answers where a case is gone at the next look, or where none is, as statements.
+-- Answers that no call gives if a case is gone at the next look, or if there is none, as statements.
 use Rattle.std.specs.Prelude.{ℕ, List, Option, Ok, Err, IsTrue}
 use Rattle.std.specs.Io.KnownBytes.{Appends}
 use Rattle.disk_model.specs.declared.disk.Disk as disk
@@ -26,7 +26,7 @@ NoCaseIsGoneAtWill {S} g U =
     (s : S) (what : Said) (taken taken' : Option (List ℕ)) (lost lost' : ℕ) (shape : Shape) (x : Durable) (ys : List Durable) → IsTrue (g.is_honest s) → HoldsArchive g s shape x ys
     → ((n : ℕ) → HasOne x n → HasOne (last_state x ys) n) → AsksUnlocked g U s what taken taken' lost lost' (Err ask.Gone) → ⊥
 
--- there was a case of the number, and what is copied is the image of each case that has it
+-- there was a case of the number, and the bytes that are copied are the image of each case that has it
 abbrev pub CopiesAreOfTheCase : {S : Type 0} (g : shared.Ghosts S) → disk.Ghosts (Unlocked S g) → Type 0
 CopiesAreOfTheCase {S} g U =
     (s : S) (seq : ℕ) (start taken : Option (List ℕ)) (count failures : ℕ) (shape : Shape) (x : Durable) (ys : List Durable) → IsTrue (g.is_honest s) → HoldsArchive g s shape x ys

@@ -1,4 +1,4 @@
--- What is found of images that are read while others may change them.
+-- Findings on images that are read while others may change them.
 use Rattle.std.specs.Prelude.{◌≡◌, ℕ, true, List, [], ◌∷◌, IsTrue}
 use Rattle.disk_model.specs.declared.disk.Disk as disk
 use Rattle.intake.specs.Parts.{Parts}
@@ -11,13 +11,13 @@ use Rattle.archive_checks.specs.Verdicts.{verdict_of}
 use Rattle.archive_checks.specs.declared.verdict.Verdict.{Verdict}
 use Rattle.unlocked_reading.specs.declared.images.SeenCase.{SeenCase}
 
--- If nobody changes the bytes of a case's image meanwhile, this is what is found of them.
+-- If nobody changes the bytes of a case's image meanwhile, this is the finding on them.
 pub record IsRead {S : Type 0} {D : Type 0} (g : shared.Ghosts S) (U : disk.Ghosts D) (s : S) (a : Parts D) (seq : ℕ) (verdict : Verdict) : Type 0 where
   pub ranges : List ByteRange
   pub locates : Locates U a seq ranges
   pub is : IsTrue (g.is_honest s) → are_steady ranges (g.looked s) (g.meanwhile s) ≡ true → verdict ≡ verdict_of locates.found.origin.kind (bytes_in (g.looked s) ranges)
 
--- the cases, each with what was found of its image
+-- the cases, each with the finding on its image
 abbrev pub AreSeen : (ℕ → Verdict → Type 0) → List Case → List SeenCase → Type 0
 AreSeen P [] [] = Unit {0}
 AreSeen P (c ∷ cs) (v ∷ vs) = (v.seq ≡ c.seq) × P c.seq v.verdict × AreSeen P cs vs

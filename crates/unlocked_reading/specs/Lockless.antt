@@ -1,4 +1,4 @@
--- Looks without a lock: what they saw, and what the disk did from the one to the other, is an archive all the time.
+-- Looks without a lock: the bytes that they saw, and the writes of the disk from one to the next, are an archive all the time.
 use Rattle.std.specs.Prelude.{◌≡◌, ◌⊎◌, ℕ, zero, suc, ◌+◌, ◌-◌, ◌<◌, ◌≤◌, List, [], ◌∷◌, length, Ok}
 use Rattle.intake.specs.Durable.{Durable, durable_in}
 use Rattle.intake.specs.InTurn.{IsLater}
@@ -23,8 +23,8 @@ pub record IsFrontSeen (moments : List (List ℕ)) (shape : Shape) (front : List
   pub shaped : opened.shape ≡ shape
   pub opens : front_opening (seen_over front (moment moments seen.at)) ≡ Ok opened
 
--- What the disk is taken to hold from one look to the next: what the first look saw, over the data blocks of its moment; what it did at each moment
--- up to that of the next look; and what that one saw.
+-- The assumed contents of the disk from one look to the next: the bytes that the first look saw, over the data blocks of its moment; the writes at
+-- each moment up to that of the next look; and the bytes that this one saw.
 pub record IsWatched {S : Type 0} (g : shared.Ghosts S) (s : S) (moments : List (List ℕ)) (shape : Shape) : Type 0 where
   pub first : List ℕ
   pub second : List ℕ
@@ -41,7 +41,7 @@ pub record IsWatched {S : Type 0} (g : shared.Ghosts S) (s : S) (moments : List 
       → (c ≡ g.looked s) ⊎ ((m : ℕ) × (look.seen.at ≤ m) × (m ≤ again.seen.at) × (c ≡ moment moments m)) ⊎ (c ≡ seen_over second (moment moments again.seen.at))
   pub last : (c : List ℕ) → EndsWith (g.meanwhile s) c → c ≡ seen_over second (moment moments again.seen.at)
 
--- what the disk does at a moment
+-- the write of the disk at a moment
 abbrev pub state_at : List (List ℕ) → (ℕ → Standing) → ℕ → Durable
 state_at moments standing m = durable_in (moment moments m) (standing m)
 
@@ -51,7 +51,8 @@ states_after state i zero = []
 states_after state i (suc n) = state (i + 1) ∷ states_after state (i + 1) n
 
 -- The moments are those that the archive's calls leave, each later than the one before it, and no look lasts so long that the lowest byte of a
--- generation comes round. Then the disk holds an archive all the time: at the first look what it did at that look's moment, at the next what it did at that one's.
+-- generation comes round. Then the disk holds an archive all the time: at the first look the one of that look's moment, at the next the one of
+-- that one's.
 abbrev pub LooksHoldAnArchive : {S : Type 0} → shared.Ghosts S → Type 0
 LooksHoldAnArchive {S} g =
     (s : S) (moments : List (List ℕ)) (standing : ℕ → Standing) (mark : Half → ℕ → ℕ) (shape : Shape) (watched : IsWatched g s moments shape)

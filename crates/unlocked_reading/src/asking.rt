@@ -13,15 +13,16 @@ use script_lines::Query;
 use shared_disk::{Looked, SharedDisk, Unlocked};
 use std::alloc::Global;
 
-/// Answers one question, from a look at its archive on. The lock is not held while images are read and the reply is told. The archive
+/// Answers one question, from a look at its archive on. The lock is not held while images are read and the reply is written. The archive
 /// is looked at again at the end: if all cases that may have been read are there under their numbers, the reply is as if nobody had
-/// changed the archive since the first look. It says whether the question is done.
+/// changed the archive since the first look. It returns whether the question is done.
 ///
 /// # Errors
 ///
-/// `Open` if the archive could not be opened, and `Archive` if there is no memory for where the cases lie: nothing was written. `Life`
-/// if the output failed. `Look` and `Reopen` if nobody could tell whether the cases are still there. `Gone` if one is not. What was written
-/// then is to be dropped.
+/// `Open` if the archive could not be opened, and `Archive` if there is no memory for the places of the cases: nothing was written. `Life`
+/// if the output failed. `Look` and `Reopen` if nobody could say whether the cases are still there. `Gone` if one is not. The bytes that
+/// were
+/// written then are to be dropped.
 pub fn ask_unlocked<S: SharedDisk + Drop, O: Output>(
     alloc: Global,
     looked: Looked<S>,
@@ -49,7 +50,7 @@ pub fn ask_unlocked<S: SharedDisk + Drop, O: Output>(
 ///
 /// # Errors
 ///
-/// `Look` and `Reopen` if nobody could tell. `Gone` if one is not.
+/// `Look` and `Reopen` if nobody could say. `Gone` if one is not.
 pub fn stay<S: SharedDisk + Drop>(alloc: Global, shared: S, numbers: &[u32]) -> Result<(), AskFault>
     ensures { LeavesAllThere S.SharedDisk ⟦<Unlocked<'static, S> as Disk>⟧ shared numbers.now result }
 {

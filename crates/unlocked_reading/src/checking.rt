@@ -23,7 +23,7 @@ use script_streams::{Output, Reply};
 use shared_disk::{Looked, SharedDisk, Unlocked};
 use std::alloc::Global;
 
-// What an archive holds, and what was found of its images.
+// The contents of an archive, and the findings on its images.
 #[derive(Drop)]
 pub(crate) struct Findings {
     pub(crate) version: u32,
@@ -32,22 +32,22 @@ pub(crate) struct Findings {
     pub(crate) cases: Vec<SeenCase>,
 }
 
-// A case, and what is told of its image; or that it is gone.
+// A case, and the finding on its image; or that it is gone.
 #[derive(Clone, Copy)]
 pub(crate) struct ToldCase {
     pub(crate) seq: u32,
     pub(crate) verdict: Option<Verdict>,
 }
 
-/// Tells what an archive holds, and that it is sound, from a look at it on. With `sees_images` it reads each image too, and tells
-/// whether its headers and notes are sound, or the first faulty field. That takes as much memory as the longest image has bytes. The
-/// lock is not held meanwhile, and the archive is looked at again then: of a case that is gone the line is `case N no NoCase`. All
-/// others are told as if nobody had changed the archive since the first look.
+/// Prints the contents of an archive, and that it is sound, from a look at it on. With `sees_images` it reads each image too, and prints
+/// whether its headers and notes are sound, or the first bad field. That takes as much memory as the longest image has bytes. The
+/// lock is not held meanwhile, and the archive is looked at again then: the line of a case that is gone is `case N no NoCase`. All
+/// others are as if nobody had changed the archive since the first look.
 ///
 /// # Errors
 ///
 /// `Open` if the archive could not be opened. `Archive` if an image could not be read, or there was no memory. `Look` and `Reopen` if
-/// nobody could tell whether the cases are still there. Nothing was written then. `Output` if the output failed.
+/// nobody could say whether the cases are still there. Nothing was written then. `Output` if the output failed.
 pub fn check_unlocked<S: SharedDisk + Drop, O: Output>(
     alloc: Global,
     looked: Looked<S>,
@@ -61,7 +61,7 @@ pub fn check_unlocked<S: SharedDisk + Drop, O: Output>(
     report(&findings, &told, output)
 }
 
-// Opens the archive as the last look saw it, and sees what it holds.
+// Opens the archive as the last look saw it, and finds its contents.
 fn examine<S: SharedDisk + Drop>(
     alloc: Global,
     looked: &Looked<S>,
@@ -84,7 +84,7 @@ fn examine<S: SharedDisk + Drop>(
     }
 }
 
-// What an open archive holds, and what is found of its images, if they are asked for.
+// The contents of an open archive, and the findings on its images, if they are asked for.
 fn holdings<S: SharedDisk + Drop, D: Disk>(
     alloc: Global,
     looked: &Looked<S>,
@@ -108,7 +108,7 @@ fn holdings<S: SharedDisk + Drop, D: Disk>(
     })
 }
 
-// What is found of the images, if they are asked for.
+// The findings on the images, if they are asked for.
 fn see_cases<S: SharedDisk + Drop, D: Disk>(
     alloc: Global,
     looked: &Looked<S>,
@@ -154,7 +154,7 @@ fn look_back<S: SharedDisk + Drop>(
     }
 }
 
-// What is to be told of each case, by what the archive has now.
+// The line about each case, by the cases that the archive has now.
 fn settle<D: Disk>(
     alloc: Global,
     archive: &Archive<D>,
@@ -186,7 +186,7 @@ fn settled<D: Disk>(archive: &Archive<D>, case: SeenCase) -> ToldCase
     }
 }
 
-// Tells what an archive holds, and of its cases.
+// Prints the contents of an archive, and its cases.
 fn report<O: Output>(
     findings: &Findings,
     cases: &[ToldCase],

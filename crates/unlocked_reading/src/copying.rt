@@ -14,12 +14,12 @@ use shared_disk::{Looked, SharedDisk, Unlocked};
 use std::alloc::Global;
 
 /// Copies the image of a case to an output, from a look at its archive on. The lock is not held while the image is read and
-/// written. The archive is looked at again at the end: if the case is there under its number, what was written is its image.
+/// written. The archive is looked at again at the end: if the case is there under its number, the bytes that were written are its image.
 ///
 /// # Errors
 ///
 /// `Open`, and `Archive` with `NoCase` or `OutOfMemory`: nothing was written. `Copy` if the disk or the output failed, or the memory.
-/// `Look` and `Reopen` if nobody could tell whether the case is still there. `Gone` if it is not.
+/// `Look` and `Reopen` if nobody could say whether the case is still there. `Gone` if it is not.
 pub fn copy_unlocked<S: SharedDisk + Drop, O: Output>(
     alloc: Global,
     looked: Looked<S>,

@@ -23,7 +23,7 @@ pub enum UnlockedFault {
     /// It could be looked at again, and not opened.
     #[error(transparent)]
     Reopen(OpenFault),
-    /// The case was deleted while it was read. What was written may be no front of its image.
+    /// The case was deleted while it was read. The bytes that were written may be no front of its image.
     #[error("the case was deleted while it was read")]
     Gone,
 }
@@ -46,7 +46,7 @@ pub enum AskFault {
     /// It could be looked at again, and not opened.
     #[error(transparent)]
     Reopen(OpenFault),
-    /// A case that may have been read was deleted meanwhile. What was written is to be dropped.
+    /// A case that may have been read was deleted meanwhile. The bytes that were written are to be dropped.
     #[error("a case was deleted while it was read")]
     Gone,
 }
@@ -66,7 +66,7 @@ pub enum UnlockedCheckFault {
     /// It could be looked at again, and not opened. Nothing was written.
     #[error(transparent)]
     Reopen(OpenFault),
-    /// What is told could not be written, or not whole.
+    /// The text could not be written, or not whole.
     #[error("the output could not be written")]
     Output,
 }

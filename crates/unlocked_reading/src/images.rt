@@ -15,14 +15,14 @@ use intake::{Archive, ArchiveFault, ByteRange};
 use shared_disk::{Looked, SharedDisk};
 use std::alloc::Global;
 
-// A case, and what was found of its image.
+// A case, and the finding on its image.
 #[derive(Clone, Copy)]
 pub(crate) struct SeenCase {
     pub(crate) seq: u32,
     pub(crate) verdict: Verdict,
 }
 
-// What is found of the image of each case, in the order of their numbers. Of each image those bytes are read that the case's blocks
+// The finding on the image of each case, in the order of their numbers. For each image those bytes are read that the case's blocks
 // have now. It takes as much memory as the longest image has bytes.
 pub(crate) fn see_images<S: SharedDisk + Drop, D: Disk>(
     alloc: Global,
@@ -49,7 +49,7 @@ pub(crate) fn see_images<S: SharedDisk + Drop, D: Disk>(
     Ok(seen)
 }
 
-// What is found of the image of a case.
+// The finding on the image of a case.
 fn see_image<S: SharedDisk + Drop, D: Disk>(
     alloc: Global,
     looked: &Looked<S>,

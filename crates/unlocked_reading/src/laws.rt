@@ -1,4 +1,4 @@
-// What the definitions that the contracts cite say together. These functions do nothing.
+// Statements that follow from the definitions in the contracts. These functions do nothing.
 ghost use Rattle.unlocked_reading.specs.Exact.{ChecksAreExact};
 ghost use Rattle.unlocked_reading.specs.Gone.{CopiesAreOfTheCase, GoneCasesAreNoticed, NoCaseIsGoneAtWill, NoCopyIsGoneAtWill};
 ghost use Rattle.unlocked_reading.specs.Lockless.{LooksHoldAnArchive};
@@ -15,7 +15,8 @@ pub fn gone_cases_are_noticed<S: SharedDisk + Drop>()
     ensures never_at_will { NoCaseIsGoneAtWill S.SharedDisk ⟦<Unlocked<'static, S> as Disk>⟧ }
 {}
 
-/// What is copied is the image of the case of the number, and of no other, whatever others do meanwhile. And no copy is refused as
+/// The bytes that are copied are the image of the case of the number, and of no other, whatever others do meanwhile. And no copy is refused
+/// as
 /// `Gone` while the case is there.
 pub fn copies_are_of_the_case<S: SharedDisk + Drop>()
     ensures copied { CopiesAreOfTheCase S.SharedDisk ⟦<Unlocked<'static, S> as Disk>⟧ }
@@ -26,13 +27,14 @@ pub fn copies_are_of_the_case<S: SharedDisk + Drop>()
 }
 
 /// A check of the images that is done has one line for each case that the archive had at the first look, in their order. If the case is
-/// there at the next look too, the line is what is found of its image. If it is gone, the line says so.
+/// there at the next look too, the line is the finding on its image. If it is gone, the line says so.
 pub fn checks_are_exact<S: SharedDisk + Drop>()
     ensures { ChecksAreExact S.SharedDisk ⟦<Unlocked<'static, S> as Disk>⟧ }
 {}
 
-/// What the looks of `look_lockless` saw, and what the disk did between them, is an archive all the time. So what is read by such looks is
-/// what the calls above promise.
+/// The bytes that the looks of `look_lockless` saw, and the writes of the disk between them, are an archive all the time. So the promises
+/// of the
+/// calls above hold for the bytes that are read by such looks.
 pub fn looks_hold_an_archive<S: SharedDisk>()
     ensures { LooksHoldAnArchive S.SharedDisk }
 {

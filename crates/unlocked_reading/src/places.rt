@@ -20,7 +20,7 @@ pub struct Places {
     pub ranges: Vec<ByteRange>,
 }
 
-/// What a question may read.
+/// The parts of an archive that a question may read.
 #[derive(Clone, Copy)]
 pub enum Reads {
     /// No image.
