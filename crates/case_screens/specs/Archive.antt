@@ -1,10 +1,10 @@
--- What a person is shown of an archive.
+-- The screen of an archive.
 use Rattle.std.specs.Prelude.{ℕ, ◌==◌, if◌then◌else◌, List, [], ◌∷◌, ◌++◌, codes, decimal}
 use Rattle.case_tables.specs.Sizes.{size_text}
 use Rattle.case_tables.specs.Times.{time_text}
 use Rattle.case_screens.specs.declared.archive.ArchiveFacts.{ArchiveFacts}
 
--- how many there are of what a word names: the word has an s unless there is one
+-- a number of things that a word names: the word has an s unless there is one
 abbrev pub counted_text : ℕ → List ℕ → List ℕ
 counted_text count word = decimal count ++ (word ++ (if count == 1 then [] else codes "s"))
 

@@ -1,4 +1,4 @@
--- What a code says, as definitions have it.
+-- The meaning of a code, as definitions have it.
 use Rattle.case_screens.specs.Codes.{CodeView}
 use Rattle.case_screens.specs.declared.codes.SignalCode.{SignalCode}
 

@@ -2,7 +2,7 @@
 use Rattle.std.specs.Prelude.{ℕ, ℤ, pos, negsuc, if◌then◌else◌, List, [], Option, None, Some, codes}
 use Rattle.std.specs.Ordering.{int_eq}
 
--- a code: its name, and what it says, before the address and after it
+-- a code: its name, and its meaning, before the address and after it
 pub record CodeView : Type 0 where
   pub name : List ℕ
   pub before : List ℕ

@@ -1,4 +1,4 @@
--- What a screen shows of a core: its notes (core(5)), or the first fault of its headers, its notes and its typed notes.
+-- The notes of a core on its screen (core(5)), or the first fault of its headers, its notes and its typed notes.
 use Rattle.std.specs.Prelude.{ℕ, List, [], Option, None, Some, Result, Ok, Err}
 use Rattle.core_notes.specs.FileList.{FileView, files_of}
 use Rattle.core_notes.specs.Typed.{first_desc}
@@ -37,7 +37,7 @@ abbrev pub found : Option (List ℕ) → Result (List ℕ) Reason
 found None = Err missing
 found (Some desc) = Ok desc
 
--- the descriptor of the first typed note of a kind, or why there is none
+-- the descriptor of the first typed note of a kind, or why it has none
 abbrev pub desc_in : ℕ → Result (List NoteView) CoreFault → Result (List ℕ) Reason
 desc_in kind (Ok notes) = found (first_desc kind notes)
 desc_in kind (Err fault) = Err (core_reason fault)

@@ -37,7 +37,7 @@ has_build (Some id) = build.has_name id
 abbrev pub exec_text : List ℕ → List ℕ
 exec_text name = if nat_lt 128 (length name) then codes "not stored: its name has over 128 bytes" else codes "not stored: corekeep store ARCHIVE FILE --exec " ++ quoted (shown name)
 
--- that which stores it by its build, if the core tells one; else that
+-- the command that stores it by its build, if the core has one; else the other
 abbrev pub store_text : Bool → List ℕ → List ℕ
 store_text told name = if told then codes "not stored: corekeep store ARCHIVE FILE --build" else exec_text name
 
@@ -65,7 +65,7 @@ chosen_text cases name core debug (by_path x) = used_text (stored_number cases x
 chosen_text cases name core debug (other x) = other_text (stored_number cases x.path)
 chosen_text cases name core debug none = store_text (has_build core) name
 
--- what a mapped file has of what is stored
+-- the stored files of a mapped file
 abbrev pub stored_text : List Case → BuildValue → List ℕ
 stored_text cases v = chosen_text cases v.name v.core v.debug v.chosen
 

@@ -91,7 +91,7 @@ each_thread files count descs [] = []
 each_thread files count [] (frames ∷ unwound) = []
 each_thread files count (d ∷ descs) (frames ∷ unwound) = thread_text files count d frames ++ each_thread files count descs unwound
 
--- how many threads there are. It stays at the greatest u64 where there are more.
+-- how many threads there are. It stays at the highest u64 if there are more.
 abbrev pub thread_count : List (List ℕ) → ℕ
 thread_count descs = min (length descs) 18446744073709551615
 

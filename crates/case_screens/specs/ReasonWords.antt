@@ -1,4 +1,4 @@
--- What the code's reasons mean.
+-- The meaning of the code's reasons.
 use Rattle.std.specs.Prelude.{ℕ, List, Result, Ok, Err}
 use Rattle.case_screens.specs.Reasons as reasons
 use Rattle.case_screens.specs.declared.reason.Reason.{Reason}

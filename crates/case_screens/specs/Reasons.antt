@@ -8,7 +8,7 @@ use Rattle.image_replies.specs.Reasons.{indexed}
 use Rattle.image_replies.specs.declared.core_image.CoreFault.{CoreFault}
 use Rattle.image_replies.specs.declared.core_image.CoreFault.TheVariants.{Elf, Note}
 
--- a reason: the name of what is at fault, and its number, if there may be many
+-- a reason: the name of the part with the fault, and its number, if there may be many
 pub record Reason : Type 0 where
   pub name : List ℕ
   pub index : Option ℕ

@@ -1,4 +1,4 @@
--- What a person is shown of a case: its facts, what its image says, and what the lines of a script answer of it.
+-- The screen of a case: its facts, those of its image, and the answers to the lines of a script about it.
 use Rattle.std.specs.Prelude.{ℕ, ◌-◌, Bool, nat_lt, if◌then◌else◌, Option, None, Some, Result, Ok, Err, List, [], ◌∷◌, ◌++◌, length, codes, decimal}
 use Rattle.std.specs.Borrow.{Bor}
 use Rattle.std.specs.Option.{option_map}

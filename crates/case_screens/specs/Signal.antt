@@ -42,7 +42,7 @@ code_text None d = sent_word (sent_code (si_code d)) (si_code d) ++ (sender_text
 abbrev pub cause_text : List ℕ → List ℕ
 cause_text d = signal_word (name_of_signal (si_signo d)) (si_signo d) ++ (codes ", " ++ code_text (code_of_signal (si_signo d) (si_code d)) d)
 
--- by its descriptor; if there is none, by what the case keeps, and why
+-- by its descriptor; if it has none, by the facts of the case, and why
 abbrev pub met_or_kept : ℕ → Result (List ℕ) Reason → List ℕ
 met_or_kept signal (Ok d) = cause_text d
 met_or_kept signal (Err r) = signal_text signal ++ (codes ", " ++ refusal_text r)

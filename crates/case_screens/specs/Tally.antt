@@ -1,4 +1,4 @@
--- What is counted of the cases of an archive.
+-- A count of the cases of an archive.
 use Rattle.std.specs.Prelude.{ℕ, ◌+◌, ◌==◌, Bool, max, min, if◌then◌else◌, List, [], ◌∷◌}
 use Rattle.journal_layout.specs.Case.{Case}
 use Rattle.journal_layout.specs.declared.entry.Kind.{Kind}
@@ -9,7 +9,7 @@ use Rattle.case_screens.specs.declared.tally.Tally.{Tally}
 abbrev pub no_tally : Tally
 no_tally = record { cores = 0; executables = 0; pinned = 0; oldest = 0; newest = 0 }
 
--- the lesser of two times, where 0 is none
+-- the lesser of two times; 0 is no time
 abbrev pub older : ℕ → ℕ → ℕ
 older first time = if first == 0 then time else (if time == 0 then first else min first time)
 
@@ -33,7 +33,7 @@ with_kind Exec t time = with_exec t
 abbrev pub with_case : Tally → Case → Tally
 with_case t c = with_kind c.origin.kind (with_pin t c.pinned) c.origin.time
 
--- what is counted after these cases more
+-- the count after these cases more
 abbrev pub tally_after : Tally → List Case → Tally
 tally_after t [] = t
 tally_after t (c ∷ cs) = tally_after (with_case t c) cs

@@ -1,4 +1,4 @@
-// What a person is shown of an archive.
+// The screen of an archive.
 ghost use Rattle.std.specs.Prelude.{◌≡◌};
 ghost use Rattle.script_streams.specs.Replies.{TellsText, telling};
 ghost use Rattle.case_screens.specs.Archive.{archive_text, cases_text, counted_text, data_text, journal_text, layout_text, numbers_text, times_text};
@@ -6,7 +6,7 @@ ghost use Rattle.case_screens.specs.Archive.{archive_text, cases_text, counted_t
 use case_tables::{tell_size, tell_time};
 use script_streams::{Output, Reply};
 
-/// What is known of an archive.
+/// The known facts of an archive.
 #[derive(Clone, Copy, Debug, PartialEq, Eq)]
 pub struct ArchiveFacts {
     /// The version of its layout.
@@ -24,13 +24,13 @@ pub struct ArchiveFacts {
     pub pinned: u64,
     /// The least time of a core in seconds since the epoch, of those that have one; or 0.
     pub oldest: u64,
-    /// The greatest time of a core; or 0.
+    /// The latest time of a core; or 0.
     pub newest: u64,
-    /// The greatest number that was given to a case; or 0.
+    /// The highest number that was given to a case; or 0.
     pub last_number: u64,
 }
 
-/// Tells what is known of an archive.
+/// Prints the known facts of an archive.
 pub fn tell_archive_screen<O: Output>(reply: &mut Reply<'_, O>, facts: &ArchiveFacts)
     ensures is_screen { TellsText (telling O.Output reply.old reply.new) (archive_text facts.now) }
 {
@@ -84,7 +84,7 @@ fn tell_cases<O: Output>(reply: &mut Reply<'_, O>, facts: &ArchiveFacts)
     reply.tell(b" pinned\n");
 }
 
-// Tells how many there are of what a word names. The word has an s unless there is one.
+// Prints a number of things that a word names. The word has an s unless there is one.
 fn tell_counted<O: Output>(reply: &mut Reply<'_, O>, count: u64, word: &[u8])
     ensures { TellsText (telling O.Output reply.old reply.new) (counted_text count word.now) }
 {

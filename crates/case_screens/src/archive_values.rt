@@ -1,9 +1,9 @@
-// What is known of an archive as JSON.
+// The known facts of an archive as JSON.
 use crate::archive::ArchiveFacts;
 use serde_json::{Value, json};
 use std::alloc::{AllocError, Global};
 
-/// A JSON object with what `tell_archive_screen` shows.
+/// A JSON object with the facts that `tell_archive_screen` shows.
 ///
 /// # Errors
 ///

@@ -1,4 +1,4 @@
-// Types of the auxiliary vector that a script tells as numbers.
+// Types of the auxiliary vector that a script prints as numbers.
 
 // A type by its number, and its name in elf.h of the GNU C library without AT_.
 struct AuxvName {
@@ -53,7 +53,7 @@ static NAMES: [AuxvName; 11] = [
     },
 ];
 
-// The name of a type that a reply tells by this word, if it is one of these.
+// The name of a type that a reply has as this word, if it is one of these.
 pub(crate) fn auxv_name(word: &[u8]) -> Option<&'static str> {
     for entry in &NAMES {
         if entry.number == word {

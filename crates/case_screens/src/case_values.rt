@@ -1,4 +1,4 @@
-// What is known of a case as JSON.
+// The known facts of a case as JSON.
 use crate::answer::{CaseAnswers, CoreAnswers};
 use crate::memory_values::{files_value, put_frames};
 use crate::note_values::{cause_value, header_value, process_value, put_thread, reason_value};
@@ -11,8 +11,8 @@ use serde_json::{Map, Value, put};
 use std::alloc::{AllocError, Global};
 use thread_regs::threads;
 
-/// A JSON object with what `tell_case_screen` shows of a case: the fields that `list` has of it, what its image says, and what is found
-/// in its memory.
+/// A JSON object with the facts of a case that `tell_case_screen` shows: the fields that `list` has, those of its image, and those that are
+/// found in its memory.
 ///
 /// # Errors
 ///

@@ -14,7 +14,7 @@ const SIGFPE: i32 = 8;
 
 const SIGSEGV: i32 = 11;
 
-// A code: its name, and what it says, before the address and after it.
+// A code: its name, and its meaning, before the address and after it.
 #[derive(Clone, Copy)]
 pub(crate) struct SignalCode {
     pub(crate) name: &'static [u8],

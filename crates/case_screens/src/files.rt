@@ -26,7 +26,7 @@ const MOST: usize = 256;
 // The longest name of a case, in bytes.
 const CASE_NAME: usize = 128;
 
-// Tells the files that a core had mapped, at most 256, or why they are not shown.
+// Prints the files that a core had mapped, at most 256, or why they are not shown.
 pub(crate) fn tell_files<O: Output>(
     reply: &mut Reply<'_, O>,
     cases: &[Entry],
@@ -75,7 +75,7 @@ fn tell_row<O: Output>(
     reply.tell(b"\n");
 }
 
-// Tells what a file has of what is stored.
+// Prints which stored files a mapped file has.
 fn tell_stored<O: Output>(reply: &mut Reply<'_, O>, cases: &[Entry], file: &BuildAnswer<'_>)
     ensures { TellsText (telling O.Output reply.old reply.new) (stored_text (map case_of cases.now) (build_view file.now)) }
 {
@@ -105,7 +105,7 @@ fn tell_stored<O: Output>(reply: &mut Reply<'_, O>, cases: &[Entry], file: &Buil
     }
 }
 
-// Tells the number of a case, if it is there.
+// Prints the number of a case, if it is there.
 fn tell_number<O: Output>(reply: &mut Reply<'_, O>, number: Option<u32>)
     ensures { TellsText (telling O.Output reply.old reply.new) (number_text number) }
 {
@@ -115,7 +115,7 @@ fn tell_number<O: Output>(reply: &mut Reply<'_, O>, number: Option<u32>)
     }
 }
 
-// Tells the case with the debug file, if there is one.
+// Prints the case with the debug file, if there is one.
 fn tell_debug<O: Output>(reply: &mut Reply<'_, O>, cases: &[Entry], debug: Option<Attached<'_>>)
     ensures { TellsText (telling O.Output reply.old reply.new) (debug_text (map case_of cases.now) (option_map attached_view debug.entry)) }
 {
@@ -125,7 +125,7 @@ fn tell_debug<O: Output>(reply: &mut Reply<'_, O>, cases: &[Entry], debug: Optio
     }
 }
 
-// Tells the case whose executable is used, and that with its debug file.
+// Prints the case whose executable is used, and that with its debug file.
 fn tell_used<O: Output>(
     reply: &mut Reply<'_, O>,
     number: Option<u32>,
@@ -139,7 +139,7 @@ fn tell_used<O: Output>(
     tell_debug(reply, cases, debug);
 }
 
-// Tells the case whose executable is not used, since it is of another build.
+// Prints the case whose executable is not used, since it is of another build.
 fn tell_other<O: Output>(reply: &mut Reply<'_, O>, number: Option<u32>)
     ensures { TellsText (telling O.Output reply.old reply.new) (other_text number) }
 {
@@ -148,7 +148,7 @@ fn tell_other<O: Output>(reply: &mut Reply<'_, O>, number: Option<u32>)
     reply.tell(b" is of another build: corekeep store ARCHIVE FILE --build");
 }
 
-// Whether a case can be named by the build that a core tells for a file.
+// Whether a case can be named by the build that a core has for a file.
 fn has_build(core: Option<&[u8]>) -> bool
     ensures { result ≡ has_build (option_map (λ id. id.now) core.entry) }
 {
@@ -158,7 +158,7 @@ fn has_build(core: Option<&[u8]>) -> bool
     }
 }
 
-// Tells the command that stores a file: by its build, if it can be named so, or under its name.
+// Prints the command that stores a file: by its build, if it can be named so, or under its name.
 fn tell_store_text<O: Output>(reply: &mut Reply<'_, O>, has_id: bool, name: &[u8])
     ensures { TellsText (telling O.Output reply.old reply.new) (store_text has_id name.now) }
 {
@@ -169,7 +169,7 @@ fn tell_store_text<O: Output>(reply: &mut Reply<'_, O>, has_id: bool, name: &[u8
     }
 }
 
-// Tells the command that stores a file under its name, if a case can have that name.
+// Prints the command that stores a file under its name, if a case can have that name.
 fn tell_exec_text<O: Output>(reply: &mut Reply<'_, O>, name: &[u8])
     ensures { TellsText (telling O.Output reply.old reply.new) (exec_text name.now) }
 {

@@ -19,7 +19,7 @@ use script_words::{print_decimal, print_hexadecimal};
 // How many frames are shown at most.
 const MOST: usize = 20;
 
-// Tells the frames of a thread, at most 20, and why they end, if the core has the thread.
+// Prints the frames of a thread, at most 20, and why they end, if the core has the thread.
 pub(crate) fn tell_frames<O: Output>(
     reply: &mut Reply<'_, O>,
     files: Option<Files<'_>>,
@@ -79,7 +79,7 @@ fn tell_row<O: Output>(
     reply.tell(b"\n");
 }
 
-// Tells where a frame is: that a signal handler returns there, or a place in a function.
+// Prints the place of a frame: that a signal handler returns there, or a place in a function.
 pub(crate) fn tell_place<O: Output>(reply: &mut Reply<'_, O>, frame: &FrameAnswer<'_>)
     ensures { TellsText (telling O.Output reply.old reply.new) (spec.place_text frame.now) }
 {
@@ -103,7 +103,7 @@ fn tell_function<O: Output>(reply: &mut Reply<'_, O>, function: Option<Location<
     }
 }
 
-// Tells where a frame is, and its file, if that is known.
+// Prints the place of a frame, and its file, if that is known.
 fn tell_where<O: Output>(reply: &mut Reply<'_, O>, frame: &FrameAnswer<'_>, file: Option<&[u8]>)
     ensures { TellsText (telling O.Output reply.old reply.new) (spec.where_text frame.now (option_map (λ n. n.now) file.entry)) }
 {
@@ -128,7 +128,7 @@ fn room_of(frame: &FrameAnswer<'_>) -> usize
     }
 }
 
-// Tells how many frames are not shown, if any are.
+// Prints how many frames are not shown, if any are.
 fn tell_more<O: Output>(reply: &mut Reply<'_, O>, count: usize)
     ensures { TellsText (telling O.Output reply.old reply.new) (spec.more_text count) }
 {

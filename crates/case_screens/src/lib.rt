@@ -1,4 +1,4 @@
-//! What people are shown of a case or an archive: texts and JSON of its facts, of what its image says and of what is found in its memory,
+//! Screens of a case or an archive: texts and JSON of its facts, of those of its image and of those that are found in its memory,
 //! which are handed in as values.
 #![tactic(auto)]
 

@@ -1,4 +1,4 @@
-// What is found in the memory of a core as JSON.
+// The facts that are found in the memory of a core, as JSON.
 use crate::answer::CoreAnswers;
 use crate::files::stored_number;
 use crate::frames::frame_file;

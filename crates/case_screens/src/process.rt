@@ -11,7 +11,7 @@ use core_notes::PsInfo;
 use image_replies::{CoreFault, CoreImage};
 use script_streams::{Output, Reply};
 
-// Tells the process of a core, or why it is not shown.
+// Prints the process of a core, or why it is not shown.
 pub(crate) fn tell_process<O: Output>(
     reply: &mut Reply<'_, O>,
     core: &Result<CoreImage<'_>, CoreFault>,
@@ -38,7 +38,7 @@ fn tell_known_process<O: Output>(reply: &mut Reply<'_, O>, process: &PsInfo<'_>)
     reply.tell(b"\n");
 }
 
-// Tells a command line; or the name, if that is empty.
+// Prints a command line; or the name, if that is empty.
 fn tell_command<O: Output>(reply: &mut Reply<'_, O>, words: &[u8], name: &[u8])
     ensures { TellsText (telling O.Output reply.old reply.new) (command_text words.now name.now) }
 {

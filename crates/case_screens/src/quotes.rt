@@ -8,7 +8,7 @@ ghost use Rattle.case_screens.specs.Quotes.{between_quotes, quoted, quoted_byte,
 use script_streams::{Output, Reply};
 use script_words::print_byte;
 
-// Tells a name as a script prints it, in single quotes. What is between them has no quote, and is read as the name.
+// Prints a name as a script prints it, in single quotes. The text between them has no quote, and is read as the name.
 pub(crate) fn tell_quoted<O: Output>(reply: &mut Reply<'_, O>, name: &[u8])
     ensures { TellsText (telling O.Output reply.old reply.new) (quoted (shown name.now)) }
 {

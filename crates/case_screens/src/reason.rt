@@ -9,13 +9,13 @@ use image_replies::CoreFault;
 // Why something is not shown.
 #[derive(Clone, Copy)]
 pub(crate) struct Reason<'a> {
-    // The name of what is at fault.
+    // The name of the part with the fault.
     pub(crate) name: &'a [u8],
     // Its number, if there may be many.
     pub(crate) index: Option<u64>,
 }
 
-// The field of a header, of a program header or of a note that is at fault.
+// The field of a header, of a program header or of a note that has the fault.
 pub(crate) fn elf_reason(fault: ElfFault) -> Reason<'static>
     ensures { reason_view result ≡ reasons.elf_reason fault }
 {

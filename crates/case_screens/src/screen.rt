@@ -1,4 +1,4 @@
-// What a person is shown of a case.
+// The screen of a case.
 ghost use Rattle.std.specs.Prelude.{◌≡◌, map};
 ghost use Rattle.journal_layout.specs.Case.{case_of};
 ghost use Rattle.script_streams.specs.Replies.{TellsText, telling};
@@ -20,7 +20,7 @@ use unread_notes::UnreadNotes;
 // How wide the name of a case is, if it is not longer.
 const NAME_WIDTH: usize = 36;
 
-/// Tells one screen of a case: what is known of it, of the cases of its archive, of its image, and of the frames and the build IDs
+/// Prints one screen of a case: the known facts of it, of the cases of its archive, of its image, and of the frames and the build IDs
 /// that were found.
 pub fn tell_case_screen<O: Output>(
     reply: &mut Reply<'_, O>,
@@ -37,7 +37,7 @@ pub fn tell_case_screen<O: Output>(
     }
 }
 
-// Tells a case's name, number and size, and whether it is pinned.
+// Prints a case's name, number and size, and whether it is pinned.
 fn tell_head<O: Output>(reply: &mut Reply<'_, O>, case: &Entry)
     ensures { TellsText (telling O.Output reply.old reply.new) (head_text (case_of case.now)) }
 {
@@ -82,7 +82,7 @@ fn tell_when<O: Output>(reply: &mut Reply<'_, O>, time: u64)
     reply.tell(b"\n");
 }
 
-// Tells how many bytes there are of a core, and how many its program headers want, if that is more.
+// Prints how many bytes there are of a core, and how many its program headers want, if that is more.
 fn tell_cut<O: Output>(reply: &mut Reply<'_, O>, has: u64, whole: Option<u64>)
     ensures { TellsText (telling O.Output reply.old reply.new) (cut_line has whole) }
 {
@@ -98,7 +98,7 @@ fn tell_cut<O: Output>(reply: &mut Reply<'_, O>, has: u64, whole: Option<u64>)
     }
 }
 
-// Tells why notes of a core are not read, if some are not.
+// Prints why notes of a core are not read, if some are not.
 fn tell_unread<O: Output>(reply: &mut Reply<'_, O>, unread: Option<UnreadNotes>)
     ensures { TellsText (telling O.Output reply.old reply.new) (notes_line unread) }
 {

@@ -1,16 +1,16 @@
-// The forms of rows: what each of their words is.
+// The forms of rows: the kind of each of their words.
 use script_words::Words;
 
-// What a word of a row is.
+// The kind of a word of a row.
 #[derive(Clone, Copy, Debug, PartialEq, Eq)]
 pub(crate) enum FieldKind {
-    // A number, or a word. `-` and `?` are none.
+    // A number, or a word. `-` and `?` stand for nothing.
     Word,
-    // A text as a script prints it. `-` is none.
+    // A text as a script prints it. `-` stands for nothing.
     Text,
-    // A place in a function. `?` is none.
+    // A place in a function. `?` stands for nothing.
     Place,
-    // Hexadecimal digits. `-` is none.
+    // Hexadecimal digits. `-` stands for nothing.
     Digits,
     // A type of the auxiliary vector.
     Auxv,

@@ -18,7 +18,7 @@ use image_replies::{CoreFault, CoreImage};
 use script_streams::{Output, Reply};
 use thread_regs::signal_name;
 
-// Tells the signal that a process met; if the core does not tell it, what the case keeps, and why.
+// Prints the signal that a process met; if the core does not have it, the one that the case keeps, and why.
 pub(crate) fn tell_signal_line<O: Output>(
     reply: &mut Reply<'_, O>,
     signal: u32,
@@ -48,7 +48,7 @@ fn tell_met_or_kept<O: Output>(
     }
 }
 
-// Tells a signal's name and code, and what it met or who sent it.
+// Prints a signal's name and code, and the address that was met or the sender.
 fn tell_cause<O: Output>(reply: &mut Reply<'_, O>, met: &SigInfo<'_>)
     ensures { TellsText (telling O.Output reply.old reply.new) (spec.cause_text (siginfo_bytes met.now)) }
 {
@@ -57,7 +57,7 @@ fn tell_cause<O: Output>(reply: &mut Reply<'_, O>, met: &SigInfo<'_>)
     tell_code(reply, code_of_signal(met.si_signo(), met.si_code()), met);
 }
 
-// Tells a signal by its name, or by its number if it has none.
+// Prints a signal by its name, or by its number if it has no name.
 fn tell_name<O: Output>(reply: &mut Reply<'_, O>, signo: i32)
     ensures { TellsText (telling O.Output reply.old reply.new) (spec.signal_word (name_of_signal signo) signo) }
 {
@@ -97,7 +97,7 @@ fn tell_address<O: Output>(reply: &mut Reply<'_, O>, address: Option<u64>)
     }
 }
 
-// Tells a code that any signal may have, or its number.
+// Prints a code that any signal may have, or its number.
 fn tell_sent<O: Output>(reply: &mut Reply<'_, O>, code: i32)
     ensures { TellsText (telling O.Output reply.old reply.new) (spec.sent_word (sent_code code) code) }
 {
@@ -110,7 +110,7 @@ fn tell_sent<O: Output>(reply: &mut Reply<'_, O>, code: i32)
     }
 }
 
-// Tells who sent it, if both the process and the user are there.
+// Prints who sent it, if both the process and the user are there.
 fn tell_sender<O: Output>(reply: &mut Reply<'_, O>, process: Option<i32>, user: Option<u32>)
     ensures { TellsText (telling O.Output reply.old reply.new) (spec.sender_text process user) }
 {
@@ -123,7 +123,7 @@ fn tell_sender<O: Output>(reply: &mut Reply<'_, O>, process: Option<i32>, user: 
     reply.tell_decimal(u128::from(user));
 }
 
-// Tells the address that was met, if it is there.
+// Prints the address that was met, if it is there.
 fn tell_met<O: Output>(reply: &mut Reply<'_, O>, address: Option<u64>)
     ensures { TellsText (telling O.Output reply.old reply.new) (spec.met_text address) }
 {

@@ -1,4 +1,4 @@
-// What is counted of the cases of an archive.
+// A count of the cases of an archive.
 ghost use Rattle.std.specs.Prelude.{◌≡◌, ◌<◌, ◌-◌, ◌^◌, map};
 ghost use Rattle.journal_layout.specs.Case.{case_of};
 ghost use Rattle.case_screens.specs.Tally.{older, tally_of, with_case, with_core, with_exec, with_pin};
@@ -13,7 +13,7 @@ pub struct Tally {
     pub pinned: u64,
     /// The least time of a core in seconds since the epoch, of those that have one; or 0.
     pub oldest: u64,
-    /// The greatest time of a core; or 0.
+    /// The latest time of a core; or 0.
     pub newest: u64,
 }
 
@@ -85,7 +85,7 @@ fn with_core(tally: Tally, time: u64) -> Tally
     }
 }
 
-// The lesser of two times, where 0 is none.
+// The lesser of two times; 0 is no time.
 fn older(first: u64, time: u64) -> u64
     ensures { result ≡ older first time }
 {

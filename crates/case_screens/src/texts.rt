@@ -18,7 +18,7 @@ pub(crate) const MARGIN: &[u8] = b"          ";
 // How many bytes of a name are shown at most.
 const NAME_BYTES: usize = 256;
 
-// Tells a line's label at the first of its rows, and as many spaces at the others.
+// Prints a line's label at the first of its rows, and as many spaces at the others.
 pub(crate) fn tell_label<O: Output>(reply: &mut Reply<'_, O>, label: &[u8], row: usize)
     ensures { TellsText (telling O.Output reply.old reply.new) (label_at label.now row) }
 {
@@ -29,7 +29,7 @@ pub(crate) fn tell_label<O: Output>(reply: &mut Reply<'_, O>, label: &[u8], row:
     }
 }
 
-// Tells a text at the left of a column, and two spaces.
+// Prints a text at the left of a column, and two spaces.
 pub(crate) fn tell_left<O: Output>(reply: &mut Reply<'_, O>, width: usize, text: &[u8])
     ensures { TellsText (telling O.Output reply.old reply.new) (left_text width text.now) }
 {
@@ -38,7 +38,7 @@ pub(crate) fn tell_left<O: Output>(reply: &mut Reply<'_, O>, width: usize, text:
     reply.tell(b"  ");
 }
 
-// Tells a name as a script prints it: its first bytes, and how many more it has.
+// Prints a name as a script prints it: its first bytes, and how many more it has.
 pub(crate) fn tell_name<O: Output>(reply: &mut Reply<'_, O>, name: &[u8])
     ensures { TellsText (telling O.Output reply.old reply.new) (name_text name.now) }
 {
@@ -58,7 +58,7 @@ fn tell_more<O: Output>(reply: &mut Reply<'_, O>, count: usize)
     reply.tell(b" more");
 }
 
-// Tells how many more there are than that many, if there are more.
+// Prints how many more there are than that many, if there are more.
 pub(crate) fn tell_rest_after<O: Output>(
     reply: &mut Reply<'_, O>,
     label: &[u8],
@@ -104,7 +104,7 @@ fn without_space(text: &[u8]) -> &[u8]
     &text[..length - 1]
 }
 
-// Tells a text for people: its spaces are spaces.
+// Prints a text for people: its spaces are spaces.
 pub(crate) fn tell_plain<O: Output>(reply: &mut Reply<'_, O>, text: &[u8])
     ensures { TellsText (telling O.Output reply.old reply.new) (plain_text text.now) }
 {
@@ -133,7 +133,7 @@ fn tell_plain_byte<O: Output>(reply: &mut Reply<'_, O>, byte: u8)
     }
 }
 
-// Tells why something is not shown.
+// Prints why something is not shown.
 pub(crate) fn tell_refusal<O: Output>(reply: &mut Reply<'_, O>, reason: &Reason<'_>)
     ensures { TellsText (telling O.Output reply.old reply.new) (refusal_text (reason_view reason.now)) }
 {
@@ -161,7 +161,7 @@ fn is_of_another_machine(name: &[u8]) -> bool
         || name == b"EI_DATA".as_slice()
 }
 
-// Tells a reason as a script does.
+// Prints a reason as a script does.
 fn tell_named<O: Output>(reply: &mut Reply<'_, O>, reason: &Reason<'_>)
     ensures { TellsText (telling O.Output reply.old reply.new) (named reason.now.name.now reason.now.index) }
 {
@@ -172,7 +172,7 @@ fn tell_named<O: Output>(reply: &mut Reply<'_, O>, reason: &Reason<'_>)
     }
 }
 
-// Tells a line that says why something is not shown.
+// Prints a line that says why something is not shown.
 pub(crate) fn tell_refused<O: Output>(reply: &mut Reply<'_, O>, label: &[u8], reason: &Reason<'_>)
     ensures { TellsText (telling O.Output reply.old reply.new) (refused_line label.now (reason_view reason.now)) }
 {

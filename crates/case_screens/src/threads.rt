@@ -22,7 +22,7 @@ use thread_regs::{Thread, ThreadList, threads};
 /// How many threads a screen shows at most.
 pub const MOST_THREADS: usize = 256;
 
-// Tells the threads that are shown, at most 256, and their frames, by the core and the frames that were found.
+// Prints the threads that are shown, at most 256, and their frames, by the core and the frames that were found.
 pub(crate) fn tell_threads<O: Output>(
     reply: &mut Reply<'_, O>,
     core: &Result<CoreImage<'_>, CoreFault>,
@@ -63,7 +63,7 @@ fn tell_shown<O: Output>(
     tell_threads_rest(reply, count, unwound.len());
 }
 
-// Tells how many threads are not shown, if more than one is.
+// Prints how many threads are not shown, if more than one is.
 fn tell_threads_rest<O: Output>(reply: &mut Reply<'_, O>, count: u64, unwound: usize)
     ensures { TellsText (telling O.Output reply.old reply.new) (spec.threads_rest count unwound) }
 {
@@ -77,7 +77,7 @@ fn tell_threads_rest<O: Output>(reply: &mut Reply<'_, O>, count: u64, unwound: u
     }
 }
 
-// Tells as many threads as were unwound.
+// Prints as many threads as were unwound.
 fn tell_each<O: Output>(
     reply: &mut Reply<'_, O>,
     files: Option<Files<'_>>,
@@ -116,7 +116,7 @@ fn tell_thread<O: Output>(
     tell_frames(reply, files, frames);
 }
 
-// Tells the function and the file of a thread's pc, as far as they are known.
+// Prints the function and the file of a thread's pc, as far as they are known.
 fn tell_place<O: Output>(
     reply: &mut Reply<'_, O>,
     files: Option<Files<'_>>,

@@ -1,4 +1,4 @@
-// What a screen shows of a core.
+// The notes of a core on its screen.
 ghost use Rattle.std.specs.Prelude.{◌≡◌};
 ghost use Rattle.core_notes.specs.Descriptor.{pr_reg};
 ghost use Rattle.core_notes.specs.DescriptorWords.{psinfo_bytes, siginfo_bytes};
@@ -46,7 +46,7 @@ pub(crate) fn signal_of<'a>(
     }
 }
 
-/// How many threads a core has. It stays at the greatest `u64` where there are more.
+/// How many threads a core has. It stays at the highest `u64` if there are more.
 pub fn thread_count(core: &CoreImage<'_>) -> u64
     ensures { result ≡ thread_count (all_descs 1 (notes_of Core (core_bytes core.now))) }
 {

@@ -1,4 +1,4 @@
--- What the tables of the commands say to clap.
+-- The tables of the commands, as clap takes them.
 use Rattle.std.specs.Prelude.{ℕ, pos, true, false, nat_lt, List, [], ◌∷◌, map, Option, None, Some, codes}
 use Rattle.std.specs.Borrow.{Bor}
 use Rattle.clap.specs.Lexer.{usize_max}
@@ -12,7 +12,7 @@ use Rattle.command_words.specs.declared.tables.Takes.{Takes}
 use Rattle.command_words.specs.declared.tables.Takes.TheVariants as takes
 use Rattle.command_words.specs.declared.tables.Word.{Word}
 
--- what each use of a word does
+-- the effect of each use of a word
 abbrev pub action_said : Takes → ArgAction
 action_said takes.Flag = SetTrue
 action_said takes.FlagWithoutJson = SetTrue
@@ -43,7 +43,7 @@ named_by rule word = record rule { long = Some word.id.now; value_names = 1; def
 abbrev pub named : Word → Rule
 named word = named_by (begun word) word
 
--- a word of a command, by what it takes
+-- a word of a command, by the values that it takes
 abbrev pub rule_by : Word → Takes → Rule
 rule_by word takes.Place = record (placed word) { required = true }
 rule_by word takes.NewPlace = placed word

@@ -1,4 +1,4 @@
--- What is told to people though the program ends with status 0.
+-- The notes for people although the program ends with status 0.
 use Rattle.std.specs.Prelude.{◌≡◌, ◌⊎◌, ℕ, Bool, true, false, List, [], ◌∷◌, ◌++◌, String, codes, string_bytes, if◌then◌else◌}
 use Rattle.std.specs.List.{list_any}
 use Rattle.std.specs.Io.KnownBytes.{Appends}
@@ -17,7 +17,7 @@ makes_file command =
 abbrev pub checks_archive : List ℕ → Bool
 checks_archive command = if bytes_eq command (codes "check") then true else bytes_eq command (codes "handle")
 
--- what a note is on if there is one, by the command: the case that is stored, the archive that is looked at, or the folder of the file that
+-- the subject of a note, if there is one, by the command: the case that is stored, the archive that is looked at, or the folder of the file that
 -- is made
 abbrev pub subject_of : List ℕ → List ℕ
 subject_of command =
@@ -44,7 +44,7 @@ abbrev pub may_note : {Z : Type 0} → List (String Z) → Bool
 may_note [] = false
 may_note (word ∷ words) = may_note_of (string_bytes word) (word ∷ words)
 
--- what a second note is on if there is one, by the command: the file system of the archive that is made or looked at, or the spool of the
+-- the subject of a second note, if there is one, by the command: the file system of the archive that is made or looked at, or the spool of the
 -- case that is stored; the others have no second note
 abbrev pub second_subject_of : List ℕ → List ℕ
 second_subject_of command =

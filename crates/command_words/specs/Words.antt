@@ -40,7 +40,7 @@ small_number_in given name = option_and_then (λ text. number_within 0 (2 ^ 32 -
 abbrev pub words_in : Given → List (List ℕ)
 words_in given = map (λ word. word.now) given.words.items
 
--- a command, and what is under the names of its words
+-- a command, and the values under the names of its words
 abbrev pub said_in : Given → List ℕ × List Row
 said_in given = (given.command.now, rows_in given)
 
@@ -48,17 +48,17 @@ said_in given = (given.command.now, rows_in given)
 abbrev pub found_in : ArgMatches → List ℕ × List Row
 found_in m = unwrap_or (subcommand_rows_of m) ([], rows_of (found_of m))
 
--- what is given is what clap found
+-- the given values are those that clap found
 pub record IsFoundBy (m : ArgMatches) (given : Given) : Type 0 where
   pub said : said_in given ≡ found_in m
   pub several : words_in given ≡ unwrap_or (all_of (codes "words") (rows_in given)) []
 
--- What is given is what these words say by a grammar: of the command that they name, or of the program if they name none.
+-- The given values are those of these words by a grammar: of the command that they name, or of the program if they name none.
 pub record IsSaidBy (app : App) (words : List (List ℕ)) (given : Given) : Type 0 where
   pub said : is_simple app ≡ true → said_in given ≡ unwrap_or (subcommand_of app words) ([], matches_of app words)
   pub several : words_in given ≡ unwrap_or (all_of (codes "words") (rows_in given)) []
 
--- The same of the grammar of these tables, which is simple: clap says of such a grammar what the words are.
+-- The same for the grammar of these tables, which is simple: for such a grammar clap's clauses say which values the words have.
 pub record IsReadBy (tables : List CommandWords) (words : List (List ℕ)) (given : Given) : Type 0 where
   pub simple : is_simple (grammar tables) ≡ true
   pub said : said_in given ≡ unwrap_or (subcommand_of (grammar tables) words) ([], matches_of (grammar tables) words)

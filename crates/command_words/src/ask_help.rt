@@ -1,6 +1,6 @@
 // What `ask --help` shows of the lines that it takes.
 
-// A line each, with its words and what it does.
+// A line each, with its words and its purpose.
 pub(crate) const ASK_HELP: &str = "Lines (corekeep help LINE says more):\n\
 \x20\x20list                                 the cases, in the order of their numbers\n\
 \x20\x20free                                 how many data blocks are free\n\

@@ -1,8 +1,8 @@
-// What a reason means by what was done when it was told.
+// The meaning of a reason, by the work that was refused.
 use crate::reasons::{Meaning, first_word, meaning_in, meaning_of};
 use crate::watched::LastLine;
 
-/// What was done when something was refused, if the reason means more then.
+/// The work that was refused, if a reason means more then.
 #[derive(Clone, Copy, Debug, PartialEq, Eq)]
 pub enum Context {
     /// `salvage` looked for the cases of an archive.
@@ -41,7 +41,7 @@ static SALVAGE_MEANINGS: [Meaning; 3] = [
     },
 ];
 
-// What the shape in the superblock means to it.
+// The meaning of the shape in the superblock.
 const SHAPE: &[u8] =
     b"this byte of the superblock is damaged, or the file is not as long as its superblock says: corekeep salvage ARCHIVE NEW finds the shape; if it doesn't, state it with --half N and --data N";
 
@@ -105,7 +105,7 @@ static COPY_MEANINGS: [Meaning; 2] = [
     },
 ];
 
-/// What was done by these words, after which this is the last line of the output. If `store` is refused a name, the output has no
+/// The work of these words, after which this is the last line of the output. If `store` is refused a name, the output has no
 /// other line.
 pub fn context_of(words: &[String], line: &LastLine) -> Context {
     let Some(command) = words.first() else {
@@ -124,7 +124,7 @@ pub fn context_of(words: &[String], line: &LastLine) -> Context {
     }
 }
 
-/// What a reason means when this was done. Empty if there is nothing to say.
+/// The meaning of a reason after this work. Empty if there is nothing to say.
 pub fn meaning_when(context: Context, reason: &[u8]) -> &'static [u8] {
     if reason.ends_with(b" shape") {
         return SHAPE;
@@ -136,7 +136,7 @@ pub fn meaning_when(context: Context, reason: &[u8]) -> &'static [u8] {
     words
 }
 
-// What reasons mean when this was done, where that is more than they mean elsewhere.
+// The meanings of reasons after this work, if they are more than elsewhere.
 fn meanings_of(context: Context) -> &'static [Meaning] {
     match context {
         Context::Salvaging => &SALVAGE_MEANINGS,

@@ -24,7 +24,7 @@ use std::alloc::{AllocError, Global};
 pub struct Given<'a> {
     /// The command.
     pub command: &'a str,
-    /// The words that may be there several times: those of a line, or what is known of a core.
+    /// The words that may be there several times: those of a line, or the facts of a core.
     pub words: Vec<&'a str>,
     // What clap found of its words, by the names that the grammar has for them.
     found: ArgMatches<'a>,
@@ -127,7 +127,7 @@ fn given_in<'a>(alloc: Global, matches: ArgMatches<'a>) -> Result<Given<'a>, All
     })
 }
 
-// The command that is named, and what was found of its words.
+// The command that is named, and the values of its words.
 fn named_in<'a>(matches: ArgMatches<'a>) -> (&'a str, ArgMatches<'a>)
     ensures { (result.0.now, rows_of (found_of result.1)) ≡ found_in matches.entry }
 {
@@ -138,7 +138,7 @@ fn named_in<'a>(matches: ArgMatches<'a>) -> (&'a str, ArgMatches<'a>)
     }
 }
 
-// Why these words are refused. They are told as words that print.
+// Why these words are refused. They are printed as words that print.
 fn why_unread(alloc: Global, commands: &[&CommandWords], words: &[String], error: &Error) -> Unread
     ensures { kind_of error.now ≡ kind.OutOfMemory → result ≡ OutOfMemory }
 {
@@ -154,7 +154,7 @@ fn why_unread(alloc: Global, commands: &[&CommandWords], words: &[String], error
     }
 }
 
-// What clap tells people.
+// The message of clap.
 fn text_of(alloc: Global, error: &Error) -> Unread {
     match format!(in alloc; "{error}") {
         Ok(text) if error.use_stderr() => Unread::Wrong(text),

@@ -1,4 +1,4 @@
-// The grammar of the program's words: what the tables say of them.
+// The grammar of the program's words, made from the tables.
 ghost use Rattle.std.specs.Prelude.{◌≡◌, true, IfErr, IfOk, map, string_bytes};
 ghost use Rattle.clap.specs.Simple.{HasMatchesOf, app_of, shape_of};
 ghost use Rattle.clap.specs.Takes.{takes};

@@ -1,4 +1,4 @@
-// `corekeep help LINE`: what a line of a script is for.
+// `corekeep help LINE`: the purpose of a line of a script.
 use crate::commands::commands;
 use line_help::{LineHelp, help_of, rows_of};
 use script_streams::{Output, Reply, StreamFault};
@@ -13,7 +13,7 @@ const LABEL_USAGE: &str =
 const RETIRE_USAGE: &str =
     "retire [keep=K] [bytes=B] [before=T]: each a number, T in seconds since 1970";
 
-/// The line whose help these words ask for. What is a command too has the command's help.
+/// The line whose help these words ask for. A line that is also a command has the command's help.
 pub fn asked_help(words: &[String]) -> Option<&'static LineHelp> {
     let [help, name] = words else {
         return None;
@@ -33,7 +33,7 @@ pub fn line_in_place_of_a_command(words: &[String]) -> Option<&'static LineHelp>
     help_of(name)
 }
 
-/// Tells people how such a line is asked.
+/// Prints how such a line is asked.
 pub fn tell_how_it_is_asked<E: Output>(line: &LineHelp, errors: &mut E) {
     let mut reply = Reply::new(errors);
     reply.tell(b"corekeep: this is a line of a script: corekeep ask ARCHIVE ");
@@ -42,7 +42,7 @@ pub fn tell_how_it_is_asked<E: Output>(line: &LineHelp, errors: &mut E) {
     let _ = reply.finish();
 }
 
-/// The words of the line that begins with this word, as people are told them if theirs are none of it; empty if there is no such line.
+/// The words of the line that begins with this word, for people whose words are not of its form; empty if there is no such line.
 pub fn usage_told(name: &str) -> &'static str {
     match name {
         "find" => FIND_USAGE,
@@ -61,7 +61,7 @@ fn is_command(name: &str) -> bool {
     false
 }
 
-/// Tells what a line is for.
+/// Prints the purpose of a line.
 ///
 /// # Errors
 ///
@@ -78,7 +78,7 @@ pub fn tell_help<O: Output>(help: &LineHelp, output: &mut O) -> Result<(), Strea
     reply.finish()
 }
 
-// Tells the forms of the rows that `--json` shows, if there are any.
+// Prints the forms of the rows that `--json` shows, if there are any.
 fn tell_rows<O: Output>(reply: &mut Reply<'_, O>, name: &str) {
     for form in rows_of(name) {
         tell_part(reply, b"\n    --json:   ", form);

@@ -31,7 +31,7 @@ const WANTS_CASE: Word = Word {
     help: "A core: its number, its name, or last; without it, all cores",
 };
 
-// Whether the IDs alone are told.
+// Whether the IDs alone are printed.
 const IDS: Word = Word {
     id: "ids",
     shown: "",

@@ -1,4 +1,4 @@
-//! The words of the command line: their grammar, their help, and what people are told of a reason. No archive is known here.
+//! The words of the command line: their grammar, their help, and the meaning of a reason. No archive is known here.
 #![tactic(auto)]
 
 mod ask_help;

@@ -11,7 +11,7 @@ pub(crate) static LIST: CommandWords = CommandWords {
     ],
 };
 
-// Whether it is told as JSON.
+// Whether JSON is printed.
 pub(crate) const JSON: Word = Word {
     id: "json",
     shown: "",
@@ -92,7 +92,7 @@ const PINNED: Word = Word {
     help: "Only pinned cases",
 };
 
-// How many are told.
+// How many are printed.
 const LAST: Word = Word {
     id: "last",
     shown: "K",

@@ -1,11 +1,12 @@
-// What people are told though a command did what was asked: of a case that was stored, of an archive that was looked at, and of a file that
+// The notes for people although a command did its work: on a case that was stored, on an archive that was looked at, and on a file that
 // was made.
 ghost use Rattle.std.specs.Prelude.{◌≡◌, false};
 ghost use Rattle.command_words.specs.Notes.{IsQuietButForANote, IsQuietButForNotes, asks_to_check, checks_archive, makes_file, may_note, second_subject, subject};
 
 use script_streams::{Output, Reply};
 
-/// Tells people of a note, if there is one: if the words ask to store a file, what can't be read of the case; if they ask to look at an
+/// Prints a note for people, if there is one: if the words ask to store a file, the part of the case that can't be read; if they ask to
+/// look at an
 /// archive, that the half of its journal which is taken may be the wrong one; if they ask to make a file, that others may write its folder.
 /// Then comes the second note, if there is one: on the file system, if the words ask to make an archive or to check one; on the spool, if
 /// they ask to store a file.
@@ -24,7 +25,7 @@ pub fn tell_notes<E: Output>(words: &[String], note: &[u8], second: &[u8], error
     tell_note_line(on, second, errors);
 }
 
-// What a second note of these words is on. It is empty if they have none.
+// The subject of a second note of these words. It is empty if they have none.
 fn second_subject(words: &[String]) -> &'static [u8]
     ensures { result.now ≡ second_subject words.now }
 {
@@ -59,7 +60,7 @@ fn asks_to_check(words: &[String]) -> bool
     words.iter().any(|word| word.as_str() == "--check")
 }
 
-// What a note of these words is on.
+// The subject of a note of these words.
 fn subject(words: &[String]) -> &'static [u8]
     ensures { result.now ≡ subject words.now }
 {
@@ -95,7 +96,7 @@ fn makes_file(command: &str) -> bool
         || command == "salvage"
 }
 
-// Tells people of a note, if it is not empty.
+// Prints a note for people, if it is not empty.
 fn tell_note_line<E: Output>(subject: &[u8], note: &[u8], errors: &mut E)
     ensures { IsQuietButForANote subject.now E.Output errors.old errors.new }
 {

@@ -17,7 +17,7 @@ use std::rt::Env;
 // More than Linux gives of a word (its MAX_ARG_STRLEN).
 const LONGEST_WORD: usize = 131_072;
 
-// The character in place of the byte 0x80.
+// The character that replaces the byte 0x80.
 const FIRST_STAND_IN: u32 = 0x10_ff80;
 
 /// The words of the command line after the program's name.
@@ -67,7 +67,7 @@ fn keep_bytes(word: &mut String, bytes: &[u8]) -> Result<(), AllocError> {
     Ok(())
 }
 
-// The character in place of a byte of 0x80 or more.
+// The character that replaces a byte of 0x80 or more.
 fn stand_in(byte: u8) -> char {
     char::from_u32(FIRST_STAND_IN - 0x80 + u32::from(byte)).unwrap_or(char::REPLACEMENT_CHARACTER)
 }
@@ -109,7 +109,7 @@ pub fn push_escaped(line: &mut Vec<u8>, word: &str) -> Result<(), AllocError>
     Ok(())
 }
 
-// Words as they are told: one with a byte outside 0x20 to 0x7e as a script prints it, the others as they are.
+// Words as they are printed: one with a byte outside 0x20 to 0x7e as a script prints it, the others as they are.
 pub(crate) fn shown_words(alloc: Global, words: &[String]) -> Result<Vec<String>, AllocError> {
     let mut shown = Vec::new(alloc);
     for word in words {

@@ -1,6 +1,6 @@
-// What a reason means, in words for people.
+// The meaning of a reason, in words for people.
 
-// A reason, and what it means.
+// A reason, and its meaning.
 pub(crate) struct Meaning {
     pub(crate) reason: &'static [u8],
     pub(crate) words: &'static [u8],
@@ -182,7 +182,7 @@ static MEANINGS: [Meaning; 43] = [
     },
 ];
 
-/// What a reason means. It may have words after it. Empty if there is nothing to say.
+/// The meaning of a reason. It may have words after it. Empty if there is nothing to say.
 pub(crate) fn meaning_of(reason: &[u8]) -> &'static [u8] {
     meaning_in(&MEANINGS, first_word(reason))
 }

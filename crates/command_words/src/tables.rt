@@ -31,7 +31,7 @@ pub(crate) enum Takes {
 // A number below 2^32 after its name, which may be left out.
 pub(crate) const NEW_BLOCKS: Takes = Takes::Within(0, 4_294_967_295);
 
-// A word of a command: how the program knows it, how help shows its value, and what it takes where it is left out.
+// A word of a command: its name in the program, its value in the help, and its value if it is left out.
 pub(crate) struct Word {
     pub(crate) id: &'static str,
     pub(crate) shown: &'static str,
@@ -202,7 +202,7 @@ const LIMIT: Word = Word {
     help: "The most bytes that an image may have",
 };
 
-// What is stored.
+// The file to store.
 const FILE: Word = Word {
     id: "file",
     shown: "FILE",
@@ -211,7 +211,7 @@ const FILE: Word = Word {
     help: "The file or pipe to store, or - for standard input",
 };
 
-// What is known of a core.
+// The facts of a core.
 const PAIRS: Word = Word {
     id: "words",
     shown: "KEY=VALUE",
@@ -220,7 +220,7 @@ const PAIRS: Word = Word {
     help: "Facts about the core; KEY is comm, exe, host, pid, tid, sig, uid, gid, mode, time or limit; in a text, a byte outside 0x21 to 0x7e and a backslash are written \\xHH, unless --escape is given",
 };
 
-// Where the outcome is told.
+// The log of outcomes.
 const LOG: Word = Word {
     id: "log",
     shown: "PATH",
@@ -229,7 +229,7 @@ const LOG: Word = Word {
     help: "Add a line to this file that says what became of FILE; the file is made if it does not exist; /dev/kmsg is the kernel's log",
 };
 
-// The configuration of a handler, and what is known of a core.
+// The configuration of a handler, and the facts of a core.
 const HANDLER_PAIRS: Word = Word {
     id: "words",
     shown: "WORD",
@@ -247,7 +247,7 @@ const HANDLER_ARCHIVE: Word = Word {
     help: "The archive's file, if the configuration names none or can't be read",
 };
 
-// Whether a handler's configuration is told, and nothing is stored.
+// Whether a handler's configuration is printed, and nothing is stored.
 const CHECK: Word = Word {
     id: "check",
     shown: "",
@@ -283,7 +283,7 @@ const PIN: Word = Word {
     help: "Pin the new case, so that nothing deletes it: for executables",
 };
 
-// What is noted of the case.
+// The label of the case.
 const LABEL: Word = Word {
     id: "label",
     shown: "TEXT",
@@ -346,7 +346,7 @@ const FAIR: Word = Word {
     help: "With --fit, delete a core of the user whose cores have the most blocks, instead of the oldest",
 };
 
-// Whether what is too large is cut.
+// Whether a core that is too large is cut.
 const CUT: Word = Word {
     id: "cut",
     shown: "",

@@ -3,7 +3,7 @@ use crate::contexts::{Context, meaning_when};
 use diagnostics::{Call, Trouble};
 use script_streams::{Output, Reply};
 
-// An error of the system: its number on Linux (errno(3)), its name, and what it means.
+// An error of the system: its number on Linux (errno(3)), its name, and its meaning.
 struct SystemError {
     number: i32,
     name: &'static [u8],
@@ -59,8 +59,9 @@ static ERRORS: [SystemError; 9] = [
     },
 ];
 
-/// Tells what a reason means when this was done. If the disk failed, now or before, so that the archive is stopped, and it is known which
-/// call of the system that was, it is told with the system's reason.
+/// Prints the meaning of a reason after this work. If the disk failed, now or before, so that the archive is stopped, and the call of the
+/// system
+/// is known that failed, that is printed with the system's reason.
 pub fn tell_meaning<O: Output>(
     reply: &mut Reply<'_, O>,
     context: Context,
@@ -75,7 +76,7 @@ pub fn tell_meaning<O: Output>(
     }
 }
 
-// Tells which call on the archive's file failed, and why.
+// Prints which call on the archive's file failed, and why.
 fn tell_trouble<O: Output>(reply: &mut Reply<'_, O>, trouble: Trouble) {
     let call: &[u8] = match trouble.call {
         Call::Read => b"a read",
@@ -90,7 +91,7 @@ fn tell_trouble<O: Output>(reply: &mut Reply<'_, O>, trouble: Trouble) {
     }
 }
 
-// Tells an error of the system by its name, or by its number if it is none of these.
+// Prints an error of the system by its name, or by its number if it is not one of these.
 fn tell_error<O: Output>(reply: &mut Reply<'_, O>, number: i32) {
     for error in &ERRORS {
         if error.number == number {

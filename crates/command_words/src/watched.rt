@@ -1,4 +1,4 @@
-// What the last line of an output says.
+// The last line of an output.
 ghost use Rattle.std.specs.Prelude.{◌≡◌};
 
 use arrayvec::ArrayVec;
@@ -75,7 +75,7 @@ impl LastLine {
     }
 }
 
-/// An output, and its last line. What it takes goes to the output below it.
+/// An output, and its last line. The bytes that it takes go to the output below it.
 #[derive(Drop)]
 pub struct Watched<'a, O: Output> {
     output: &'a mut O,

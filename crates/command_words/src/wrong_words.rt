@@ -1,4 +1,4 @@
-// Words that are no line of a script: what people are told of them.
+// Words that are no line of a script: the message for people.
 use script_streams::{Output, Reply};
 use script_words::{parse_number, parse_number_within};
 
@@ -35,7 +35,7 @@ static PARTS: [Part; 6] = [
     },
 ];
 
-// What is wrong with the words of a line.
+// The fault in the words of a line.
 enum Fault<'a> {
     // This one is not there.
     Missing(&'static Part),
@@ -45,7 +45,7 @@ enum Fault<'a> {
     Surplus(&'a str),
 }
 
-/// Tells people the usage of the line that the words of `ask` begin like, and which word is wrong. Without a usage no line begins so.
+/// Prints the usage of the line that the words of `ask` begin like, and which word is wrong. Without a usage no line begins so.
 pub fn tell_no_line<E: Output>(usage: &str, words: &[String], errors: &mut E) {
     let mut reply = Reply::new(errors);
     if usage.is_empty() {
@@ -59,7 +59,7 @@ pub fn tell_no_line<E: Output>(usage: &str, words: &[String], errors: &mut E) {
     let _ = reply.finish();
 }
 
-// Tells which word is wrong, if that is known.
+// Prints which word is wrong, if that is known.
 fn tell_fault<E: Output>(reply: &mut Reply<'_, E>, fault: Option<Fault<'_>>) {
     match fault {
         Some(Fault::Missing(part)) => {
@@ -85,7 +85,7 @@ fn tell_fault<E: Output>(reply: &mut Reply<'_, E>, fault: Option<Fault<'_>>) {
     }
 }
 
-// The first word of these that is not as the usage has it. It is not looked for where a word may be left out, or is told already.
+// The first word of these that is not as the usage has it. It is not looked for if a word may be left out, or is printed already.
 fn fault_in<'a>(usage: &str, words: &'a [String]) -> Option<Fault<'a>> {
     if usage.contains('[') || usage.contains(':') || usage.contains('-') {
         return None;
