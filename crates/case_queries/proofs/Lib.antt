@@ -16,3 +16,4 @@ pub mod StoredLemmas
 pub mod FactLemmas
 pub mod ToldLemmas
 pub mod GatherLemmas
+pub mod SymbolLemmas

@@ -8,7 +8,6 @@ use Rattle.address_space.specs.Source.{ExecutableView}
 use Rattle.archive_replies.specs.Reasons.{reason_of}
 use Rattle.disk_model.specs.Disk.{HasRisen}
 use Rattle.disk_model.specs.declared.disk.Disk as disk
-use Rattle.image_replies.specs.Core.{core_fault_of}
 use Rattle.image_replies.specs.Reasons.{core_reason}
 use Rattle.image_replies.specs.declared.core_image.CoreFault.{CoreFault}
 use Rattle.intake.specs.Blocks.{image_in}
@@ -20,16 +19,17 @@ use Rattle.intake.specs.declared.faults.ArchiveFault.TheVariants.{Stopped, NoCas
 use Rattle.journal_layout.specs.Soundness.{case_numbered}
 use Rattle.journal_layout.specs.Case.{Case}
 use Rattle.journal_layout.specs.declared.entry.Kind.{Kind}
-use Rattle.script_lines.specs.Queries.{QuerySaid, ask_symbol, ask_by_build}
+use Rattle.script_lines.specs.Queries.{QuerySaid}
 use Rattle.script_streams.specs.Replies.{no_reply, reply_of}
 use Rattle.memory_replies.specs.Answers.{Answers, memory_reply}
 use Rattle.case_queries.specs.Collecting.{Collects, CollectsAll, Gathered, Wanted, debugs_for, gathered_with, is_for, is_named_by, is_wanted, wanted_case, wanted_for}
 use Rattle.build_replies.specs.Choosing.{told_files}
-use Rattle.build_replies.specs.NameWords.{wanted_debugs}
-use Rattle.script_lines.specs.Queries.{ask_header, ask_notes, ask_threads, ask_registers, ask_process, ask_signal, ask_auxiliary_vector, ask_files, ask_maps, ask_dump, ask_find, ask_strings, ask_backtrace, ask_unwind, ask_frame, ask_builds, ask_symbol, ask_by_build}
+use Rattle.build_ids.specs.BuildId.{build_id_of}
+use Rattle.build_replies.specs.NameWords.{name_of_debug, wanted_debugs}
+use Rattle.script_lines.specs.Queries.{ask_header, ask_notes, ask_threads, ask_registers, ask_process, ask_signal, ask_auxiliary_vector, ask_files, ask_maps, ask_dump, ask_find, ask_strings, ask_backtrace, ask_unwind, ask_frame, ask_builds, ask_symbol, ask_by_build, ask_symbol_by_build}
 use Rattle.script_lines.specs.declared.query.BuildQuery.TheVariants as builds
 use Rattle.case_queries.specs.InspectLaws.{asked_kind, steps_of}
-use Rattle.case_queries.specs.Inspecting.{MayAsk, Told, answer_of, reads_executables}
+use Rattle.case_queries.specs.Inspecting.{MayAsk, Told, answer_of, core_fault_for, reads_executables}
 use Rattle.case_queries.specs.LeaveLaws.{collects_leaves}
 use Rattle.case_queries.specs.Seeing.{LooksAt, SeesImage}
 use Rattle.case_queries.specs.Steps.{Asks, ShowsBy, ShowsCore, ShowsWithExecutables, ToldWithExecutables}
@@ -89,6 +89,7 @@ wanted_there (ask_frame t i) b cases = picked_there (is_for (told_files b)) case
 wanted_there (ask_builds query) b cases = picked_there (is_for (told_files b)) cases
 wanted_there (ask_symbol x) b cases = picked_there (is_wanted b) cases
 wanted_there (ask_by_build query) b cases = picked_there (is_for (told_files b)) cases
+wanted_there (ask_symbol_by_build x) b cases = picked_there (is_named_by (name_of_debug (build_id_of b))) cases
 
 debugs_there : (q : QuerySaid) (b : List ℕ) (cases : List Case) (xs : List ExecutableView) → All (IsThere cases) (debugs_for q b cases xs)
 debugs_there ask_header b cases xs = All-nil (IsThere cases)
@@ -110,7 +111,9 @@ debugs_there (ask_builds builds.Compared) b cases xs = All-nil (IsThere cases)
 debugs_there (ask_builds builds.Used) b cases xs = picked_there (is_named_by (wanted_debugs (told_files b) xs)) cases
 debugs_there (ask_builds builds.Wanted) b cases xs = All-nil (IsThere cases)
 debugs_there (ask_symbol x) b cases xs = All-nil (IsThere cases)
-debugs_there (ask_by_build query) b cases xs = All-nil (IsThere cases)
+debugs_there (ask_by_build (ask_backtrace t)) b cases xs = picked_there (is_named_by (wanted_debugs (told_files b) xs)) cases
+debugs_there (ask_by_build _) b cases xs = All-nil (IsThere cases)
+debugs_there (ask_symbol_by_build x) b cases xs = All-nil (IsThere cases)
 
 -- a count that rose since a moment rose since each moment before
 risen_since : (a b c : ℕ) → a ≤ b → HasRisen b c → HasRisen a c
@@ -228,7 +231,7 @@ module _ {D : Type 0} (g : disk.Ghosts D) where
     by_unread then ws f on there later (inl short) told = inr (hindered a new f reply (inl cc) told)
     by_unread then ws f on there later (inr all) told = inr (hindered a new f reply (hinders_since a then new f later (unread then new ws f on there all)) told)
 
-    by_more : reads_executables q ≡ true → core_fault_of image ≡ None → (xs : List ExecutableView) (read : Parts D) → Collects g mid Wants (Ok xs) read → (more : Result (List ExecutableView) ArchiveFault) → CollectsAll g read (Debugs xs) more new
+    by_more : reads_executables q ≡ true → core_fault_for q image ≡ None → (xs : List ExecutableView) (read : Parts D) → Collects g mid Wants (Ok xs) read → (more : Result (List ExecutableView) ArchiveFault) → CollectsAll g read (Debugs xs) more new
         → ToldWithExecutables kind q image (gathered_with Wants xs (Debugs xs) more) reply → IsAnswered
     by_more reads sound xs read all (Ok ds) (inl short) told = absurd cc
     by_more reads sound xs read all (Ok ds) (inr rest) told =
@@ -242,7 +245,7 @@ module _ {D : Type 0} (g : disk.Ghosts D) where
         (subst (λ (s : ArchiveState). All (IsThere s.cases) (Debugs xs)) (sym same) (debugs_there q image (state_of mid).cases xs))
         (let first = sees.stays.later in let second = later_than mid read Wants xs all in omega (arith, first, second)) rest told
 
-    by_core : reads_executables q ≡ true → core_fault_of image ≡ None → ShowsCore g mid kind q image reply new → IsAnswered
+    by_core : reads_executables q ≡ true → core_fault_for q image ≡ None → ShowsCore g mid kind q image reply new → IsAnswered
     by_core reads sound (r, (Ok xs, read, inl short, more), told) = absurd cc
     by_core reads sound (r, (Ok xs, read, inr all, (more, rest, is)), told) =
         by_more reads sound xs read all more rest (subst (λ (x : Result Gathered ArchiveFault). ToldWithExecutables kind q image x reply) is told)
@@ -250,12 +253,12 @@ module _ {D : Type 0} (g : disk.Ghosts D) where
         by_unread mid Wants f runs_on (wanted_there q image (state_of mid).cases) sees.stays.later (subst (CollectsAll g mid Wants (Err f)) (sym still) collects)
         (subst (λ (x : Result Gathered ArchiveFault). ToldWithExecutables kind q image x reply) is told)
 
-    by_fault : reads_executables q ≡ true → (o : Option CoreFault) → core_fault_of image ≡ o → ShowsWithExecutables g mid kind q image o reply new → IsAnswered
+    by_fault : reads_executables q ≡ true → (o : Option CoreFault) → core_fault_for q image ≡ o → ShowsWithExecutables g mid kind q image o reply new → IsAnswered
     by_fault reads (Some fault) is shows = inl (of_fault image here reads fault is shows.0)
     by_fault reads None is shows = by_core reads is shows
 
     by_image : (t : Bool) → reads_executables q ≡ t → ShowsBy g mid kind q image t reply new → IsAnswered
-    by_image true reads shows = by_fault reads (core_fault_of image) refl shows
+    by_image true reads shows = by_fault reads (core_fault_for q image) refl shows
     by_image false reads shows = ⊎_elim (λ is. inl (of_image image here reads is)) (λ short. inr (inl short)) (told_of kind q image reply shows.0)
 
   asked : (old new : Parts D) (seq : ℕ) (q : QuerySaid) (kind : Kind) (reply : List ℕ) → IsTrue (g.is_honest old.disk) → MayAsk (state_of old) seq q kind → Asks g old seq q (Ok kind) reply new
@@ -294,14 +297,14 @@ module _ {D : Type 0} (g : disk.Ghosts D) where
   one a seq q kind reply reply' (of_image i x off told) (of_core j y on sound xs ds are beside told') = absurd (false≢true (sym off ∙ on))
   one a seq q kind reply reply' (of_fault i x on fault is told) (of_image j y off told') = absurd (false≢true (sym off ∙ on))
   one a seq q kind reply reply' (of_fault i x on fault is told) (of_fault j y on' fault' is' told') =
-      let faults : Some fault' ≡ Some fault = sym is' ∙ ap core_fault_of (one_image a seq i j x y) ∙ is in
+      let faults : Some fault' ≡ Some fault = sym is' ∙ ap (core_fault_for q) (one_image a seq i j x y) ∙ is in
       let same : fault' ≡ fault = cc in
       told' ∙ ap (λ (f : CoreFault). no_reply (core_reason f)) same ∙ sym told
   one a seq q kind reply reply' (of_fault i x on fault is told) (of_core j y on' sound xs ds are beside told') =
-      absurd (let e : None ≡ Some fault = sym sound ∙ ap core_fault_of (one_image a seq i j x y) ∙ is in cc)
+      absurd (let e : None ≡ Some fault = sym sound ∙ ap (core_fault_for q) (one_image a seq i j x y) ∙ is in cc)
   one a seq q kind reply reply' (of_core i x on sound xs ds are beside told) (of_image j y off told') = absurd (false≢true (sym off ∙ on))
   one a seq q kind reply reply' (of_core i x on sound xs ds are beside told) (of_fault j y on' fault is told') =
-      absurd (let e : None ≡ Some fault = sym sound ∙ sym (ap core_fault_of (one_image a seq i j x y)) ∙ is in cc)
+      absurd (let e : None ≡ Some fault = sym sound ∙ sym (ap (core_fault_for q) (one_image a seq i j x y)) ∙ is in cc)
   one a seq q kind reply reply' (of_core i x on sound xs ds are beside told) (of_core j y on' sound' ys es are' beside' told') =
       let cases = (state_of a).cases in
       let image = one_image a seq i j x y in

@@ -1,10 +1,11 @@
--- The executables that a line over memory reads with its core: those whose names the core's NT_FILE has, and those under the names of
--- the builds that it tells; and the debug files of those that are used.
+-- The executables that a line reads beside the image that it asks: with a core those whose names the core's NT_FILE has, and those under
+-- the names of the builds that it tells; and the debug files of those that are used. With an executable it reads its debug file.
 use Rattle.std.specs.Prelude.{◌≡◌, ◌⊎◌, ◌&&◌, ℕ, Bool, true, false, List, [], ◌∷◌, ◌++◌, filter, map, Result, Ok, Err, MatchResult}
 use Rattle.address_space.specs.Source.{ExecutableView}
+use Rattle.build_ids.specs.BuildId.{build_id_of}
 use Rattle.build_replies.specs.Builds.{NamedId}
 use Rattle.build_replies.specs.Choosing.{told_files}
-use Rattle.build_replies.specs.NameWords.{is_one_of, stored_names, wanted_debugs}
+use Rattle.build_replies.specs.NameWords.{is_one_of, name_of_debug, stored_names, wanted_debugs}
 use Rattle.disk_model.specs.declared.disk.Disk as disk
 use Rattle.intake.specs.Parts.{Parts, state_of}
 use Rattle.intake.specs.declared.faults.ArchiveFault.{ArchiveFault}
@@ -13,7 +14,7 @@ use Rattle.journal_layout.specs.Case.{Case}
 use Rattle.journal_layout.specs.declared.entry.Kind.{Kind}
 use Rattle.journal_layout.specs.declared.entry.Kind.TheVariants.{Core, Exec}
 use Rattle.memory_replies.specs.Memory.{is_mapped}
-use Rattle.script_lines.specs.Queries.{QuerySaid, ask_builds, ask_by_build, ask_frame, ask_unwind}
+use Rattle.script_lines.specs.Queries.{QuerySaid, ask_backtrace, ask_builds, ask_by_build, ask_frame, ask_symbol_by_build, ask_unwind}
 use Rattle.script_lines.specs.declared.query.BuildQuery.TheVariants.{Used}
 use Rattle.case_queries.specs.Seeing.{LooksAt}
 
@@ -54,19 +55,26 @@ wanted_by told cases = map wanted_case (filter (is_for told) cases)
 abbrev pub debugs_by : List NamedId → List ExecutableView → List Case → List Wanted
 debugs_by told xs cases = named_by (wanted_debugs told xs) cases
 
--- Those that a line reads with a core: the lines over call frames and builds choose by build, the others by path alone.
+-- what is stored under the name of the debug file of an executable's build
+abbrev pub own_debugs : List ℕ → List Case → List Wanted
+own_debugs b cases = named_by (name_of_debug (build_id_of b)) cases
+
+-- Those that a line reads with a core: the lines over call frames and builds choose by build, the others by path alone. With an executable
+-- its debug file is read.
 abbrev pub wanted_for : QuerySaid → List ℕ → List Case → List Wanted
 wanted_for (ask_unwind thread) b cases = wanted_by (told_files b) cases
 wanted_for (ask_frame thread frame) b cases = wanted_by (told_files b) cases
 wanted_for (ask_builds query) b cases = wanted_by (told_files b) cases
 wanted_for (ask_by_build query) b cases = wanted_by (told_files b) cases
+wanted_for (ask_symbol_by_build address) b cases = own_debugs b cases
 wanted_for q b cases = wanted_of b cases
 
--- The debug files that a line reads after these executables: lines over call frames do, and that over what is used.
+-- The debug files that a line reads after these executables: lines over call frames do, that over what is used, and `bt` by build.
 abbrev pub debugs_for : QuerySaid → List ℕ → List Case → List ExecutableView → List Wanted
 debugs_for (ask_unwind thread) b cases xs = debugs_by (told_files b) xs cases
 debugs_for (ask_frame thread frame) b cases xs = debugs_by (told_files b) xs cases
 debugs_for (ask_builds Used) b cases xs = debugs_by (told_files b) xs cases
+debugs_for (ask_by_build (ask_backtrace thread)) b cases xs = debugs_by (told_files b) xs cases
 debugs_for q b cases xs = []
 
 -- an executable, and those after it

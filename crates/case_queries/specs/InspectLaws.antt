@@ -3,7 +3,6 @@ use Rattle.std.proofs.Common.{◌≡◌, ℕ, Bool, true, false, List, Option, N
 use Rattle.std.specs.Prelude.{codes}
 use Rattle.case_journal.specs.Viewing.{OnlyReads}
 use Rattle.disk_model.specs.declared.disk.Disk as disk
-use Rattle.image_replies.specs.Core.{core_fault_of}
 use Rattle.image_replies.specs.declared.core_image.CoreFault.{CoreFault}
 use Rattle.intake.specs.Parts.{Parts, state_of}
 use Rattle.journal_layout.specs.Soundness.{case_numbered}
@@ -11,7 +10,7 @@ use Rattle.journal_layout.specs.Case.{Case}
 use Rattle.journal_layout.specs.declared.entry.Kind.{Kind}
 use Rattle.script_lines.specs.Queries.{QuerySaid}
 use Rattle.script_streams.specs.Replies.{no_reply}
-use Rattle.case_queries.specs.Inspecting.{Inspects, MayAsk, archive_stopped, no_such_case, other_kind, image_unread, core_faulty, executable_unread, shown_with_executables, shown, kind_for, reads_executables}
+use Rattle.case_queries.specs.Inspecting.{Inspects, MayAsk, archive_stopped, no_such_case, other_kind, image_unread, core_faulty, executable_unread, shown_with_executables, shown, core_fault_for, kind_for, reads_executables}
 use Rattle.case_queries.specs.LeaveLaws.{Leaves, asks_leaves, asks_quiet}
 use Rattle.case_queries.specs.Seeing.{LooksAt}
 use Rattle.case_queries.specs.Steps.{Asks, ShowsBy, ShowsWithExecutables, kind_asked, kind_found}
@@ -22,13 +21,13 @@ module _ {D : Type 0} (g : disk.Ghosts D) (old : Parts D) (seq : ℕ) (q : Query
     looked : new ≡ mid → LooksAt g old seq (Ok image) new
     looked is = subst (λ (x : Parts D). LooksAt g old seq (Ok image) x) (sym is) looks
 
-    of_core : reads_executables q ≡ true → (o : Option CoreFault) → core_fault_of image ≡ o → ShowsWithExecutables g mid kind q image o reply new → Inspects g old seq q reply new
+    of_core : reads_executables q ≡ true → (o : Option CoreFault) → core_fault_for q image ≡ o → ShowsWithExecutables g mid kind q image o reply new → Inspects g old seq q reply new
     of_core reads (Some fault) is shows = core_faulty kind may image (looked shows.1) reads fault is shows.0
     of_core reads None is (Ok read, gathers, told) = shown_with_executables kind may image mid looks reads is read gathers told
     of_core reads None is (Err f, gathers, told) = executable_unread kind may image mid looks reads is f gathers told
 
     of_image : (b : Bool) → reads_executables q ≡ b → ShowsBy g mid kind q image b reply new → Inspects g old seq q reply new
-    of_image true reads shows = of_core reads (core_fault_of image) refl shows
+    of_image true reads shows = of_core reads (core_fault_for q image) refl shows
     of_image false reads shows = shown kind may image (looked shows.1) reads shows.0
 
   of_kind : (new : Parts D) (kind : Kind) → MayAsk (state_of old) seq q kind → Asks g old seq q (Ok kind) reply new → Inspects g old seq q reply new
@@ -69,7 +68,7 @@ module _ {D : Type 0} (g : disk.Ghosts D) (old : Parts D) (seq : ℕ) (q : Query
     by_reads : (kind : Kind) (image : List ℕ) (mid : Parts D) (b : Bool) → reads_executables q ≡ b → ShowsBy g mid kind q image b reply new → ShowsBy g mid kind q image (reads_executables q) reply new
     by_reads kind image mid b is shows = subst (λ (x : Bool). ShowsBy g mid kind q image x reply new) (sym is) shows
 
-    by_fault : (kind : Kind) (image : List ℕ) (mid : Parts D) (o : Option CoreFault) → core_fault_of image ≡ o → ShowsWithExecutables g mid kind q image o reply new → ShowsWithExecutables g mid kind q image (core_fault_of image) reply new
+    by_fault : (kind : Kind) (image : List ℕ) (mid : Parts D) (o : Option CoreFault) → core_fault_for q image ≡ o → ShowsWithExecutables g mid kind q image o reply new → ShowsWithExecutables g mid kind q image (core_fault_for q image) reply new
     by_fault kind image mid o is shows = subst (λ (x : Option CoreFault). ShowsWithExecutables g mid kind q image x reply new) (sym is) shows
 
     -- and the other way round

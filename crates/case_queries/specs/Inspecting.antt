@@ -1,11 +1,14 @@
 -- What a line that asks an image answers, and what it leaves of the archive.
-use Rattle.std.specs.Prelude.{◌≡◌, ◌⊎◌, ℕ, List, [], Bool, true, false, None, Some, Result, Ok, Err, codes}
+use Rattle.std.specs.Prelude.{◌≡◌, ◌⊎◌, ℕ, List, [], Bool, true, false, find, Option, None, Some, Result, Ok, Err, codes}
+use Rattle.std.specs.Option.{option_map}
 use Rattle.address_space.specs.Source.{ExecutableView}
 use Rattle.disk_model.specs.declared.disk.Disk as disk
 use Rattle.elf_view.specs.declared.faults.Want.{Want}
 use Rattle.elf_view.specs.declared.faults.Want.TheVariants as want
+use Rattle.build_ids.specs.BuildId.{build_id_of}
 use Rattle.build_replies.specs.Builds.{BuildsAsking, builds_answer, compares, uses, wants}
-use Rattle.build_replies.specs.Choosing.{told_files, used_of}
+use Rattle.build_replies.specs.ByBuild.{is_debug_of}
+use Rattle.build_replies.specs.Choosing.{debugs_of, told_files, used_of}
 use Rattle.frame_replies.specs.FrameLines.{unwind_answer}
 use Rattle.frame_replies.specs.FrameRegisters.{frame_answer}
 use Rattle.image_replies.specs.Header.{header_answer}
@@ -27,26 +30,32 @@ use Rattle.journal_layout.specs.Case.{Case}
 use Rattle.journal_layout.specs.declared.entry.Kind.{Kind}
 use Rattle.journal_layout.specs.declared.entry.Kind.TheVariants.{Core, Exec}
 use Rattle.memory_replies.specs.Answers.{Answers, memory_reply}
-use Rattle.memory_replies.specs.Backtrace.{bt_answer}
+use Rattle.memory_replies.specs.Backtrace.{bt_answer, bt_with_debugs}
 use Rattle.memory_replies.specs.Dump.{dump_answer}
 use Rattle.memory_replies.specs.Find.{find_answer}
 use Rattle.memory_replies.specs.Maps.{maps_answer}
 use Rattle.memory_replies.specs.Texts.{strings_answer}
 use Rattle.memory_replies.specs.Symbol.{symbol_answer, executable_fault}
+use Rattle.memory_replies.specs.SymbolDebug.{symbol_with_debug}
 use Rattle.script_lines.specs.declared.query.BuildQuery.{BuildQuery}
 use Rattle.script_lines.specs.declared.query.BuildQuery.TheVariants as builds
-use Rattle.script_lines.specs.Queries.{QuerySaid, ask_header, ask_notes, ask_threads, ask_registers, ask_process, ask_signal, ask_auxiliary_vector, ask_files, ask_maps, ask_dump, ask_find, ask_strings, ask_backtrace, ask_unwind, ask_frame, ask_builds, ask_symbol, ask_by_build}
+use Rattle.script_lines.specs.Queries.{QuerySaid, ask_header, ask_notes, ask_threads, ask_registers, ask_process, ask_signal, ask_auxiliary_vector, ask_files, ask_maps, ask_dump, ask_find, ask_strings, ask_backtrace, ask_unwind, ask_frame, ask_builds, ask_symbol, ask_by_build, ask_symbol_by_build}
 use Rattle.script_streams.specs.Replies.{no_reply, reply_of}
 use Rattle.case_queries.specs.Collecting.{Gathered, GathersFor, Wanted}
 use Rattle.archive_replies.specs.Reasons.{reason_of}
 use Rattle.case_queries.specs.Seeing.{LooksAt}
 
+-- the kind of an executable; the line asks no core
+abbrev pub executable_kind : Kind → Result Kind (List ℕ)
+executable_kind Core = Err (codes "NotExec")
+executable_kind Exec = Ok Exec
+
 -- of which kind a case is, where the line may ask one of that kind: a header is asked of both, a symbol of executables, all else
 -- of cores
 abbrev pub kind_for : QuerySaid → Kind → Result Kind (List ℕ)
 kind_for ask_header kind = Ok kind
-kind_for (ask_symbol address) Core = Err (codes "NotExec")
-kind_for (ask_symbol address) Exec = Ok Exec
+kind_for (ask_symbol address) kind = executable_kind kind
+kind_for (ask_symbol_by_build address) kind = executable_kind kind
 kind_for q Core = Ok Core
 kind_for q Exec = Err (codes "NotCore")
 
@@ -65,8 +74,27 @@ asking_by builds.Wanted cases = wants
 abbrev pub used_for : List ℕ → List ExecutableView → List ExecutableView
 used_for b xs = used_of xs (told_files b)
 
--- what a query's answer shows of the bytes of an image, and of the executables of these cases, which are read for a core's mapped files;
--- or why it shows nothing
+-- and the debug files of these
+abbrev pub debugs_used_for : List ℕ → List ExecutableView → List ExecutableView
+debugs_used_for b xs = debugs_of xs (told_files b)
+
+-- Executables are chosen by build: then `bt` names functions by the debug files of these too. Any other line is answered as it is with
+-- these.
+abbrev pub by_debugs : QuerySaid → List ℕ → List ExecutableView → List ExecutableView → Result (List ℕ) (List ℕ) → Result (List ℕ) (List ℕ)
+by_debugs (ask_backtrace thread) b xs debugs answer = bt_with_debugs b xs debugs thread
+by_debugs q b xs debugs answer = answer
+
+-- the debug file of the build of that ID, of what is stored under its name
+abbrev pub debug_of_build : Option (List ℕ) → List ExecutableView → Option ExecutableView
+debug_of_build None xs = None
+debug_of_build (Some id) xs = find (λ (x : ExecutableView). is_debug_of id x.image) xs
+
+-- that of an executable
+abbrev pub debug_image : List ℕ → List ExecutableView → Option (List ℕ)
+debug_image b xs = option_map (λ (x : ExecutableView). x.image) (debug_of_build (build_id_of b) xs)
+
+-- what a query's answer shows of the bytes of an image, and of the executables of these cases, which are read for it; or why it shows
+-- nothing
 abbrev pub answer_of : Kind → QuerySaid → List ℕ → List Wanted → List ExecutableView → Result (List ℕ) (List ℕ)
 answer_of kind ask_header b cases xs = header_answer (want_of kind) b
 answer_of kind ask_notes b cases xs = notes_answer b
@@ -85,9 +113,10 @@ answer_of kind (ask_unwind thread) b cases xs = unwind_answer b xs thread
 answer_of kind (ask_frame thread frame) b cases xs = frame_answer b xs thread frame
 answer_of kind (ask_builds query) b cases xs = builds_answer (asking_by query cases) b xs
 answer_of kind (ask_symbol address) b cases xs = symbol_answer b address
-answer_of kind (ask_by_build query) b cases xs = answer_of kind query b cases (used_for b xs)
+answer_of kind (ask_by_build query) b cases xs = by_debugs query b (used_for b xs) (debugs_used_for b xs) (answer_of kind query b cases (used_for b xs))
+answer_of kind (ask_symbol_by_build address) b cases xs = symbol_with_debug b (debug_image b xs) address
 
--- the lines that read the executables whose names the core's NT_FILE has
+-- the lines that read executables beside the image that they ask
 abbrev pub reads_executables : QuerySaid → Bool
 reads_executables (ask_dump first length) = true
 reads_executables (ask_find needle) = true
@@ -97,7 +126,13 @@ reads_executables (ask_unwind thread) = true
 reads_executables (ask_frame thread frame) = true
 reads_executables (ask_builds query) = true
 reads_executables (ask_by_build query) = true
+reads_executables (ask_symbol_by_build address) = true
 reads_executables _ = false
+
+-- Before they are read, the fault of the core for which it is refused. An executable's symbol is asked of no core.
+abbrev pub core_fault_for : QuerySaid → List ℕ → Option CoreFault
+core_fault_for (ask_symbol_by_build address) b = None
+core_fault_for q b = core_fault_of b
 
 -- The reply where no executable is read: that of the answer. The table of an executable's symbols takes memory.
 abbrev pub Told : Kind → QuerySaid → List ℕ → List ℕ → Type 0
@@ -125,14 +160,14 @@ pub data Inspects {D : Type 0} (g : disk.Ghosts D) (old : Parts D) (seq : ℕ) (
   image_unread : (kind : Kind) → MayAsk (state_of old) seq q kind → (f : ArchiveFault) → LooksAt g old seq (Err f) new → reply ≡ no_reply (reason_of f) → Inspects g old seq q reply new
   -- executables are wanted, and the core has a fault
   core_faulty : (kind : Kind) → MayAsk (state_of old) seq q kind → (image : List ℕ) → LooksAt g old seq (Ok image) new
-      → reads_executables q ≡ true → (fault : CoreFault) → core_fault_of image ≡ Some fault → reply ≡ no_reply (core_reason fault) → Inspects g old seq q reply new
+      → reads_executables q ≡ true → (fault : CoreFault) → core_fault_for q image ≡ Some fault → reply ≡ no_reply (core_reason fault) → Inspects g old seq q reply new
   -- one of them can't be read
   executable_unread : (kind : Kind) → MayAsk (state_of old) seq q kind → (image : List ℕ) → (mid : Parts D) → LooksAt g old seq (Ok image) mid
-      → reads_executables q ≡ true → core_fault_of image ≡ None → (f : ArchiveFault) → GathersFor g mid q image (Err f) new → reply ≡ no_reply (reason_of f)
+      → reads_executables q ≡ true → core_fault_for q image ≡ None → (f : ArchiveFault) → GathersFor g mid q image (Err f) new → reply ≡ no_reply (reason_of f)
       → Inspects g old seq q reply new
   -- the answer is shown, of the image, of the executables and of their debug files
   shown_with_executables : (kind : Kind) → MayAsk (state_of old) seq q kind → (image : List ℕ) → (mid : Parts D) → LooksAt g old seq (Ok image) mid
-      → reads_executables q ≡ true → core_fault_of image ≡ None → (read : Gathered) → GathersFor g mid q image (Ok read) new
+      → reads_executables q ≡ true → core_fault_for q image ≡ None → (read : Gathered) → GathersFor g mid q image (Ok read) new
       → Answers (answer_of kind q image read.cases read.images) reply → Inspects g old seq q reply new
   -- the answer is shown, of the image alone
   shown : (kind : Kind) → MayAsk (state_of old) seq q kind → (image : List ℕ) → LooksAt g old seq (Ok image) new → reads_executables q ≡ false → Told kind q image reply

@@ -4,7 +4,6 @@ use Rattle.std.specs.Prelude.{IsTrue}
 use Rattle.address_space.specs.Source.{ExecutableView}
 use Rattle.case_journal.specs.Viewing.{OnlyReads}
 use Rattle.disk_model.specs.declared.disk.Disk as disk
-use Rattle.image_replies.specs.Core.{core_fault_of}
 use Rattle.image_replies.specs.declared.core_image.CoreFault.{CoreFault}
 use Rattle.intake.specs.Calls.{ChangesNoCase}
 use Rattle.intake.specs.Contents.{Contents, UnmovedBytes, image_at}
@@ -20,7 +19,7 @@ use Rattle.journal_layout.specs.Case.{Case}
 use Rattle.journal_layout.specs.declared.entry.Kind.{Kind}
 use Rattle.script_lines.specs.Queries.{QuerySaid}
 use Rattle.case_queries.specs.Collecting.{Collects, CollectsAll, Gathered, Gathers, GathersMore, Wanted}
-use Rattle.case_queries.specs.Inspecting.{reads_executables}
+use Rattle.case_queries.specs.Inspecting.{core_fault_for, reads_executables}
 use Rattle.case_queries.specs.Steps.{Asks, ShowsBy, ShowsWithExecutables, ShowsSeen}
 use Rattle.case_queries.specs.Seeing.{AreOfCase, LooksAt}
 
@@ -137,7 +136,7 @@ module _ {D : Type 0} (g : disk.Ghosts D) where
   with_executables_leaves old new kind q b None reply shows = gathers_leaves old new _ _ shows.0 shows.1
 
   pub shows_leaves : (old new : Parts D) (kind : Kind) (q : QuerySaid) (b : List ℕ) (t : Bool) (reply : List ℕ) → ShowsBy g old kind q b t reply new → Leaves g old new
-  shows_leaves old new kind q b true reply shows = with_executables_leaves old new kind q b (core_fault_of b) reply shows
+  shows_leaves old new kind q b true reply shows = with_executables_leaves old new kind q b (core_fault_for q b) reply shows
   shows_leaves old new kind q b false reply shows = leaves_as old new shows.1
 
   seen_leaves : (old new : Parts D) (kind : Kind) (q : QuerySaid) (r : Result (List ℕ) ArchiveFault) (reply : List ℕ) → ShowsSeen g old kind q r reply new → Leaves g old new
@@ -194,7 +193,7 @@ module _ {D : Type 0} (g : disk.Ghosts D) (only : (d : D) (c : List ℕ) → g.l
   with_executables_quiet old new kind q b None reply shows = gathers_quiet old new _ _ shows.0 shows.1
 
   shows_quiet : (old new : Parts D) (kind : Kind) (q : QuerySaid) (b : List ℕ) (t : Bool) (reply : List ℕ) → ShowsBy g old kind q b t reply new → Quiet old new
-  shows_quiet old new kind q b true reply shows = with_executables_quiet old new kind q b (core_fault_of b) reply shows
+  shows_quiet old new kind q b true reply shows = with_executables_quiet old new kind q b (core_fault_for q b) reply shows
   shows_quiet old new kind q b false reply shows = quiet_as old new shows.1
 
   seen_quiet : (old new : Parts D) (kind : Kind) (q : QuerySaid) (r : Result (List ℕ) ArchiveFault) (reply : List ℕ) → ShowsSeen g old kind q r reply new → Quiet old new

@@ -4,7 +4,6 @@ use Rattle.std.specs.Prelude.{◌≡◌, ℕ, List, Bool, true, false, Option, N
 use Rattle.std.specs.Borrow.{Bor}
 use Rattle.address_space.specs.Source.{ExecutableView}
 use Rattle.disk_model.specs.declared.disk.Disk as disk
-use Rattle.image_replies.specs.Core.{core_fault_of}
 use Rattle.image_replies.specs.Reasons.{core_reason}
 use Rattle.image_replies.specs.declared.core_image.CoreFault.{CoreFault}
 use Rattle.intake.specs.Parts.{Parts, state_of}
@@ -18,7 +17,7 @@ use Rattle.script_lines.specs.Queries.{QuerySaid}
 use Rattle.script_streams.specs.Replies.{no_reply}
 use Rattle.archive_replies.specs.Reasons.{reason_of}
 use Rattle.case_queries.specs.Collecting.{CollectsAll, Gathered, GathersFor, Wanted, debugs_for, gathered_with}
-use Rattle.case_queries.specs.Inspecting.{Told, answer_of, kind_for, reads_executables}
+use Rattle.case_queries.specs.Inspecting.{Told, answer_of, core_fault_for, kind_for, reads_executables}
 use Rattle.case_queries.specs.Seeing.{LooksAt}
 
 abbrev pub kind_found : QuerySaid → Option Case → Result Kind (List ℕ)
@@ -52,7 +51,7 @@ ShowsWithExecutables g old kind q b (Some fault) reply new = (reply ≡ no_reply
 ShowsWithExecutables g old kind q b None reply new = ShowsCore g old kind q b reply new
 
 abbrev pub ShowsBy : {D : Type 0} → disk.Ghosts D → Parts D → Kind → QuerySaid → List ℕ → Bool → List ℕ → Parts D → Type 0
-ShowsBy g old kind q b true reply new = ShowsWithExecutables g old kind q b (core_fault_of b) reply new
+ShowsBy g old kind q b true reply new = ShowsWithExecutables g old kind q b (core_fault_for q b) reply new
 ShowsBy g old kind q b false reply new = Told kind q b reply × (new ≡ old)
 
 -- what a query shows of an image

@@ -4,7 +4,6 @@ use Rattle.address_space.specs.Source.{ExecutableView}
 use Rattle.archive_replies.specs.Reasons.{reason_of}
 use Rattle.disk_model.specs.Disk.{HasRisen}
 use Rattle.disk_model.specs.declared.disk.Disk as disk
-use Rattle.image_replies.specs.Core.{core_fault_of}
 use Rattle.image_replies.specs.Reasons.{core_reason}
 use Rattle.image_replies.specs.declared.core_image.CoreFault.{CoreFault}
 use Rattle.intake.specs.Blocks.{image_in}
@@ -16,7 +15,7 @@ use Rattle.journal_layout.specs.declared.entry.Kind.{Kind}
 use Rattle.script_lines.specs.Queries.{QuerySaid}
 use Rattle.script_streams.specs.Replies.{no_reply, reply_of}
 use Rattle.case_queries.specs.Collecting.{Wanted, debugs_for, wanted_for}
-use Rattle.case_queries.specs.Inspecting.{Inspects, MayAsk, answer_of, reads_executables}
+use Rattle.case_queries.specs.Inspecting.{Inspects, MayAsk, answer_of, core_fault_for, reads_executables}
 
 -- These bytes are the image of the case of this number, each at its place: those of the blocks that it has on the disk, one block after
 -- another, as many as the case has.
@@ -37,10 +36,10 @@ pub data IsAnsweredOfTheCase {D : Type 0} (seen : D → List ℕ) (a : Parts D) 
   -- of the image alone
   of_image : (image : List ℕ) → IsStored seen a seq image → reads_executables q ≡ false → reply ≡ reply_of (answer_of kind q image [] []) → IsAnsweredOfTheCase seen a seq q kind reply
   -- why the core is not shown
-  of_fault : (image : List ℕ) → IsStored seen a seq image → reads_executables q ≡ true → (fault : CoreFault) → core_fault_of image ≡ Some fault → reply ≡ no_reply (core_reason fault)
+  of_fault : (image : List ℕ) → IsStored seen a seq image → reads_executables q ≡ true → (fault : CoreFault) → core_fault_for q image ≡ Some fault → reply ≡ no_reply (core_reason fault)
       → IsAnsweredOfTheCase seen a seq q kind reply
-  -- of the core, of the executables for its mapped files, and of the debug files of these
-  of_core : (image : List ℕ) → IsStored seen a seq image → reads_executables q ≡ true → core_fault_of image ≡ None
+  -- of the image, of the executables that are read for it, and of the debug files of these
+  of_core : (image : List ℕ) → IsStored seen a seq image → reads_executables q ≡ true → core_fault_for q image ≡ None
       → (xs ds : List ExecutableView) → AreStored seen a (wanted_for q image (state_of a).cases) xs → AreStored seen a (debugs_for q image (state_of a).cases xs) ds
       → reply ≡ reply_of (answer_of kind q image (wanted_for q image (state_of a).cases ++ debugs_for q image (state_of a).cases xs) (xs ++ ds))
       → IsAnsweredOfTheCase seen a seq q kind reply

@@ -9,7 +9,7 @@ ghost use Rattle.build_replies.specs.Builds.{told_or_none};
 ghost use Rattle.build_replies.specs.BuildsWords.{numbered_view};
 ghost use Rattle.build_replies.specs.Mapped.{id_view, told_view};
 ghost use Rattle.build_replies.specs.NameWords.{names_in};
-ghost use Rattle.case_queries.specs.Collecting.{Collects, CollectsAll, Wanted, debugs_by, is_named_by, is_wanted, named_by, wanted_by, wanted_of};
+ghost use Rattle.case_queries.specs.Collecting.{Collects, CollectsAll, Wanted, debugs_by, is_named_by, is_wanted, named_by, own_debugs, wanted_by, wanted_of};
 ghost use Rattle.case_queries.specs.CollectingWords.{executable_view, collected_view, read_as, wanted_view};
 ghost use Rattle.case_queries.specs.Keeping.{StayCollected};
 
@@ -193,6 +193,34 @@ fn debugs_among(
     let lent = lent(alloc, executables)?;
     let chosen = ChosenExecutables::of(alloc, files, &lent.attached)?;
     let names = debug_names(alloc, &chosen.used)?;
+    let stored = StoredNames::of_names(alloc, &names)?;
+    named_among(alloc, &stored, entries)
+}
+
+// What is stored under the name of the debug file of an executable's build. The error is that there is no memory.
+pub(crate) fn wanted_own_debugs<D: Disk>(
+    alloc: Global,
+    image: &[u8],
+    archive: &Archive<D>,
+) -> Result<Vec<WantedCase>, AllocError>
+    requires { archive.now.stopped ≡ false }
+    ensures { IfOk result (λ v. map wanted_view v.items ≡ own_debugs image.now (state_of archive.now).cases) }
+{
+    match archive.cases() {
+        Ok(entries) => own_debugs_among(alloc, image, entries),
+        Err(_) => Ok(Vec::new(alloc)),
+    }
+}
+
+fn own_debugs_among(
+    alloc: Global,
+    image: &[u8],
+    entries: &[Entry],
+) -> Result<Vec<WantedCase>, AllocError>
+    ensures { IfOk result (λ v. map wanted_view v.items ≡ own_debugs image.now (map case_of entries.now)) }
+{
+    let executable = [Attached { path: b"", image }];
+    let names = debug_names(alloc, &executable)?;
     let stored = StoredNames::of_names(alloc, &names)?;
     named_among(alloc, &stored, entries)
 }

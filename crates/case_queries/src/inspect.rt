@@ -3,7 +3,7 @@ ghost use Rattle.std.specs.Prelude.{◌≡◌, false, IfOk, Ok};
 ghost use Rattle.intake.specs.Parts.{state_of};
 ghost use Rattle.script_streams.specs.Replies.{TellsOutcome, telling};
 ghost use Rattle.script_lines.specs.Queries.{query_of, image_query, ask_notes, ask_symbol};
-ghost use Rattle.case_queries.specs.Inspecting.{Inspects, kind_for};
+ghost use Rattle.case_queries.specs.Inspecting.{Inspects, executable_kind, kind_for};
 ghost use Rattle.case_queries.specs.Steps.{Asks, asked_view, kind_asked};
 ghost use Rattle.case_queries.specs.Keeping.{AreKept};
 ghost use Rattle.case_queries.specs.Seeing.{IsKept};
@@ -11,6 +11,7 @@ ghost use Rattle.case_queries.specs.Seeing.{IsKept};
 use crate::by_front::answer_by_front;
 use crate::kept_image::{Images, kept_if, see_image};
 use crate::memory::answer_by_memory;
+use crate::symbol_by_build::answer_symbol_by_build;
 use crate::with_builds::answer_with_builds;
 use archive_replies::reason;
 use disk_model::Disk;
@@ -49,6 +50,9 @@ pub fn answer_query<O: Output, D: Disk>(
         Query::Memory(query) => answer_by_memory(seq, kind, query, images, reply, archive),
         Query::ByBuild(query) => answer_with_builds(seq, kind, query, images, reply, archive),
         Query::Symbol { address } => answer_symbol(seq, kind, *address, images, reply, archive),
+        Query::SymbolByBuild { address } => {
+            answer_symbol_by_build(seq, kind, *address, images, reply, archive)
+        }
     }
 }
 
@@ -99,10 +103,17 @@ fn kind_for(query: &Query, kind: Kind) -> Result<Kind, &'static [u8]>
         Query::Image(query) => image_kind(query, kind),
         Query::Memory(_) => core_kind(kind),
         Query::ByBuild(_) => core_kind(kind),
-        Query::Symbol { .. } => match kind {
-            Kind::Core => Err(b"NotExec"),
-            Kind::Exec => Ok(Kind::Exec),
-        },
+        Query::Symbol { .. } => executable_kind(kind),
+        Query::SymbolByBuild { .. } => executable_kind(kind),
+    }
+}
+
+fn executable_kind(kind: Kind) -> Result<Kind, &'static [u8]>
+    ensures { asked_view result ≡ executable_kind kind }
+{
+    match kind {
+        Kind::Core => Err(b"NotExec"),
+        Kind::Exec => Ok(Kind::Exec),
     }
 }
 

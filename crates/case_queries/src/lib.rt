@@ -17,6 +17,7 @@ mod laws;
 mod memory;
 mod pieces;
 mod stack;
+mod symbol_by_build;
 mod told;
 mod walk;
 mod wanted;

@@ -296,7 +296,7 @@ fn debugs_for<D: Disk>(
 }
 
 // Those of what is used for a core of which all bytes are at hand.
-fn debugs_of_core<D: Disk>(
+pub(crate) fn debugs_of_core<D: Disk>(
     alloc: Global,
     core: &CoreImage<'_>,
     executables: &[StoredExecutable],

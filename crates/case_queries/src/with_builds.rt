@@ -1,5 +1,6 @@
 // The answers to lines over a core's memory to which the executables are attached of the builds that were mapped. All of the image is read.
-ghost use Rattle.std.specs.Prelude.{◌≡◌, Ok, false, map, IfOk};
+// For `bt` the debug files of these are read too.
+ghost use Rattle.std.specs.Prelude.{◌≡◌, ◌++◌, Ok, false, map, IfOk};
 ghost use Rattle.build_replies.specs.BuildsWords.{numbered_view};
 ghost use Rattle.image_replies.specs.CoreWords.{core_bytes};
 ghost use Rattle.memory_replies.specs.Answers.{AnswersWith, is_done};
@@ -7,59 +8,104 @@ ghost use Rattle.memory_replies.specs.Memory.{attached_view};
 ghost use Rattle.script_lines.specs.declared.query.MemoryQuery.{MemoryQuery};
 ghost use Rattle.script_lines.specs.Queries.{ask_by_build, memory_query};
 ghost use Rattle.script_streams.specs.Replies.{TellsOutcome, TellsReply, telling};
-ghost use Rattle.case_queries.specs.CollectingWords.{executable_view, read_as};
-ghost use Rattle.case_queries.specs.Inspecting.{answer_of, used_for};
+ghost use Rattle.intake.specs.Parts.{state_of};
+ghost use Rattle.case_queries.specs.Collecting.{debugs_for};
+ghost use Rattle.case_queries.specs.CollectingWords.{executable_view, read_as, wanted_view};
+ghost use Rattle.case_queries.specs.Inspecting.{answer_of, by_debugs, debugs_used_for, used_for};
 ghost use Rattle.case_queries.specs.Keeping.{AreKept, StayCollected};
+ghost use Rattle.case_queries.specs.LeaveLaws.{Leaves};
 ghost use Rattle.case_queries.specs.Seeing.{IsKept};
-ghost use Rattle.case_queries.specs.Steps.{Asks, Shows, ShowsCore};
+ghost use Rattle.case_queries.specs.Steps.{Asks, Shows, ShowsCore, ShowsGathered};
 ghost use Rattle.case_queries.specs.Windows.{IsSeenBy};
 
-use crate::collect_executables::{LentExecutables, StoredExecutable, collect, lent};
+use crate::collect_executables::{
+    LentExecutables, StoredExecutable, WantedCase, collect, lent_with,
+};
 use crate::kept_image::{Images, kept_if, see_image};
-use crate::memory::{refused_by, tell_memory, wanted_for_builds};
+use crate::memory::{debugs_of_core, refused_by, tell_memory, wanted_for_builds};
+use address_space::Attached;
 use archive_replies::reason;
 use build_replies::{ChosenExecutables, listed, told_ids};
 use disk_model::Disk;
 use image_replies::{CoreImage, tell_core_fault};
 use intake::Archive;
 use journal_layout::Kind;
-use memory_replies::{Outcome, Window};
+use memory_replies::{Outcome, Window, tell_bt_with_debugs};
 use script_lines::MemoryQuery;
 use script_streams::{Output, Reply, tell_no};
 use std::alloc::{AllocError, Global};
 
-// Of these executables, which are read for a core, those that are used for its mapped files, each under the name of its file; lent. The
-// error is that there is no memory.
+// Of the executables that are read for a core, those that are used for its mapped files, and the debug files of these.
+#[derive(Drop)]
+struct UsedExecutables<'e> {
+    lent: LentExecutables<'e>,
+    debugs: Vec<Attached<'e>>,
+}
+
+// Of these executables and debug files, which are read for a core, those that are used for its mapped files, each under the name of its
+// file; lent. The error is that there is no memory.
 fn lent_used<'a>(
     alloc: Global,
     core: &CoreImage<'a>,
     executables: &'a [StoredExecutable],
-) -> Result<LentExecutables<'a>, AllocError>
-    ensures attached { IfOk result (λ l. map attached_view l.attached.items ≡ used_for (core_bytes core.now) (map executable_view executables.now)) }
-    ensures cases { IfOk result (λ l. map numbered_view l.cases.items ≡ map read_as executables.now) }
+    debug_files: &'a [StoredExecutable],
+) -> Result<UsedExecutables<'a>, AllocError>
+    ensures attached { IfOk result (λ u. map attached_view u.lent.attached.items ≡ used_for (core_bytes core.now) (map executable_view executables.now ++ map executable_view debug_files.now)) }
+    ensures debugs { IfOk result (λ u. map attached_view u.debugs.items ≡ debugs_used_for (core_bytes core.now) (map executable_view executables.now ++ map executable_view debug_files.now)) }
+    ensures cases { IfOk result (λ u. map numbered_view u.lent.cases.items ≡ map read_as executables.now ++ map read_as debug_files.now) }
 {
-    let all = lent(alloc, executables)?;
+    let all = lent_with(alloc, executables, debug_files)?;
     let told = told_ids(alloc, core)?;
     let chosen = ChosenExecutables::of(alloc, listed(&told), &all.attached)?;
-    Ok(LentExecutables {
-        attached: chosen.used,
-        cases: all.cases,
+    Ok(UsedExecutables {
+        lent: LentExecutables {
+            attached: chosen.used,
+            cases: all.cases,
+        },
+        debugs: chosen.debugs,
     })
 }
 
-// Tells what a core answers with those of these executables that are used for its mapped files.
+// Tells what a core answers with these. `bt` names functions by the debug files too.
 fn tell_with_used<O: Output>(
     alloc: Global,
     kind: Kind,
     query: &MemoryQuery,
     core: &CoreImage<'_>,
-    executables: &[StoredExecutable],
+    used: &UsedExecutables<'_>,
     reply: &mut Reply<'_, O>,
 ) -> Outcome
-    ensures { TellsReply (telling O.Output reply.old reply.new) (AnswersWith result (answer_of kind (ask_by_build (memory_query query.now)) (core_bytes core.now) (map read_as executables.now) (map executable_view executables.now))) }
+    ensures { TellsReply (telling O.Output reply.old reply.new) (AnswersWith result (by_debugs (memory_query query.now) (core_bytes core.now) (map attached_view used.now.lent.attached.items) (map attached_view used.now.debugs.items) (answer_of kind (memory_query query.now) (core_bytes core.now) (map numbered_view used.now.lent.cases.items) (map attached_view used.now.lent.attached.items)))) }
 {
-    match lent_used(alloc, core, executables) {
-        Ok(used) => { tell_memory(alloc, kind, query, core, whole_window(core), &used, reply) }
+    let window = whole_window(core);
+    match query {
+        MemoryQuery::Backtrace { thread } => tell_bt_with_debugs(
+            alloc,
+            reply,
+            core,
+            window,
+            &used.lent.attached,
+            &used.debugs,
+            *thread,
+        ),
+        _ => tell_memory(alloc, kind, query, core, window, &used.lent, reply),
+    }
+}
+
+// Tells what a core answers with those of these executables that are used for its mapped files, and with the debug files of these.
+fn tell_with_debugs<O: Output>(
+    alloc: Global,
+    kind: Kind,
+    query: &MemoryQuery,
+    core: &CoreImage<'_>,
+    executables: &[StoredExecutable],
+    debug_files: &[StoredExecutable],
+    reply: &mut Reply<'_, O>,
+) -> Outcome
+    ensures { TellsReply (telling O.Output reply.old reply.new) (AnswersWith result (answer_of kind (ask_by_build (memory_query query.now)) (core_bytes core.now) (map read_as executables.now ++ map read_as debug_files.now) (map executable_view executables.now ++ map executable_view debug_files.now))) }
+{
+    match lent_used(alloc, core, executables, debug_files) {
+        Ok(used) => tell_with_used(alloc, kind, query, core, &used, reply),
         Err(_) => {
             tell_no(reply, b"OutOfMemory");
             Outcome::OutOfMemory
@@ -76,6 +122,49 @@ fn whole_window<'a>(core: &CoreImage<'a>) -> Window<'a>
         size: bytes.len() as u64,
         at: 0,
         bytes,
+    }
+}
+
+// The debug files that a line reads after these executables: `bt` alone names functions by them. The error is that there is no memory.
+fn debugs_wanted<D: Disk>(
+    alloc: Global,
+    query: &MemoryQuery,
+    core: &CoreImage<'_>,
+    executables: &[StoredExecutable],
+    archive: &Archive<D>,
+) -> Result<Vec<WantedCase>, AllocError>
+    requires { archive.now.stopped ≡ false }
+    ensures { IfOk result (λ v. map wanted_view v.items ≡ debugs_for (ask_by_build (memory_query query.now)) (core_bytes core.now) (state_of archive.now).cases (map executable_view executables.now)) }
+{
+    match query {
+        MemoryQuery::Backtrace { .. } => debugs_of_core(alloc, core, executables, archive),
+        _ => Ok(Vec::new(alloc)),
+    }
+}
+
+// Tells what a core and these executables answer, with the debug files that the line reads after them. Says what became of it.
+fn tell_gathered<O: Output, D: Disk>(
+    alloc: Global,
+    kind: Kind,
+    query: &MemoryQuery,
+    core: &CoreImage<'_>,
+    executables: &[StoredExecutable],
+    reply: &mut Reply<'_, O>,
+    archive: &mut Archive<D>,
+) -> Outcome
+    requires { archive.old.stopped ≡ false }
+    ensures answers { TellsOutcome (telling O.Output reply.old reply.new) (λ text. ShowsGathered D.Disk archive.old kind (ask_by_build (memory_query query.now)) (core_bytes core.now) (core_bytes core.now) (map read_as executables.now) (map executable_view executables.now) text archive.new) (is_done result) }
+    ensures leaves { Leaves D.Disk archive.old archive.new }
+{
+    let wanted = debugs_wanted(alloc, query, core, executables, archive);
+    match collect(alloc, wanted, None, archive) {
+        Ok(debug_files) => {
+            tell_with_debugs(alloc, kind, query, core, executables, &debug_files, reply)
+        }
+        Err(fault) => {
+            tell_no(reply, reason(fault));
+            refused_by(fault)
+        }
     }
 }
 
@@ -97,7 +186,7 @@ fn answer_in_core<O: Output, D: Disk>(
     let wanted = wanted_for_builds(alloc, core, archive);
     match collect(alloc, wanted, kept.take(), archive) {
         Ok(executables) => {
-            let outcome = tell_with_used(alloc, kind, query, core, &executables, reply);
+            let outcome = tell_gathered(alloc, kind, query, core, &executables, reply, archive);
             *kept = Some(executables);
             outcome
         }

@@ -172,7 +172,7 @@ pub(crate) const BUILDS: Word = Word {
     shown: "",
     takes: Takes::Flag,
     default: None,
-    help: "For `dump`, `find`, `strings` and `bt`: use the executables of the builds that the core tells, as `unwind` does, not those under its paths alone",
+    help: "For `dump`, `find`, `strings` and `bt`: use the executables of the builds that the core tells, as `unwind` does, not those under its paths alone. `bt` and `symbol` name functions by debug files too",
 };
 
 // How cores are named.

@@ -5,7 +5,6 @@ use Rattle.std.specs.Prelude.{option_map, IsTrue, codes}
 use Rattle.address_space.specs.Source.{ExecutableView}
 use Rattle.archive_replies.specs.Reasons.{reason_of}
 use Rattle.disk_model.specs.declared.disk.Disk as disk
-use Rattle.image_replies.specs.Core.{core_fault_of}
 use Rattle.image_replies.specs.declared.core_image.CoreFault.{CoreFault}
 use Rattle.intake.specs.Contents.{Contents, image_at}
 use Rattle.intake.specs.OneAnswer.{IsDecided}
@@ -18,7 +17,7 @@ use Rattle.journal_layout.specs.Case.{Case}
 use Rattle.journal_layout.specs.declared.entry.Kind.{Kind}
 use Rattle.case_queries.specs.Collecting.{Collects, CollectsAll, Gathered, Gathers, GathersMore, Wanted, debugs_for, gathered_with, wanted_for, with_executable}
 use Rattle.case_queries.specs.InspectLaws.{steps_of}
-use Rattle.case_queries.specs.Inspecting.{Inspects, Told, reads_executables}
+use Rattle.case_queries.specs.Inspecting.{Inspects, Told, core_fault_for, reads_executables}
 use Rattle.case_queries.specs.LeaveLaws.{all_leaves}
 use Rattle.case_queries.specs.Steps.{Asks, ShowsBy, ShowsWithExecutables, ShowsCore, ToldWithExecutables, kind_asked, kind_found}
 use Rattle.case_queries.specs.Seeing.{LooksAt}
@@ -204,7 +203,7 @@ module _ {D E : Type 0} (g : disk.Ghosts D) (h : disk.Ghosts E) where
     with_executables_agrees None shows shows' = core_agrees shows shows'
 
     by_agrees : (t : Bool) → ShowsBy g old kind q b t reply new → ShowsBy h old' kind q b t reply' new' → (reply' ≡ reply) × HoldSame g h new new'
-    by_agrees true shows shows' = with_executables_agrees (core_fault_of b) shows shows'
+    by_agrees true shows shows' = with_executables_agrees (core_fault_for q b) shows shows'
     by_agrees false shows shows' = (told_one kind q b reply reply' shows.0 shows'.0 bound bound', held_still old new old' new' same shows.1 shows'.1)
 
   -- an archive that is asked is not stopped

@@ -1,6 +1,6 @@
 use Rattle.std.proofs.Common.{refl}
 use Rattle.intake.specs.Parts.{state_of}
-use Rattle.script_lines.specs.Queries.{query_of, image_query, memory_query, ask_by_build, ask_symbol}
+use Rattle.script_lines.specs.Queries.{query_of, image_query, memory_query, ask_by_build, ask_symbol, ask_symbol_by_build}
 use Rattle.script_streams.specs.Replies.{no_reply}
 use Rattle.case_queries.specs.InspectLaws.{inspected}
 use Rattle.case_queries.specs.Steps.{kind_asked}
@@ -40,3 +40,10 @@ returns-in-Symbol-clause-answers g c =
     let told = c.answer_symbol.ensures.answers in
     let asked = rw c.in-Symbol.is at c.in-Ok.ensures.asked in
     rw c.in-Symbol.is (told.0, inspected g.D.Disk c.args.archive.now c.args.seq (ask_symbol c.in-Symbol.address) told.0 c.answer_symbol.new.archive (kind_told g.D.Disk c.args.archive.now c.answer_symbol.new.archive c.args.seq (ask_symbol c.in-Symbol.address) c.in-Ok.kind _ told.0 asked told.1), told.2, told.3)
+
+pub returns-in-SymbolByBuild-clause-answers : goal.returns-in-SymbolByBuild-clause-answers
+returns-in-SymbolByBuild-clause-answers g c =
+    let told = c.answer_symbol_by_build.ensures.answers in
+    let asked = rw c.in-SymbolByBuild.is at c.in-Ok.ensures.asked in
+    let query = ask_symbol_by_build c.in-SymbolByBuild.address in
+    rw c.in-SymbolByBuild.is (told.0, inspected g.D.Disk c.args.archive.now c.args.seq query told.0 c.answer_symbol_by_build.new.archive (kind_told g.D.Disk c.args.archive.now c.answer_symbol_by_build.new.archive c.args.seq query c.in-Ok.kind _ told.0 asked told.1), told.2, told.3)
