@@ -2,7 +2,7 @@
 _corekeep() {
     local word=${COMP_WORDS[COMP_CWORD]}
     local before=${COMP_WORDS[COMP_CWORD-1]}
-    local commands="format run store handle list info ask wants prune look extract check copy resize salvage memory"
+    local commands="format run store handle list info groups ask wants prune look extract unpack check copy resize salvage memory"
     local lines="list free delete pin unpin label retire upgrade header notes threads regs process signal auxv files maps dump find strings bt unwind frame builds symbol"
     local session="--template --uses-pid --limit"
     COMPREPLY=()
@@ -37,11 +37,12 @@ _corekeep() {
     handle) options="--check --flush --archive --length --stall --help" ;;
     list) options="--json --kind --name --pid --signal --since --until --label --pinned --last --no-wait --help" ;;
     info) options="--threads --json --no-wait --help" ;;
+    groups) options="--json --name --pid --signal --since --until --label --pinned --last --no-wait --help" ;;
     ask) options="--text --plain --json --builds --no-wait --help" ;;
     wants) options="--ids --json --no-wait --help" ;;
     prune) options="--cores --bytes --before --yes --no-wait --help" ;;
     look) options="--builds --no-wait --help" ;;
-    extract) options="--no-wait --quiet --help" ;;
+    extract | unpack) options="--no-wait --quiet --help" ;;
     salvage) options="--half --data --no-wait --quiet --help" ;;
     check) options="--images --no-wait --help" ;;
     copy) options="--half --data --layout --sparse --no-wait --quiet --help" ;;
@@ -59,7 +60,7 @@ _corekeep() {
         return
     fi
     # A case: its number, or `last`.
-    if { [ "${COMP_WORDS[1]}" = ask ] && [ "$COMP_CWORD" -eq 4 ]; } || { [[ ${COMP_WORDS[1]} = @(extract|info|wants) ]] && [ "$COMP_CWORD" -eq 3 ]; }; then
+    if { [ "${COMP_WORDS[1]}" = ask ] && [ "$COMP_CWORD" -eq 4 ]; } || { [[ ${COMP_WORDS[1]} = @(extract|unpack|info|groups|wants) ]] && [ "$COMP_CWORD" -eq 3 ]; }; then
         COMPREPLY=($(compgen -W "last $(corekeep ask "${COMP_WORDS[2]}" list --no-wait 2>/dev/null | sed -n 's/^\([0-9][0-9]*\) .*/\1/p')" -- "$word"))
         return
     fi

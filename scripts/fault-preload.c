@@ -294,6 +294,30 @@ int unlink(const char *path) {
     return real(path);
 }
 
+typedef int (*rename_type)(const char *, const char *);
+
+int rename(const char *from, const char *to) {
+    REAL(rename_type, "rename");
+    int met = is_met("rename") | is_met("change");
+    return met ? (int)failed() : real(from, to);
+}
+
+typedef int (*mkdir_type)(const char *, mode_t);
+
+int mkdir(const char *path, mode_t mode) {
+    REAL(mkdir_type, "mkdir");
+    int met = is_met("mkdir") | is_met("change");
+    return met ? (int)failed() : real(path, mode);
+}
+
+typedef int (*rmdir_type)(const char *);
+
+int rmdir(const char *path) {
+    REAL(rmdir_type, "rmdir");
+    is_met("change");
+    return real(path);
+}
+
 ssize_t write(int file, const void *from, size_t size) {
     ssize_t done;
     REAL(write_type, "write");

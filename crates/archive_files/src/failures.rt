@@ -53,6 +53,10 @@ pub enum FileWord {
     New,
     /// Whichever word names the file of a new archive.
     Made,
+    /// DIR, a folder that is made.
+    Folder,
+    /// The name that DIR has until it is whole.
+    FolderPart,
     /// The word that is shown so. Its file is there under its name, and whole, and what came after failed, with this number of the system's
     /// error (errno(3)), if there is one.
     Named(&'static str, Option<i32>),
@@ -66,6 +70,8 @@ impl FileWord {
             FileWord::File | FileWord::NewFile => "FILE",
             FileWord::New => "NEW",
             FileWord::Made => "the new file",
+            FileWord::Folder => "DIR",
+            FileWord::FolderPart => "DIR.part",
             FileWord::Named(name, _) => name,
         }
     }
@@ -294,6 +300,9 @@ fn file_text(alloc: Global, word: FileWord, fault: FileFault) -> Result<String, 
     let name = word.shown();
     if let FileWord::Named(_, number) = word {
         return named_text(alloc, name, number);
+    }
+    if fault == FileFault::Exists && word == FileWord::FolderPart {
+        return format!(in alloc; "corekeep: {name} is there: an unpack was stopped; remove it\n");
     }
     if fault == FileFault::Missing && word.is_made() {
         return format!(in alloc; "corekeep: {name}: there is no such folder\n");

@@ -27,9 +27,11 @@ use Rattle.unlocked_reading.specs.History.{HasEach, HoldsArchive}
 use Rattle.unlocked_reading.proofs.CopyLemmas.{stands_for}
 use Rattle.case_info.specs.Gathering.{AsksBuilds, CaseValue, FileValue, FilesBetween, FilesOn, FindsBuilds, Gathers, GathersBetween, GathersOn, SeesEach, SeesFilesOf, files_with, listed_view}
 use Rattle.case_info.specs.Planning.{IsPlan, PlansIn}
+use Rattle.case_info.specs.Unpacking.{UnpacksBetween, UnpacksOn}
 use Rattle.case_info.specs.declared.gathering.Gathered.{Gathered}
 use Rattle.case_info.specs.declared.gathering.ListedCase.{ListedCase}
 use Rattle.case_info.specs.declared.kept_files.KeptFile.{KeptFile}
+use Rattle.case_info.specs.declared.unpacking.Unpacking.{Unpacking}
 
 -- the rows that are lent are those that were found
 pub files_by : (lent : Option (Bor (List BuildAnswer))) (found : Option (Vec BuildAnswer Global)) → option_map (λ (rows : Bor (List BuildAnswer)). rows.now) lent ≡ option_map (λ (v : Vec BuildAnswer Global). v.items) found
@@ -98,6 +100,9 @@ module _ {S : Type 0} (g : shared.Ghosts S) (U : disk.Ghosts (Unlocked S g)) (s 
 
   pub files_between : (seq : ℕ) (files : Vec KeptFile Global) → under d ≡ s → FilesOn U seq d (Ok files) → FilesBetween g U s seq (Ok files)
   files_between seq files is finds = (d, is, finds, meanwhile)
+
+  pub unpacked_between : (seq : ℕ) (u : Unpacking) → under d ≡ s → UnpacksOn U seq d (Ok u) → UnpacksBetween g U s seq (Ok u)
+  unpacked_between seq u is finds = (d, is, finds, meanwhile)
 
 -- what goes, by what was gathered
 pub planned_by : {D : Type 0} (g : disk.Ghosts D) (policy : Policy) (old new : Parts D) (gathered : Gathered) (r : Result Pruning Refusal) → Gathers g old gathered new → IfOk r (IsPlan policy gathered) → IfOk r (λ p. PlansIn g policy old p new)

@@ -4,4 +4,7 @@ pub mod OnceLemmas
 pub mod PlanLemmas
 pub mod ScreenLemmas
 pub mod StoredLemmas
+pub mod UnpackLemmas
 pub mod WantLemmas
+pub mod CrashLemmas
+pub mod GroupLemmas

@@ -4,5 +4,8 @@ pub mod Gathering
 pub mod Planning
 pub mod Screens
 pub mod StoredBuilds
+pub mod Unpacking
 pub mod WantWords
 pub mod Wants
+pub mod Crashes
+pub mod Groups

@@ -83,7 +83,11 @@ fn held_screen<S: SharedDisk + Drop>(
     }
 }
 
-fn number_of<D: Disk + Drop>(alloc: Global, disk: D, case: &[u8]) -> Result<u32, Refusal> {
+pub(crate) fn number_of<D: Disk + Drop>(
+    alloc: Global,
+    disk: D,
+    case: &[u8],
+) -> Result<u32, Refusal> {
     match parse_case_number(case) {
         Some(number) => Ok(number),
         None => find_case(alloc, disk, case),
@@ -123,7 +127,7 @@ fn screen_in<D: Disk>(
     }
 }
 
-fn kind_of<D: Disk>(archive: &Archive<D>, seq: u32) -> Result<Kind, Refusal>
+pub(crate) fn kind_of<D: Disk>(archive: &Archive<D>, seq: u32) -> Result<Kind, Refusal>
     ensures { IfOk result (λ kind. (c : Case) × HasCase (state_of archive.now) seq c × (c.origin.kind ≡ kind)) }
 {
     match archive.case(seq) {

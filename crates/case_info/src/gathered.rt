@@ -139,7 +139,7 @@ pub(crate) fn builds_of<'a, D: Disk>(
 }
 
 // Why the facts of a core's memory are not found.
-fn refusal_of(fault: WalkFault) -> Refusal {
+pub(crate) fn refusal_of(fault: WalkFault) -> Refusal {
     match fault {
         WalkFault::Unread(fault) => Refusal::Call(fault),
         WalkFault::OutOfMemory => Refusal::OutOfMemory,

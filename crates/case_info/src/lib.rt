@@ -1,12 +1,14 @@
 //! What people are shown of an archive's file: `info` of a case or of the archive, the rows of a line as JSON, and the builds
-//! that its cores want; and which cases go in a prune of it.
+//! that its cores want; which cases go in a prune of it; and what is unpacked of a case.
 #![tactic(auto)]
 
 mod archive;
 mod case;
+mod crashes;
 mod front;
 mod gathered;
 mod gathering;
+mod groups;
 mod kept_files;
 mod laws;
 mod mapped;
@@ -14,12 +16,17 @@ mod plan;
 mod prune;
 mod rows;
 mod telling;
+mod unpacked_files;
+mod unpacking;
 mod wanted;
 mod wants;
 
 pub use archive::info_archive;
 pub use case::{InfoWords, info_case};
+pub use groups::{GroupsWords, group_archive};
 pub use laws::{wants_then_stored, what_is_wanted_is_told_once};
 pub use prune::{PruneWords, prune_archive};
 pub use rows::ask_rows;
+pub use unpacked_files::{DebugFile, UnpackedFile};
+pub use unpacking::{Unpacking, unpacking_of};
 pub use wants::{WantsWords, tell_wants};

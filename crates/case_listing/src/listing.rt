@@ -34,8 +34,8 @@ pub struct ListWords<'a> {
 }
 
 impl<'a> ListWords<'a> {
-    // Whether only some cases are asked for.
-    fn picks(&self) -> bool {
+    /// Whether only some cases are asked for.
+    pub fn picks(&self) -> bool {
         let wanted = &self.wanted;
         wanted.kind.is_some()
             || wanted.name.is_some()
@@ -48,8 +48,12 @@ impl<'a> ListWords<'a> {
             || wanted.last.is_some()
     }
 
-    // The wanted cases, at this time.
-    fn wanted_at(&self, now: Option<u64>) -> Result<Wanted<'a>, Refusal>
+    /// The wanted cases, at this time.
+    ///
+    /// # Errors
+    ///
+    /// `BadLine` if a time can't be read.
+    pub fn wanted_at(&self, now: Option<u64>) -> Result<Wanted<'a>, Refusal>
         ensures { IfOk result (IsWantedAt now self.now) }
     {
         let mut wanted = self.wanted;

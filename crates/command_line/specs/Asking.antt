@@ -182,7 +182,7 @@ IsAsk given archive _ = ⊥
 -- the commands over the archive in a file
 abbrev pub names_over : List (List ℕ)
 names_over =
-    codes "run" ∷ codes "store" ∷ codes "extract" ∷ codes "list" ∷ codes "ask" ∷ codes "info" ∷ codes "wants" ∷ codes "prune" ∷ codes "look" ∷ codes "check" ∷ codes "copy" ∷ codes "resize" ∷ codes "salvage" ∷ []
+    codes "run" ∷ codes "store" ∷ codes "extract" ∷ codes "unpack" ∷ codes "list" ∷ codes "ask" ∷ codes "info" ∷ codes "wants" ∷ codes "groups" ∷ codes "prune" ∷ codes "look" ∷ codes "check" ∷ codes "copy" ∷ codes "resize" ∷ codes "salvage" ∷ []
 
 -- a command that has none of these names
 abbrev pub IsNoneOf : List ℕ → List (List ℕ) → Type 0
@@ -198,6 +198,8 @@ IsOver given archive (asked.StoreBuild place file build log) =
     (given.command.now ≡ codes "store") × (store : GivenStore) × IsGiven found_under given store × (store.pairs.now ≡ given.words.items) × AsksOfStore store archive (asked.StoreBuild place file build log)
 IsOver given archive (asked.Extract place case file) =
     (given.command.now ≡ codes "extract") × (place ≡ archive) × (case.now ≡ text_said given (codes "case")) × (option_copied file ≡ text_in given (codes "file"))
+IsOver given archive (asked.Unpack place case folder) =
+    (given.command.now ≡ codes "unpack") × (place ≡ archive) × (case.now ≡ text_said given (codes "case")) × (folder.now ≡ text_said given (codes "dir"))
 IsOver given archive (asked.List place wanted) = (given.command.now ≡ codes "list") × (place ≡ archive) × IsListed given wanted
 IsOver given archive (asked.Ask place line question) = (given.command.now ≡ codes "ask") × IsAsk given archive (asked.Ask place line question)
 IsOver given archive (asked.WouldRetire place policy) = (given.command.now ≡ codes "ask") × IsAsk given archive (asked.WouldRetire place policy)
@@ -207,6 +209,8 @@ IsOver given archive (asked.Info place case wanted) =
 IsOver given archive (asked.Wants place case wanted) =
     (given.command.now ≡ codes "wants") × (place ≡ archive) × (option_copied case ≡ text_in given (codes "case"))
     × (wanted.ids_alone ≡ flag_in given (codes "ids")) × (wanted.is_json ≡ flag_in given (codes "json"))
+IsOver given archive (asked.Groups place wanted) =
+    (given.command.now ≡ codes "groups") × (place ≡ archive) × (option_copied wanted.case ≡ text_in given (codes "case")) × IsListed given wanted.list
 IsOver given archive (asked.Prune place wanted) = (given.command.now ≡ codes "prune") × (place ≡ archive) × IsPruned given wanted
 IsOver given archive (asked.Look place by_build) = (given.command.now ≡ codes "look") × (place ≡ archive) × (by_build ≡ flag_in given (codes "builds"))
 IsOver given archive (asked.Check place sees_images) = (given.command.now ≡ codes "check") × (place ≡ archive) × (sees_images ≡ flag_in given (codes "images"))

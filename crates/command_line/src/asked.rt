@@ -18,7 +18,7 @@ use archive_files::{
     ArchivePath, BuildRequest, CopyWords, NewArchive, Refusal, Salvaged, ShapeWish, StoreRequest,
     WordPart,
 };
-use case_info::{InfoWords, PruneWords, WantsWords};
+use case_info::{GroupsWords, InfoWords, PruneWords, WantsWords};
 use case_listing::ListWords;
 use command_words::{Given, is_text};
 use core_handler::{HandleWords, SpoolWords};
@@ -76,6 +76,12 @@ pub(crate) enum Asked<'a> {
         case: &'a str,
         file: Option<&'a str>,
     },
+    // A case, its executables and the commands of a debugger, in a new folder.
+    Unpack {
+        archive: ArchivePath<'a>,
+        case: &'a str,
+        folder: &'a str,
+    },
     // A core from the input, as a configuration says.
     Handle(HandleWords<'a>),
     // The cases of an archive, for people.
@@ -99,6 +105,11 @@ pub(crate) enum Asked<'a> {
     Prune {
         archive: ArchivePath<'a>,
         wanted: PruneWords,
+    },
+    // The cores that crashed alike.
+    Groups {
+        archive: ArchivePath<'a>,
+        wanted: GroupsWords<'a>,
     },
     // What one line of a script asks, and its reply. Without a question its second word names a case.
     Ask {
@@ -142,11 +153,12 @@ pub(crate) enum Asked<'a> {
 }
 
 impl<'a> Asked<'a> {
-    // The path of the file that is made, if one is.
+    // The path of the file, or of the folder, that is made, if one is.
     pub(crate) fn made(&self) -> Option<&'a str> {
         match self {
             Asked::Format { archive, .. } => Some(*archive),
             Asked::Extract { file, .. } => *file,
+            Asked::Unpack { folder, .. } => Some(*folder),
             Asked::Copy { new, .. } => Some(*new),
             Asked::Salvage { new, .. } => Some(new.path),
             Asked::Resize { archive, .. } => Some(archive.path),
@@ -217,6 +229,11 @@ fn over_archive<'a>(
             case: text_of(given, "case")?,
             file: text_if(given, "file")?,
         }),
+        "unpack" => Ok(Asked::Unpack {
+            archive,
+            case: text_of(given, "case")?,
+            folder: text_of(given, "dir")?,
+        }),
         "list" => Ok(Asked::List {
             archive,
             wanted: list_words(given)?,
@@ -236,6 +253,13 @@ fn over_archive<'a>(
             wanted: WantsWords {
                 ids_alone: given.flag("ids"),
                 is_json: given.flag("json"),
+            },
+        }),
+        "groups" => Ok(Asked::Groups {
+            archive,
+            wanted: GroupsWords {
+                case: text_if(given, "case")?,
+                list: list_words(given)?,
             },
         }),
         "prune" => Ok(Asked::Prune {

@@ -10,10 +10,13 @@ use archive_files::{
     look, make_archive, names_output, note_file_system, note_gap, note_shared, resize_archive_file,
     run_over, salvage, take_disk, tell_trouble,
 };
-use case_info::{PruneWords, ask_rows, info_archive, info_case, prune_archive, tell_wants};
+use case_info::{
+    PruneWords, ask_rows, group_archive, info_archive, info_case, prune_archive, tell_wants,
+};
 use case_listing::{
     NamedLine, ask_case, ask_plain, extract_case, list, named_question, would_retire,
 };
+use case_unpacking::unpack;
 use command_words::{
     Context, Watched, asked_help, context_of, in_order, line_in_place_of_a_command, tell_help,
     tell_notes, words_of,
@@ -87,6 +90,7 @@ pub fn run_program<
 /// - `ask ARCHIVE WORD..` carries out one line of a script, with `--plain` so that people read its reply, and `find N --text TEXT` looks
 /// for these bytes. `extract ARCHIVE N [FILE]` writes the image of a case. A line that changes no case, and `extract`, need no right to
 /// write the archive's file, and hold its lock only while they read its journal.
+/// - `unpack ARCHIVE CASE DIR` writes the image of a case, its executables, and the commands of debuggers into a new folder.
 /// - `prune ARCHIVE` prints which executables and debug files are of builds that no core needs, and with `--cores K`, `--bytes B` or
 /// `--before T` which cores go first; with `--yes` it deletes them.
 /// - `look ARCHIVE` answers the lines of `input` that change no case, each as `ask` does.
@@ -107,7 +111,8 @@ pub fn run_words<
     E: Output,
 >(rt: &R, words: &[String], input: &mut I, output: &mut O, errors: &mut E) -> u8
     // The status. If it is 0, nothing was written to the errors, but for a note on the case that `store` stored, on the archive that `check`
-    // or `handle` looked at, or on a file that was made; and behind it one on the file system of an archive that was made or checked.
+    // or `handle` looked at, or on a file or a folder that was made; and behind it one on the file system of an archive that was made or
+    // checked, on the spool, or on the case that was unpacked.
     ensures most { result ≤ 2 }
     ensures quiet { result ≡ 0 → may_note words.now ≡ false → errors.new ≡ errors.old }
     ensures notes { result ≡ 0 → IsQuietButForNotes (subject words.now) (second_subject words.now) E.Output errors.old errors.new }
@@ -115,8 +120,8 @@ pub fn run_words<
     run_watched(rt, words, input, output, errors, &mut Nobody)
 }
 
-/// The same as `run_words`. An onlooker is shown the progress of `format`, `store`, `extract`, `copy`, `resize` and `salvage`, unless
-/// `--quiet` is there.
+/// The same as `run_words`. An onlooker is shown the progress of `format`, `store`, `extract`, `unpack`, `copy`, `resize` and `salvage`,
+/// unless `--quiet` is there.
 pub fn run_watched<
     R: AllocGlobal + Files<File = File> + Clock + Clone + Drop,
     I: Read,
@@ -250,6 +255,19 @@ fn answer_asked<
             case,
             file,
         } => extract_case(rt, archive, case, file, output, onlooker),
+        Asked::Unpack {
+            archive,
+            case,
+            folder,
+        } => unpack(
+            rt,
+            archive,
+            case,
+            folder,
+            output,
+            &mut notes.second,
+            onlooker,
+        ),
         Asked::Handle(words) => handle(rt, words, input, output, &mut notes.subject, onlooker),
         Asked::List { archive, wanted } => list(rt, archive, wanted, output),
         Asked::Ask {
@@ -273,6 +291,7 @@ fn answer_asked<
             wanted,
         } => tell_wants(rt, archive, case, wanted, output, onlooker),
         Asked::Prune { archive, wanted } => prune(rt, archive, wanted, output, onlooker),
+        Asked::Groups { archive, wanted } => group_archive(rt, archive, wanted, output),
         Asked::WouldRetire { archive, policy } => would_retire(rt, archive, &policy, output),
         Asked::Look { archive, by_build } => {
             look(rt, archive, by_build, &mut ReadInput::new(input), output)

@@ -5,13 +5,14 @@ use Rattle.std.specs.Io.KnownBytes.{Appends}
 use Rattle.std.specs.Str.{bytes_eq}
 use Rattle.script_streams.specs.declared.streams.Output as output
 
--- the command makes a file
+-- the command makes a file, or a folder
 abbrev pub makes_file : List ℕ → Bool
 makes_file command =
     if bytes_eq command (codes "format") then true else
     if bytes_eq command (codes "extract") then true else
     if bytes_eq command (codes "copy") then true else
-    if bytes_eq command (codes "resize") then true else bytes_eq command (codes "salvage")
+    if bytes_eq command (codes "resize") then true else
+    if bytes_eq command (codes "salvage") then true else bytes_eq command (codes "unpack")
 
 -- the command looks whether an archive is sound
 abbrev pub checks_archive : List ℕ → Bool
@@ -44,13 +45,14 @@ abbrev pub may_note : {Z : Type 0} → List (String Z) → Bool
 may_note [] = false
 may_note (word ∷ words) = may_note_of (string_bytes word) (word ∷ words)
 
--- the subject of a second note, if there is one, by the command: the file system of the archive that is made or looked at, or the spool of the
--- case that is stored; the others have no second note
+-- the subject of a second note, if there is one, by the command: the file system of the archive that is made or looked at, the spool of the
+-- case that is stored, or the case that is unpacked; the others have no second note
 abbrev pub second_subject_of : List ℕ → List ℕ
 second_subject_of command =
     if bytes_eq command (codes "format") then codes "file system " else
     if bytes_eq command (codes "check") then codes "file system " else
-    if bytes_eq command (codes "store") then codes "spool " else []
+    if bytes_eq command (codes "store") then codes "spool " else
+    if bytes_eq command (codes "unpack") then codes "case " else []
 
 abbrev pub second_subject : {Z : Type 0} → List (String Z) → List ℕ
 second_subject [] = []

@@ -15,6 +15,8 @@ pub enum Context {
     Handling,
     /// `list` picked cases.
     Listing,
+    /// `groups` picked cores.
+    Grouping,
     /// Another command only looked at an archive.
     Looking,
     /// `prune` picked cases.
@@ -81,6 +83,22 @@ static LIST_MEANINGS: [Meaning; 2] = [
     },
 ];
 
+// The same of `groups`.
+static GROUPS_MEANINGS: [Meaning; 3] = [
+    Meaning {
+        reason: b"BadLine",
+        words: b"the value of a filter can't be read: --signal takes a number or a name such as SEGV, --since and --until 2h, 3d, 2026-11-25, 2026-11-25T14:03:11Z or @SECONDS",
+    },
+    Meaning {
+        reason: b"NoCase",
+        words: b"no case has this number or name, or the filters leave the case out, or it or an executable was deleted meanwhile: corekeep list ARCHIVE shows the cases",
+    },
+    Meaning {
+        reason: b"Disk",
+        words: b"a read of the archive failed: the kernel's log (dmesg) may say why",
+    },
+];
+
 // The same of `prune`.
 static PRUNE_MEANINGS: [Meaning; 1] = [Meaning {
     reason: b"BadLine",
@@ -117,7 +135,8 @@ pub fn context_of(words: &[String], line: &LastLine) -> Context {
         "store" if line.is_first() => Context::Naming,
         "store" => Context::Storing,
         "list" => Context::Listing,
-        "info" | "wants" | "look" | "extract" | "check" => Context::Looking,
+        "groups" => Context::Grouping,
+        "info" | "wants" | "look" | "extract" | "unpack" | "check" => Context::Looking,
         "prune" => Context::Pruning,
         "copy" | "resize" => Context::Copying,
         _ => Context::Other,
@@ -144,6 +163,7 @@ fn meanings_of(context: Context) -> &'static [Meaning] {
         Context::Storing => &STORE_MEANINGS,
         Context::Handling => &HANDLER_MEANINGS,
         Context::Listing => &LIST_MEANINGS,
+        Context::Grouping => &GROUPS_MEANINGS,
         Context::Looking => &LOOK_MEANINGS,
         Context::Pruning => &PRUNE_MEANINGS,
         Context::Copying => &COPY_MEANINGS,

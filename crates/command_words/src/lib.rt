@@ -8,6 +8,7 @@ mod commands;
 mod contexts;
 mod given;
 mod grammar;
+mod groups_tables;
 mod handler_words;
 mod helps;
 mod info_tables;
@@ -20,6 +21,7 @@ mod reasons;
 mod tables;
 mod text_digits;
 mod troubles;
+mod unpack_tables;
 mod watched;
 mod wrong_words;
 

@@ -30,7 +30,7 @@ const KIND: Word = Word {
 };
 
 // A part of its name.
-const NAME_PART: Word = Word {
+pub(crate) const NAME_PART: Word = Word {
     id: "name",
     shown: "TEXT",
     takes: Takes::Text,
@@ -39,7 +39,7 @@ const NAME_PART: Word = Word {
 };
 
 // Its process.
-const PID: Word = Word {
+pub(crate) const PID: Word = Word {
     id: "pid",
     shown: "PID",
     takes: Takes::Bytes,
@@ -48,7 +48,7 @@ const PID: Word = Word {
 };
 
 // Its signal.
-const SIGNAL: Word = Word {
+pub(crate) const SIGNAL: Word = Word {
     id: "signal",
     shown: "SIGNAL",
     takes: Takes::Text,
@@ -57,7 +57,7 @@ const SIGNAL: Word = Word {
 };
 
 // The earliest time.
-const SINCE: Word = Word {
+pub(crate) const SINCE: Word = Word {
     id: "since",
     shown: "WHEN",
     takes: Takes::Text,
@@ -66,7 +66,7 @@ const SINCE: Word = Word {
 };
 
 // The time before which it is.
-const UNTIL: Word = Word {
+pub(crate) const UNTIL: Word = Word {
     id: "until",
     shown: "WHEN",
     takes: Takes::Text,
@@ -75,7 +75,7 @@ const UNTIL: Word = Word {
 };
 
 // A part of its label.
-const LABEL_PART: Word = Word {
+pub(crate) const LABEL_PART: Word = Word {
     id: "label",
     shown: "TEXT",
     takes: Takes::Text,
@@ -84,7 +84,7 @@ const LABEL_PART: Word = Word {
 };
 
 // Whether it is pinned.
-const PINNED: Word = Word {
+pub(crate) const PINNED: Word = Word {
     id: "pinned",
     shown: "",
     takes: Takes::Flag,
@@ -93,7 +93,7 @@ const PINNED: Word = Word {
 };
 
 // How many are printed.
-const LAST: Word = Word {
+pub(crate) const LAST: Word = Word {
     id: "last",
     shown: "K",
     takes: Takes::Bytes,

@@ -9,7 +9,7 @@ use script_streams::{Output, Reply};
 /// look at an
 /// archive, that the half of its journal which is taken may be the wrong one; if they ask to make a file, that others may write its folder.
 /// Then comes the second note, if there is one: on the file system, if the words ask to make an archive or to check one; on the spool, if
-/// they ask to store a file.
+/// they ask to store a file; on the case, if they ask to unpack it.
 pub fn tell_notes<E: Output>(words: &[String], note: &[u8], second: &[u8], errors: &mut E)
     ensures quiet { may_note words.now ≡ false → errors.new ≡ errors.old }
     ensures notes { IsQuietButForNotes (subject words.now) (second_subject words.now) E.Output errors.old errors.new }
@@ -35,6 +35,7 @@ fn second_subject(words: &[String]) -> &'static [u8]
     match word.as_str() {
         "format" | "check" => b"file system ",
         "store" => b"spool ",
+        "unpack" => b"case ",
         _ => b"",
     }
 }
@@ -85,7 +86,7 @@ fn checks_archive(command: &str) -> bool
     command == "check" || command == "handle"
 }
 
-// Whether a command makes a file.
+// Whether a command makes a file, or a folder.
 fn makes_file(command: &str) -> bool
     ensures { result ≡ makes_file command.now }
 {
@@ -94,6 +95,7 @@ fn makes_file(command: &str) -> bool
         || command == "copy"
         || command == "resize"
         || command == "salvage"
+        || command == "unpack"
 }
 
 // Prints a note for people, if it is not empty.

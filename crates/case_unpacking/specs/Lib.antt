@@ -1,0 +1,4 @@
+pub mod Contents
+pub mod ContentsWords
+pub mod Copies
+pub mod Told

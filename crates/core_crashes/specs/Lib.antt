@@ -1,0 +1,6 @@
+pub mod Notes
+pub mod Walks
+pub mod Handled
+pub mod Crashes
+pub mod Views
+pub mod Reading
