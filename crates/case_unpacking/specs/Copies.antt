@@ -19,10 +19,15 @@ use Rattle.unlocked_reading.specs.declared.faults.UnlockedFault.TheVariants as u
 use Rattle.case_unpacking.specs.declared.copying.Uncopied.{Uncopied}
 use Rattle.case_unpacking.specs.declared.copying.Uncopied.TheVariants.{Copy, Unseen}
 
--- A copy that is told as done is the image of the case of that number, byte for byte, behind what the output had taken, and the case was there all the time.
-abbrev pub CopiesCase : {S : Type 0} (g : shared.Ghosts S) → disk.Ghosts (Unlocked S g) → ℕ → Option (List ℕ) → Option (List ℕ) → ℕ → ℕ → Result (Unit {0}) Uncopied → Type 0
-CopiesCase {S} g U seq start taken count failures (Ok u) = (looked : Looked S g) × CopiesUnlocked g U (shared_of looked) seq start taken count failures (Ok tt)
-CopiesCase g U seq start taken count failures (Err why) = Unit {0}
+-- why a copy was not done
+abbrev pub copied_as : Result (Unit {0}) UnlockedFault → Result (Unit {0}) Uncopied
+copied_as (Ok u) = Ok tt
+copied_as (Err fault) = Err (Copy fault)
+
+-- The image of a case is copied from a look at its archive on. If there was no look, that is the error, and the output is not touched.
+abbrev pub CopiesCase : {S : Type 0} (g : shared.Ghosts S) → disk.Ghosts (Unlocked S g) → ℕ → Option (List ℕ) → Option (List ℕ) → ℕ → ℕ → Result (Looked S g) Refusal → Result (Unit {0}) Uncopied → Type 0
+CopiesCase g U seq start taken count failures (Ok looked) r = (copied : Result (Unit {0}) UnlockedFault) × CopiesUnlocked g U (shared_of looked) seq start taken count failures copied × (r ≡ copied_as copied)
+CopiesCase g U seq start taken count failures (Err refusal) r = (r ≡ Err (Unseen refusal)) × (taken ≡ start) × (failures ≡ count)
 
 -- A case that is gone is told as one that was never there.
 abbrev pub IsTold : UnlockedFault → Refusal → Type 0

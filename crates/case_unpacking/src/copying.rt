@@ -7,12 +7,13 @@ ghost use Rattle.case_unpacking.specs.Copies.{CopiesCase, IsTold, IsToldOf};
 
 use archive_files::{ArchivePath, FileWord, Refusal, take_look, unasked};
 use diagnostics::Onlooker;
-use disk_model::{Disk, FileFault, OpenFile};
+use disk_model::{Disk, FileFault};
 use inspector_cli::CopyFault;
 use intake::ArchiveFault;
 use script_streams::{Output, WriteOutput};
-use shared_disk::{SharedDisk, SharedFile, Unlocked};
+use shared_disk::{Looked, SharedDisk, Unlocked};
 use shown_progress::CountedOutput;
+use std::alloc::Global;
 use std::fs::File;
 use std::io;
 use std::io::ErrorKind;
@@ -56,25 +57,25 @@ fn copy_counted<R: AllocGlobal + Files<File = File>, O: Output, W: Onlooker>(
     onlooker: &mut W,
 ) -> Result<(), Uncopied> {
     let mut counted = CountedOutput::new(output, onlooker);
-    copy_case(rt, place, seq, &mut counted)
+    copy_seen(rt.alloc(), take_look(rt, place), seq, &mut counted)
 }
 
-// Copies the image of a case to an output, from a look at the archive on. The error is a refusal of that look, or why it was not copied.
-fn copy_case<R: AllocGlobal + Files<File = File>, O: Output>(
-    rt: &R,
-    place: ArchivePath<'_>,
+// Copies the image of a case to an output, from a look at its archive on, while others may change the archive; or says why there was no
+// look.
+fn copy_seen<S: SharedDisk + Drop, O: Output>(
+    alloc: Global,
+    looked: Result<Looked<S>, Refusal>,
     seq: u32,
     output: &mut O,
 ) -> Result<(), Uncopied>
-    ensures { CopiesCase ⟦<SharedFile<OpenFile> as SharedDisk>⟧ ⟦<Unlocked<'static, SharedFile<OpenFile>> as Disk>⟧ seq (O.taken output.old) (O.taken output.new) (O.failures output.old) (O.failures output.new) result }
+    ensures { CopiesCase S.SharedDisk ⟦<Unlocked<'static, S> as Disk>⟧ seq (O.taken output.old) (O.taken output.new) (O.failures output.old) (O.failures output.new) looked result }
 {
-    let looked = match take_look(rt, place) {
-        Ok(looked) => looked,
-        Err(refusal) => return Err(Uncopied::Unseen(refusal)),
-    };
-    match copy_unlocked(rt.alloc(), looked, seq, output) {
-        Ok(()) => Ok(()),
-        Err(fault) => Err(Uncopied::Copy(fault)),
+    match looked {
+        Ok(looked) => match copy_unlocked(alloc, looked, seq, output) {
+            Ok(()) => Ok(()),
+            Err(fault) => Err(Uncopied::Copy(fault)),
+        },
+        Err(refusal) => Err(Uncopied::Unseen(refusal)),
     }
 }
 
