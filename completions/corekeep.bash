@@ -2,8 +2,8 @@
 _corekeep() {
     local word=${COMP_WORDS[COMP_CWORD]}
     local before=${COMP_WORDS[COMP_CWORD-1]}
-    local commands="format run store handle list info groups ask wants prune look extract unpack check copy resize salvage memory"
-    local lines="list free delete pin unpin label retire upgrade header notes threads regs process signal auxv files maps dump find strings bt unwind frame builds symbol"
+    local commands="format run store handle list info groups report search ask wants prune look extract unpack check copy resize salvage memory"
+    local lines="list free delete pin unpin label retire upgrade header notes threads regs process signal auxv files maps dump at find strings bt unwind frame builds symbol"
     local session="--template --uses-pid --limit"
     COMPREPLY=()
     if [ "$COMP_CWORD" -eq 1 ]; then
@@ -11,7 +11,7 @@ _corekeep() {
         return
     fi
     case $before in
-    --half | --data | --template | --limit | --length | --stall | --id | --keep | --cores | --bytes | --before | --exec | --label | --text | --name | --pid | --since | --until | --last) return ;;
+    --half | --data | --template | --limit | --length | --stall | --id | --keep | --cores | --bytes | --before | --exec | --label | --text | --name | --pid | --since | --until | --last | --user | --program) return ;;
     --kind)
         COMPREPLY=($(compgen -W "core exec" -- "$word"))
         return
@@ -22,6 +22,10 @@ _corekeep() {
         ;;
     --log | --archive | --spool)
         COMPREPLY=($(compgen -f -- "$word"))
+        return
+        ;;
+    --sort)
+        COMPREPLY=($(compgen -W "time size name" -- "$word"))
         return
         ;;
     --layout)
@@ -35,9 +39,11 @@ _corekeep() {
     run) options="--builds --no-wait $session --help" ;;
     store) options="--exec --pin --label --escape --keep --bytes --before --fit --fair --cut --length --stall --spool --build --id --debug --log --no-wait --quiet $session --help" ;;
     handle) options="--check --flush --archive --length --stall --help" ;;
-    list) options="--json --kind --name --pid --signal --since --until --label --pinned --last --no-wait --help" ;;
+    list) options="--json --sort --kind --name --user --program --pid --signal --since --until --label --pinned --last --no-wait --help" ;;
     info) options="--threads --json --no-wait --help" ;;
-    groups) options="--json --name --pid --signal --since --until --label --pinned --last --no-wait --help" ;;
+    search) options="--text --json --sort --kind --name --user --program --pid --signal --since --until --label --pinned --last --no-wait --help" ;;
+    groups) options="--json --name --user --program --pid --signal --since --until --label --pinned --last --no-wait --help" ;;
+    report) options="--no-wait --help" ;;
     ask) options="--text --plain --json --builds --no-wait --help" ;;
     wants) options="--ids --json --no-wait --help" ;;
     prune) options="--cores --bytes --before --yes --no-wait --help" ;;
@@ -59,9 +65,9 @@ _corekeep() {
         COMPREPLY=($(compgen -W "$lines would-retire" -- "$word"))
         return
     fi
-    # A case: its number, or `last`.
-    if { [ "${COMP_WORDS[1]}" = ask ] && [ "$COMP_CWORD" -eq 4 ]; } || { [[ ${COMP_WORDS[1]} = @(extract|unpack|info|groups|wants) ]] && [ "$COMP_CWORD" -eq 3 ]; }; then
-        COMPREPLY=($(compgen -W "last $(corekeep ask "${COMP_WORDS[2]}" list --no-wait 2>/dev/null | sed -n 's/^\([0-9][0-9]*\) .*/\1/p')" -- "$word"))
+    # A case: its number, `last` or `latest`.
+    if { [ "${COMP_WORDS[1]}" = ask ] && [ "$COMP_CWORD" -eq 4 ]; } || { [[ ${COMP_WORDS[1]} = @(extract|unpack|info|groups|report|wants) ]] && [ "$COMP_CWORD" -eq 3 ]; }; then
+        COMPREPLY=($(compgen -W "last latest $(corekeep ask "${COMP_WORDS[2]}" list --no-wait 2>/dev/null | sed -n 's/^\([0-9][0-9]*\) .*/\1/p')" -- "$word"))
         return
     fi
     if [ "${COMP_WORDS[1]}" = store ] && [ "$COMP_CWORD" -ge 4 ]; then

@@ -14,7 +14,7 @@ use crate::gathered::{builds_in, debug_files_of, executables_of, facts_of, told_
 use crate::telling::{shown, write_text};
 use archive_files::{ArchivePath, Collected, Failure, Refusal, take_look, unasked};
 use build_replies::BuildAnswer;
-use case_listing::find_case;
+use case_listing::{find_case, latest_time};
 use case_queries::CaseImage;
 use case_screens::{CaseAnswers, CoreAnswers, case_json, tell_case_screen};
 use disk_model::Disk;
@@ -28,6 +28,7 @@ use shared_disk::{Looked, SharedDisk};
 use std::alloc::Global;
 use std::fs::File;
 use std::rt::Files;
+use std::time::Clock;
 use unlocked_reading::{Places, Reads, find_cases, stay};
 
 /// The request that the words of `info` make.
@@ -39,14 +40,14 @@ pub struct InfoWords {
     pub is_json: bool,
 }
 
-/// Prints the facts of a case, from a look at the archive. The case is named by its number, by its name, or as `last`. The text, and
+/// Prints the facts of a case, from a look at the archive. The case is named by its number, by its name, or as `last` or `latest`. The text, and
 /// the executables that were read with it, are held until the case is found again.
 ///
 /// # Errors
 ///
 /// The refusals of `take_look` of `archive_files` and of an opening. `NoCase`: there is no such case, or it was deleted meanwhile.
 /// `OutOfMemory` and `Disk`: nothing is printed. `WriteFailed` if the text could not be written.
-pub fn info_case<R: AllocGlobal + Files<File = File>, O: Output>(
+pub fn info_case<R: AllocGlobal + Files<File = File> + Clock, O: Output>(
     rt: &R,
     place: ArchivePath<'_>,
     case: &str,
@@ -54,8 +55,9 @@ pub fn info_case<R: AllocGlobal + Files<File = File>, O: Output>(
     output: &mut O,
 ) -> Result<(), Failure> {
     let alloc = rt.alloc();
+    let until = latest_time(rt);
     let told = match take_look(rt, place) {
-        Ok(looked) => held_screen(alloc, looked, case.as_bytes(), words),
+        Ok(looked) => held_screen(alloc, looked, case.as_bytes(), until, words),
         Err(refusal) => Err(refusal),
     };
     let done = match told {
@@ -70,9 +72,10 @@ fn held_screen<S: SharedDisk + Drop>(
     alloc: Global,
     looked: Looked<S>,
     case: &[u8],
+    until: u64,
     words: InfoWords,
 ) -> Result<Collected, Refusal> {
-    let seq = number_of(alloc, looked.unlocked(Vec::new(alloc)), case)?;
+    let seq = number_of(alloc, looked.unlocked(Vec::new(alloc)), case, until)?;
     let reads = Reads::Memory { seq };
     let found = find_cases(alloc, looked.unlocked(Vec::new(alloc)), reads);
     let Places { numbers, ranges } = found.map_err(|fault| unasked(fault))?;
@@ -87,10 +90,11 @@ pub(crate) fn number_of<D: Disk + Drop>(
     alloc: Global,
     disk: D,
     case: &[u8],
+    until: u64,
 ) -> Result<u32, Refusal> {
     match parse_case_number(case) {
         Some(number) => Ok(number),
-        None => find_case(alloc, disk, case),
+        None => find_case(alloc, disk, case, until),
     }
 }
 
@@ -181,7 +185,7 @@ fn core_screen<D: Disk>(
 }
 
 // The frames of no thread.
-fn no_frames<'a>() -> &'a [Option<FramesAnswer<'a>>] {
+pub(crate) fn no_frames<'a>() -> &'a [Option<FramesAnswer<'a>>] {
     &[]
 }
 

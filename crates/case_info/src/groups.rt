@@ -125,15 +125,19 @@ fn find_groups<R: AllocGlobal + Files<File = File>>(
 ) -> Result<Found, Refusal> {
     let alloc = rt.alloc();
     let wanted = words.list.wanted_at(now)?;
+    let latest = now.map_or(u64::MAX, |now| now.saturating_add(DAY));
     let looked = take_look(rt, place)?;
     let case = match words.case {
-        Some(case) => Some(number_of(alloc, looked.unlocked(Vec::new(alloc)), case.as_bytes())?),
+        Some(case) => {
+            let disk = looked.unlocked(Vec::new(alloc));
+            Some(number_of(alloc, disk, case.as_bytes(), latest)?)
+        }
         None => None,
     };
     let form = GroupsForm {
         case,
         is_json: words.list.is_json,
-        latest: now.map_or(u64::MAX, |now| now.saturating_add(DAY)),
+        latest,
     };
     groups_looked(alloc, looked, &wanted, form)
 }
@@ -168,7 +172,7 @@ fn groups_looked<S: SharedDisk + Drop>(
 }
 
 // Opens the archive on a disk, and finds the crashes of the cores that are wanted. None, if the case is no core.
-fn find_crashes<D: Disk + Drop>(
+pub(crate) fn find_crashes<D: Disk + Drop>(
     alloc: Global,
     disk: D,
     wanted: &Wanted<'_>,
@@ -256,7 +260,7 @@ fn has_each<D: Disk>(archive: &Archive<D>, numbers: &[u32]) -> bool
     numbers.iter().all(|number| has_case(archive, *number))
 }
 
-fn has_case<D: Disk>(archive: &Archive<D>, number: u32) -> bool
+pub(crate) fn has_case<D: Disk>(archive: &Archive<D>, number: u32) -> bool
     ensures { result ≡ has_number (state_of archive.now) number }
 {
     match archive.case(number) {
@@ -361,7 +365,7 @@ fn tell_one<O: Output>(
 }
 
 // The first group that a case is in.
-fn row_with<'r, 'a>(rows: &'r [GroupRow<'a>], seq: u32) -> Option<&'r GroupRow<'a>>
+pub(crate) fn row_with<'r, 'a>(rows: &'r [GroupRow<'a>], seq: u32) -> Option<&'r GroupRow<'a>>
     ensures { option_map (λ row. row_said row.now) result ≡ find (has_member seq) (map row_said rows.now) }
 {
     rows.iter().find(|row| has_member(row, seq))

@@ -48,7 +48,8 @@ pub struct Unpacking {
 }
 
 /// Finds what is unpacked of a case, from a look at its archive on: for each mapped file of a core the executable that is used for it, and
-/// the debug file of that. The case is named by its number, by its name, or as `last`. The cases that were read are found again then.
+/// the debug file of that. The case is named by its number, by its name, or as `last` or `latest`; no core is from
+/// after `until`, in seconds since the epoch. The cases that were read are found again then.
 ///
 /// # Errors
 ///
@@ -57,10 +58,11 @@ pub fn unpacking_of<S: SharedDisk + Drop>(
     alloc: Global,
     looked: Looked<S>,
     case: &[u8],
+    until: u64,
 ) -> Result<Unpacking, Refusal>
     ensures { IfOk result (λ unpacking. UnpacksBetween S.SharedDisk ⟦<Unlocked<'static, S> as Disk>⟧ (shared_of looked) unpacking.seq result) }
 {
-    let seq = number_of(alloc, looked.unlocked(Vec::new(alloc)), case)?;
+    let seq = number_of(alloc, looked.unlocked(Vec::new(alloc)), case, until)?;
     Ok(unpacking_looked(alloc, looked, seq)?)
 }
 

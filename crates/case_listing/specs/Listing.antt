@@ -1,5 +1,5 @@
 -- The list of the cases of an archive.
-use Rattle.std.specs.Prelude.{◌≡◌, ◌==◌, ℕ, Bool, true, false, not, List, [], ◌∷◌, ◌++◌, length, Option, None, Some, Result, Ok, Err, IfOk}
+use Rattle.std.specs.Prelude.{◌≡◌, ◌==◌, ◌||◌, ℕ, Bool, true, false, is_some, not, List, [], ◌∷◌, ◌++◌, length, Option, None, Some, Result, Ok, Err, IfOk}
 use Rattle.std.specs.Io.KnownBytes.{Appends}
 use Rattle.std.specs.Option.{option_copied}
 use Rattle.archive_files.specs.declared.failures.Failure.{Failure}
@@ -8,6 +8,7 @@ use Rattle.archive_files.specs.declared.failures.Refusal.TheVariants.{Open}
 use Rattle.case_listing.specs.declared.listing.ListWords.{ListWords}
 use Rattle.case_tables.specs.Filters.{SaysTime}
 use Rattle.case_tables.specs.Json.{cases_json}
+use Rattle.case_tables.specs.Order.{IsShown}
 use Rattle.case_tables.specs.Table.{list_table}
 use Rattle.case_tables.specs.Wanted.{chosen}
 use Rattle.case_tables.specs.declared.wanted.Wanted.{Wanted}
@@ -22,10 +23,17 @@ use Rattle.journal_layout.specs.declared.faults.OpenFault.{OpenFault}
 abbrev pub TellsCases : List Case → Option (List ℕ) → Option (List ℕ) → Type 0
 TellsCases cases before after = (text : List ℕ) × (read text ≡ Some (cases_json cases)) × Appends before after (text ++ 10 ∷ [])
 
+-- the wanted cases in their order, as a table and as JSON
+abbrev pub TellsTable : Wanted → List Case → Option (List ℕ) → Option (List ℕ) → Type 0
+TellsTable wanted cases before after = (shown : List Case) × IsShown wanted.order (chosen wanted cases) shown × Appends before after (list_table shown)
+
+abbrev pub TellsJson : Wanted → List Case → Option (List ℕ) → Option (List ℕ) → Type 0
+TellsJson wanted cases before after = (shown : List Case) × IsShown wanted.order (chosen wanted cases) shown × TellsCases shown before after
+
 -- The wanted cases are printed, as a table or as JSON, to an output that had taken `before`; and whether there are any.
 pub record Lists (is_json : Bool) (wanted : Wanted) (cases : List Case) (before after : Option (List ℕ)) (some : Bool) : Type 0 where
-  pub told : is_json ≡ false → Appends before after (list_table (chosen wanted cases))
-  pub told_json : is_json ≡ true → TellsCases (chosen wanted cases) before after
+  pub told : is_json ≡ false → TellsTable wanted cases before after
+  pub told_json : is_json ≡ true → TellsJson wanted cases before after
   pub some_is : some ≡ not (length (chosen wanted cases) == 0)
 
 -- by the archive that was opened, or why it was not
@@ -53,3 +61,9 @@ pub record IsWantedAt (now : Option ℕ) (words : ListWords) (wanted : Wanted) :
   pub since : IsTimeSaid now (option_copied words.since) wanted.since
   pub until : IsTimeSaid now (option_copied words.until) wanted.until
   pub others : untimed wanted ≡ untimed words.wanted
+
+-- Only some cases are asked for: some fact of a case is wanted, or a time, or the last so many.
+abbrev pub picks : ListWords → Bool
+picks w =
+    is_some w.wanted.kind || (is_some w.wanted.name || (is_some w.wanted.pid || (is_some w.wanted.user || (is_some w.wanted.program
+    || (is_some w.wanted.signal || (is_some w.since || (is_some w.until || (is_some w.wanted.label || (w.wanted.pinned || is_some w.wanted.last)))))))))

@@ -19,13 +19,13 @@ number_found (Some n) = Ok n
 number_found None = Err (Call NoCase)
 
 -- by the cases of an archive that was opened, or why it was not
-abbrev pub NamedBy : {D : Type 0} → List ℕ → Result (Parts D) (OpenFault × D) → Result ℕ Refusal → Type 0
-NamedBy word (Ok a) r = r ≡ number_found (named_number word (state_of a).cases)
-NamedBy word (Err (fault, d)) r = r ≡ Err (Open fault)
+abbrev pub NamedBy : {D : Type 0} → ℕ → List ℕ → Result (Parts D) (OpenFault × D) → Result ℕ Refusal → Type 0
+NamedBy until word (Ok a) r = r ≡ number_found (named_number until word (state_of a).cases)
+NamedBy until word (Err (fault, d)) r = r ≡ Err (Open fault)
 
--- The archive on a disk is opened, and the number of the case is found that a word names.
-abbrev pub NamesOn : {D : Type 0} → disk.Ghosts D → List ℕ → D → Result ℕ Refusal → Type 0
-NamesOn {D} g word before r = (opened : Result (Parts D) (OpenFault × D)) × OpenCall g 0 before opened × NamedBy word opened r
+-- The archive on a disk is opened, and the number of the case is found that a word names. No core is from after a moment.
+abbrev pub NamesOn : {D : Type 0} → disk.Ghosts D → ℕ → List ℕ → D → Result ℕ Refusal → Type 0
+NamesOn {D} g until word before r = (opened : Result (Parts D) (OpenFault × D)) × OpenCall g 0 before opened × NamedBy until word opened r
 
 -- The request of a line is that of the script, or none.
 abbrev pub AsksLine : List ℕ → Option Question → Type 0

@@ -23,6 +23,9 @@ use std::time::Clock;
 // The most bytes of a word of a line.
 const LONGEST: usize = 1_024;
 
+// A day, in seconds. A core whose time is later than in a day is of a machine whose clock was not set.
+const DAY: u64 = 86_400;
+
 // Whether a word is a number, as a script has it. Then it names no case, whatever the case of that number is.
 fn is_number(word: &str) -> bool {
     parse_number(word.as_bytes()).is_some()
@@ -64,22 +67,32 @@ fn numbered(alloc: Global, words: &[&str], number: &str) -> Result<Option<Questi
     Ok(parse_question(&line_of(alloc, &line)?))
 }
 
+/// The latest time of a core, in seconds since the epoch, that `latest` takes to be one: a day from now. Every time if the clock says none.
+pub fn latest_time<R: Clock>(rt: &R) -> u64 {
+    match rt.since_1970() {
+        Ok(now) => now.as_secs().saturating_add(DAY),
+        Err(_) => u64::MAX,
+    }
+}
+
 // The number of the case that a word names, in the archive as it is now: by its name, or as the name is printed.
-fn number_of<R: AllocGlobal + Files<File = File>>(
+fn number_of<R: AllocGlobal + Files<File = File> + Clock>(
     rt: &R,
     place: ArchivePath<'_>,
     word: &str,
 ) -> Result<u32, Refusal> {
+    let until = latest_time(rt);
     let looked = take_look(rt, place)?;
     let found = find_case(
         rt.alloc(),
         looked.unlocked(Vec::new(rt.alloc())),
         word.as_bytes(),
+        until,
     );
     match (found, printed(word)) {
         (Err(Refusal::Call(ArchiveFault::NoCase)), Some(name)) => {
             let disk = looked.unlocked(Vec::new(rt.alloc()));
-            find_case(rt.alloc(), disk, name.as_slice())
+            find_case(rt.alloc(), disk, name.as_slice(), until)
         }
         (found, _) => found,
     }
@@ -94,27 +107,33 @@ fn printed(word: &str) -> Option<ArrayVec<u8, 1024>> {
     decode_text(word)
 }
 
-/// The number of the case that a word names by no number, in the archive on a disk.
+/// The number of the case that a word names by no number, in the archive on a disk: by `last`, `latest` or its name, as `number_named` of
+/// `case_tables` has it.
 ///
 /// # Errors
 ///
 /// What an opening is refused for. `NoCase` if no case has this name.
-pub fn find_case<D: Disk + Drop>(alloc: Global, disk: D, word: &[u8]) -> Result<u32, Refusal>
-    ensures { NamesOn D.Disk word.now disk result }
+pub fn find_case<D: Disk + Drop>(
+    alloc: Global,
+    disk: D,
+    word: &[u8],
+    until: u64,
+) -> Result<u32, Refusal>
+    ensures { NamesOn D.Disk until word.now disk result }
 {
     match Archive::open(alloc, disk, Settings { limit: 0 }) {
-        Ok(archive) => find_in(&archive, word),
+        Ok(archive) => find_in(&archive, word, until),
         Err((fault, _)) => Err(Refusal::Open(fault)),
     }
 }
 
 // The number of the case of an open archive that a word names.
-fn find_in<D: Disk>(archive: &Archive<D>, word: &[u8]) -> Result<u32, Refusal>
+fn find_in<D: Disk>(archive: &Archive<D>, word: &[u8], until: u64) -> Result<u32, Refusal>
     requires runs { archive.now.stopped ≡ false }
-    ensures { result ≡ number_found (named_number word.now (state_of archive.now).cases) }
+    ensures { result ≡ number_found (named_number until word.now (state_of archive.now).cases) }
 {
     match archive.cases() {
-        Ok(cases) => number_found(number_named(cases, word)),
+        Ok(cases) => number_found(number_named(cases, word, until)),
         Err(fault) => Err(Refusal::Call(fault)),
     }
 }
@@ -134,7 +153,7 @@ fn number_found(number: Option<u32>) -> Result<u32, Refusal>
 ///
 /// Those of `extract` of `archive_files`. If the word is no number, the refusal of the look at the archive, and `NoCase` if no case
 /// has this name.
-pub fn extract_case<R: AllocGlobal + Files<File = File>, O: Output, W: Onlooker>(
+pub fn extract_case<R: AllocGlobal + Files<File = File> + Clock, O: Output, W: Onlooker>(
     rt: &R,
     place: ArchivePath<'_>,
     case: &str,

@@ -7,7 +7,7 @@ mod foreseen;
 mod listing;
 mod plain;
 
-pub use case_words::{NamedLine, ask_case, extract_case, find_case, named_question};
+pub use case_words::{NamedLine, ask_case, extract_case, find_case, latest_time, named_question};
 pub use foreseen::{foreseen_by, would_retire};
-pub use listing::{ListWords, list};
+pub use listing::{ListWords, list, list_over};
 pub use plain::ask_plain;

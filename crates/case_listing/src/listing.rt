@@ -2,11 +2,10 @@
 ghost use Rattle.std.specs.Prelude.{◌≡◌, ◌==◌, ◌++◌, ◌∷◌, [], IfOk, OnOk, false, length, map, not, true};
 ghost use Rattle.std.specs.Io.KnownBytes.{Appends};
 ghost use Rattle.std.specs.Option.{option_copied};
-ghost use Rattle.case_tables.specs.Table.{list_table};
 ghost use Rattle.case_tables.specs.Wanted.{chosen};
 ghost use Rattle.intake.specs.Parts.{state_of};
 ghost use Rattle.journal_layout.specs.Case.{case_of};
-ghost use Rattle.case_listing.specs.Listing.{IsTimeSaid, IsWantedAt, Lists, ListsOn, TellsCases};
+ghost use Rattle.case_listing.specs.Listing.{IsTimeSaid, IsWantedAt, Lists, ListsOn, TellsJson, TellsTable, picks};
 
 use archive_files::{ArchivePath, Failure, Refusal, take_look};
 use case_tables::{Wanted, list_json, read_time, tell_list};
@@ -35,11 +34,15 @@ pub struct ListWords<'a> {
 
 impl<'a> ListWords<'a> {
     /// Whether only some cases are asked for.
-    pub fn picks(&self) -> bool {
+    pub fn picks(&self) -> bool
+        ensures { result ≡ picks self.now }
+    {
         let wanted = &self.wanted;
         wanted.kind.is_some()
             || wanted.name.is_some()
             || wanted.pid.is_some()
+            || wanted.user.is_some()
+            || wanted.program.is_some()
             || wanted.signal.is_some()
             || self.since.is_some()
             || self.until.is_some()
@@ -100,8 +103,12 @@ pub fn list<R: AllocGlobal + Files<File = File> + Clock, O: Output>(
     }
 }
 
-// Opens the archive on a disk, and prints the wanted cases. Returns whether there are any.
-fn list_over<D: Disk + Drop, O: Output>(
+/// Opens the archive on a disk, and prints the wanted cases. Returns whether there are any.
+///
+/// # Errors
+///
+/// What an opening is refused for. `WriteFailed` if the list could not be written.
+pub fn list_over<D: Disk + Drop, O: Output>(
     alloc: Global,
     disk: D,
     wanted: &Wanted<'_>,
@@ -143,7 +150,7 @@ fn tell_table<O: Output>(
     wanted: &Wanted<'_>,
     output: &mut O,
 ) -> Result<bool, Failure>
-    ensures told { IfOk result (λ some. Appends (O.taken output.old) (O.taken output.new) (list_table (chosen wanted.now (map case_of cases.now)))) }
+    ensures told { IfOk result (λ some. TellsTable wanted.now (map case_of cases.now) (O.taken output.old) (O.taken output.new)) }
     ensures some { IfOk result (λ some. some ≡ not (length (chosen wanted.now (map case_of cases.now)) == 0)) }
 {
     let mut reply = Reply::new(output);
@@ -160,7 +167,7 @@ fn tell_json<O: Output>(
     wanted: &Wanted<'_>,
     output: &mut O,
 ) -> Result<bool, Failure>
-    ensures told { IfOk result (λ some. TellsCases (chosen wanted.now (map case_of cases.now)) (O.taken output.old) (O.taken output.new)) }
+    ensures told { IfOk result (λ some. TellsJson wanted.now (map case_of cases.now) (O.taken output.old) (O.taken output.new)) }
     ensures some { IfOk result (λ some. some ≡ not (length (chosen wanted.now (map case_of cases.now)) == 0)) }
 {
     let (text, some) = list_json(alloc, cases, wanted)?;

@@ -15,7 +15,7 @@ use Rattle.journal_layout.specs.declared.entry.Kind.{Kind}
 use Rattle.memory_replies.specs.Window.{past_of}
 use Rattle.windowed_search.specs.ScanWords.{Aim, for_bytes, for_texts}
 use Rattle.script_lines.specs.declared.query.MemoryQuery.{MemoryQuery}
-use Rattle.script_lines.specs.declared.query.MemoryQuery.TheVariants.{Dump, Find, Strings, Backtrace, Unwind, Frame, Builds}
+use Rattle.script_lines.specs.declared.query.MemoryQuery.TheVariants.{Dump, At, Find, Strings, Backtrace, Unwind, Frame, Builds}
 use Rattle.memory_replies.specs.Answers.{Answers}
 use Rattle.case_queries.specs.Inspecting.{answer_of}
 use Rattle.case_queries.specs.Steps.{Asks, Shows, ShowsWithExecutables}
@@ -137,6 +137,7 @@ whole_seen (Dump first n) image =
         all = λ inside. subst (λ e. AreHeldWithin (length image) first n 0 e (segments_of image)) (sym end) (all_within (length image) first n (segments_of image));
       },
     )
+whole_seen (At address) image = (inl refl, (refl, sym (take_all (length image) image (omega arith))))
 whole_seen (Find aim) image = refl
 whole_seen (Strings least) image = refl
 whole_seen (Backtrace thread) image = (inl refl, record { begins = (refl, sym (take_all (length image) image (omega arith))); frames = λ less. absurd (omega (arith, less)) })

@@ -27,7 +27,7 @@ use Rattle.script_lines.specs.declared.query.BuildQuery.TheVariants as builds
 use Rattle.script_lines.specs.declared.query.ImageQuery.{ImageQuery}
 use Rattle.script_lines.specs.declared.query.ImageQuery.TheVariants.{Header, Notes, Threads, Registers, Process, Signal, AuxiliaryVector, Files, Maps}
 use Rattle.script_lines.specs.declared.query.MemoryQuery.{MemoryQuery}
-use Rattle.script_lines.specs.declared.query.MemoryQuery.TheVariants.{Dump, Find, Strings, Backtrace, Unwind, Frame, Builds}
+use Rattle.script_lines.specs.declared.query.MemoryQuery.TheVariants.{Dump, At, Find, Strings, Backtrace, Unwind, Frame, Builds}
 use Rattle.script_streams.specs.Replies.{IsOutcome, no_reply, reply_of}
 use Rattle.case_queries.specs.Inspecting.{answer_of}
 use Rattle.case_queries.specs.Steps.{Shows, ShowsWithExecutables, ShowsCore}
@@ -66,6 +66,7 @@ module _ {D : Type 0} (g : disk.Ghosts D) (a : Parts D) (kind : Kind) (b : List 
 
   with_executables_shown : (q : MemoryQuery) (reply : List ℕ) (new : Parts D) → ShowsWithExecutables g a kind (memory_query q) b (core_fault_of b) reply new → Shows g a kind (memory_query q) b reply new
   with_executables_shown (Dump first length) reply new shows = shows
+  with_executables_shown (At address) reply new shows = shows
   with_executables_shown (Find needle) reply new shows = shows
   with_executables_shown (Strings least) reply new shows = shows
   with_executables_shown (Backtrace thread) reply new shows = shows
@@ -91,6 +92,7 @@ module _ {D : Type 0} (g : disk.Ghosts D) (a : Parts D) (kind : Kind) (b : List 
 -- These bytes are enough of the image.
 pub seen_enough : (q : MemoryQuery) (front : List ℕ) (size at : ℕ) (bytes image : List ℕ) → IsSeenBy q front size at bytes image → IsEnough Core front image
 seen_enough (Dump first n) front size at bytes image by = by.0
+seen_enough (At address) front size at bytes image by = by.0
 seen_enough (Find needle) front size at bytes image by = inl by
 seen_enough (Strings least) front size at bytes image by = inl by
 seen_enough (Backtrace thread) front size at bytes image by = by.0
@@ -118,6 +120,7 @@ wanted_enough law front image enough cases =
 pub wanted_same : ((b : List ℕ) (n : ℕ) → IsHeaderWhole (take n b) → IsSound Core (take n b) → mapped_files (take n b) ≡ mapped_files b) → (q : MemoryQuery) (front : List ℕ) (size at : ℕ) (bytes image : List ℕ) → IsSeenBy q front size at bytes image
     → (cases : List Case) → wanted_for (memory_query q) front cases ≡ wanted_for (memory_query q) image cases
 wanted_same law (Dump first n) front size at bytes image by cases = wanted_enough law front image by.0 cases
+wanted_same law (At address) front size at bytes image by cases = wanted_enough law front image by.0 cases
 wanted_same law (Find needle) front size at bytes image by cases = wanted_enough law front image (inl by) cases
 wanted_same law (Strings least) front size at bytes image by cases = wanted_enough law front image (inl by) cases
 wanted_same law (Backtrace thread) front size at bytes image by cases = wanted_enough law front image by.0 cases
@@ -128,6 +131,7 @@ wanted_same law (Builds query) front size at bytes image by cases = ap (λ b. wa
 -- and which debug files
 pub debugs_same : (q : MemoryQuery) (front : List ℕ) (size at : ℕ) (bytes image : List ℕ) → IsSeenBy q front size at bytes image → (cases : List Case) (xs : List ExecutableView) → debugs_for (memory_query q) front cases xs ≡ debugs_for (memory_query q) image cases xs
 debugs_same (Dump first n) front size at bytes image by cases xs = refl
+debugs_same (At address) front size at bytes image by cases xs = refl
 debugs_same (Find needle) front size at bytes image by cases xs = refl
 debugs_same (Strings least) front size at bytes image by cases xs = refl
 debugs_same (Backtrace thread) front size at bytes image by cases xs = refl

@@ -1,4 +1,4 @@
--- What debug files are read for: the debug file of an executable, of the files that were read, and `bt` by build.
+-- What debug files are read for: the debug file of an executable, of the files that were read, and `at` and `bt` by build.
 use Rattle.std.proofs.Common.{◌≡◌, ℕ, true, false, List, [], ◌∷◌, map, cond, Option, Some, Result, refl, ap, ◌∙◌}
 use Rattle.std.specs.Prelude.{find}
 use Rattle.std.specs.Option.{option_map}
@@ -9,7 +9,7 @@ use Rattle.case_queries.specs.CollectingWords.{executable_view}
 use Rattle.case_queries.specs.Inspecting.{by_debugs, debug_image, debug_of_build}
 use Rattle.script_lines.specs.Queries.{memory_query}
 use Rattle.script_lines.specs.declared.query.MemoryQuery.{MemoryQuery}
-use Rattle.script_lines.specs.declared.query.MemoryQuery.TheVariants.{Dump, Find, Strings, Backtrace, Unwind, Frame, Builds}
+use Rattle.script_lines.specs.declared.query.MemoryQuery.TheVariants.{Dump, At, Find, Strings, Backtrace, Unwind, Frame, Builds}
 use Rattle.case_queries.specs.declared.collect_executables.StoredExecutable.{StoredExecutable}
 
 -- the image of the one that is found
@@ -30,12 +30,13 @@ found_debug image id files o own is =
     ap (option_map (λ (x : StoredExecutable). x.image.items)) is ∙ found_image id files
     ∙ ap (λ (i : Option (List ℕ)). option_map (λ (x : ExecutableView). x.image) (debug_of_build i (map executable_view files))) own
 
--- any line but `bt` is answered as it is
-pub as_it_is : (q : MemoryQuery) → ((thread : ℕ) → q ≡ Backtrace thread → ⊥) → (b : List ℕ) (xs debugs : List ExecutableView) (answer : Result (List ℕ) (List ℕ)) → by_debugs (memory_query q) b xs debugs answer ≡ answer
-as_it_is (Dump first n) other b xs debugs answer = refl
-as_it_is (Find needle) other b xs debugs answer = refl
-as_it_is (Strings least) other b xs debugs answer = refl
-as_it_is (Backtrace thread) other b xs debugs answer = absurd (other thread refl)
-as_it_is (Unwind thread) other b xs debugs answer = refl
-as_it_is (Frame thread frame) other b xs debugs answer = refl
-as_it_is (Builds query) other b xs debugs answer = refl
+-- any line but `at` and `bt` is answered as it is
+pub as_it_is : (q : MemoryQuery) → ((address : ℕ) → q ≡ At address → ⊥) → ((thread : ℕ) → q ≡ Backtrace thread → ⊥) → (b : List ℕ) (xs debugs : List ExecutableView) (answer : Result (List ℕ) (List ℕ)) → by_debugs (memory_query q) b xs debugs answer ≡ answer
+as_it_is (Dump first n) place other b xs debugs answer = refl
+as_it_is (At address) place other b xs debugs answer = absurd (place address refl)
+as_it_is (Find needle) place other b xs debugs answer = refl
+as_it_is (Strings least) place other b xs debugs answer = refl
+as_it_is (Backtrace thread) place other b xs debugs answer = absurd (other thread refl)
+as_it_is (Unwind thread) place other b xs debugs answer = refl
+as_it_is (Frame thread frame) place other b xs debugs answer = refl
+as_it_is (Builds query) place other b xs debugs answer = refl

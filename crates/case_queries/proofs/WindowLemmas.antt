@@ -22,7 +22,7 @@ use Rattle.intake.specs.StayLaws.{stays_then}
 use Rattle.memory_replies.specs.Stack.{HasFrames}
 use Rattle.memory_replies.specs.Window.{IsAtHand, IsPartOf, past_of}
 use Rattle.script_lines.specs.declared.query.MemoryQuery.{MemoryQuery}
-use Rattle.script_lines.specs.declared.query.MemoryQuery.TheVariants.{Dump, Find, Strings, Backtrace, Unwind, Frame, Builds}
+use Rattle.script_lines.specs.declared.query.MemoryQuery.TheVariants.{Dump, At, Find, Strings, Backtrace, Unwind, Frame, Builds}
 use Rattle.case_queries.specs.Fronts.{HasSize, IsEnough, ReadsFront, ReadsUpTo, SeesEnough}
 use Rattle.case_queries.specs.LeaveLaws.{Leaves, own_still}
 use Rattle.case_queries.specs.Seeing.{IsKept, SeesImage}
@@ -221,6 +221,12 @@ module _ {D : Type 0} (g : disk.Ghosts D) where
       } in
       (x.0, x.1, (x.2, hand))
 
+  -- first bytes that are enough, and no window
+  pub first_is_seen : (before mid : Parts D) (seq size address : ℕ) (k : KeptImage) (s : Seen) → HasSize (state_of before) seq size → SeesEnough g before seq Core (Ok k) mid → s.kept ≡ k → s.size ≡ size → SeesFor g before seq (At address) (Ok s) mid
+  first_is_seen before mid seq size address k s has seen kept long =
+      let own = sized before mid seq size seen.0 has seen.1 in
+      rw (kept, long) (seen.0, seen.1, (seen.2, (own, enough_cut Core k.image.items seen.0 seen.2)))
+
   -- a stack that was read, and shows its frames
   pub stack_is_seen : (before mid new : Parts D) (seq size thread start n : ℕ) (k : KeptImage) (bytes : Vec ℕ Global) → HasSize (state_of before) seq size → SeesEnough g before seq Core (Ok k) mid → start + n ≤ size
       → ReadsRange g mid seq k.image.items start n (Ok tt) bytes.items new → ((image : List ℕ) → IsFrontOf k.image.items size image → IsPartOf image start bytes.items → HasFrames k.image.items size bytes.items thread image)
@@ -267,6 +273,7 @@ module _ {D : Type 0} (g : disk.Ghosts D) where
         all = λ inside. subst (λ e. AreHeldWithin (length image) first n 0 e (segments_of image)) (sym end) (all_within (length image) first n (segments_of image));
       } in
       (image, sees, (inl is, rw (bytes, is, size, at) hand))
+  all_seen old new seq (At address) s image sees is size at bytes = (image, sees, (inl is, rw (is, size) (refl, sym (take_all (length image) image (omega arith)))))
   all_seen old new seq (Find needle) s image sees is size at bytes = (image, sees, is)
   all_seen old new seq (Strings least) s image sees is size at bytes = (image, sees, is)
   all_seen old new seq (Unwind thread) s image sees is size at bytes = (image, sees, is)

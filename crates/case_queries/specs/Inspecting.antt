@@ -30,6 +30,7 @@ use Rattle.journal_layout.specs.Case.{Case}
 use Rattle.journal_layout.specs.declared.entry.Kind.{Kind}
 use Rattle.journal_layout.specs.declared.entry.Kind.TheVariants.{Core, Exec}
 use Rattle.memory_replies.specs.Answers.{Answers, memory_reply}
+use Rattle.address_replies.specs.At.{at_answer, at_with_debugs}
 use Rattle.memory_replies.specs.Backtrace.{bt_answer, bt_with_debugs}
 use Rattle.memory_replies.specs.Dump.{dump_answer}
 use Rattle.memory_replies.specs.Find.{find_answer}
@@ -39,7 +40,7 @@ use Rattle.memory_replies.specs.Symbol.{symbol_answer, executable_fault}
 use Rattle.memory_replies.specs.SymbolDebug.{symbol_with_debug}
 use Rattle.script_lines.specs.declared.query.BuildQuery.{BuildQuery}
 use Rattle.script_lines.specs.declared.query.BuildQuery.TheVariants as builds
-use Rattle.script_lines.specs.Queries.{QuerySaid, ask_header, ask_notes, ask_threads, ask_registers, ask_process, ask_signal, ask_auxiliary_vector, ask_files, ask_maps, ask_dump, ask_find, ask_strings, ask_backtrace, ask_unwind, ask_frame, ask_builds, ask_symbol, ask_by_build, ask_symbol_by_build}
+use Rattle.script_lines.specs.Queries.{QuerySaid, ask_header, ask_notes, ask_threads, ask_registers, ask_process, ask_signal, ask_auxiliary_vector, ask_files, ask_maps, ask_dump, ask_at, ask_find, ask_strings, ask_backtrace, ask_unwind, ask_frame, ask_builds, ask_symbol, ask_by_build, ask_symbol_by_build}
 use Rattle.script_streams.specs.Replies.{no_reply, reply_of}
 use Rattle.case_queries.specs.Collecting.{Gathered, GathersFor, Wanted}
 use Rattle.archive_replies.specs.Reasons.{reason_of}
@@ -78,9 +79,10 @@ used_for b xs = used_of xs (told_files b)
 abbrev pub debugs_used_for : List ℕ → List ExecutableView → List ExecutableView
 debugs_used_for b xs = debugs_of xs (told_files b)
 
--- Executables are chosen by build: then `bt` names functions by the debug files of these too. Any other line is answered as it is with
--- these.
+-- Executables are chosen by build: then `at` and `bt` name functions by the debug files of these too. Any other line is answered as it is
+-- with these.
 abbrev pub by_debugs : QuerySaid → List ℕ → List ExecutableView → List ExecutableView → Result (List ℕ) (List ℕ) → Result (List ℕ) (List ℕ)
+by_debugs (ask_at address) b xs debugs answer = at_with_debugs b xs debugs address
 by_debugs (ask_backtrace thread) b xs debugs answer = bt_with_debugs b xs debugs thread
 by_debugs q b xs debugs answer = answer
 
@@ -106,6 +108,7 @@ answer_of kind ask_auxiliary_vector b cases xs = auxv_answer b
 answer_of kind ask_files b cases xs = files_answer b
 answer_of kind ask_maps b cases xs = in_core b (λ notes. maps_answer b)
 answer_of kind (ask_dump first length) b cases xs = dump_answer b xs first length
+answer_of kind (ask_at address) b cases xs = at_answer b xs address
 answer_of kind (ask_find needle) b cases xs = find_answer b xs needle
 answer_of kind (ask_strings least) b cases xs = strings_answer b xs least
 answer_of kind (ask_backtrace thread) b cases xs = bt_answer b xs thread
@@ -119,6 +122,7 @@ answer_of kind (ask_symbol_by_build address) b cases xs = symbol_with_debug b (d
 -- the lines that read executables beside the image that they ask
 abbrev pub reads_executables : QuerySaid → Bool
 reads_executables (ask_dump first length) = true
+reads_executables (ask_at address) = true
 reads_executables (ask_find needle) = true
 reads_executables (ask_strings least) = true
 reads_executables (ask_backtrace thread) = true

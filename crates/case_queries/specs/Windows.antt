@@ -4,7 +4,7 @@ use Rattle.disk_model.specs.declared.disk.Disk as disk
 use Rattle.elf_view.specs.Field.{part}
 use Rattle.elf_view.specs.Header.{segments_of}
 use Rattle.elf_view.specs.declared.faults.Want.TheVariants.{Core}
-use Rattle.address_space.specs.Whole.{AreHeldWithin}
+use Rattle.address_space.specs.Whole.{AreHeldWithin, IsFrontOf}
 use Rattle.intake.specs.Part.{PartCall}
 use Rattle.intake.specs.Parts.{Parts}
 use Rattle.intake.specs.declared.faults.ArchiveFault.{ArchiveFault}
@@ -12,7 +12,7 @@ use Rattle.memory_replies.specs.Dump.{is_out_of_range}
 use Rattle.memory_replies.specs.Stack.{HasFrames}
 use Rattle.memory_replies.specs.Window.{IsAtHand}
 use Rattle.script_lines.specs.declared.query.MemoryQuery.{MemoryQuery}
-use Rattle.script_lines.specs.declared.query.MemoryQuery.TheVariants.{Dump, Find, Strings, Backtrace, Unwind, Frame, Builds}
+use Rattle.script_lines.specs.declared.query.MemoryQuery.TheVariants.{Dump, At, Find, Strings, Backtrace, Unwind, Frame, Builds}
 use Rattle.case_queries.specs.Fronts.{IsEnough, ReadsFront}
 use Rattle.case_queries.specs.Seeing.{LooksAt, SeesImage}
 use Rattle.case_queries.specs.declared.window.Part.{Part}
@@ -30,6 +30,7 @@ part_bytes image (Some p) = p.bytes.items
 -- how many bytes of an image a line reads at most after the first of it, if it doesn't read all
 abbrev pub most_for : MemoryQuery → ℕ
 most_for (Dump first n) = 65536
+most_for (At address) = 0
 most_for (Find needle) = 0
 most_for (Strings least) = 0
 most_for (Backtrace thread) = 1048576
@@ -38,9 +39,10 @@ most_for (Frame thread frame) = 0
 most_for (Builds query) = 0
 
 -- These are as much of an image as a line wants: all of it; or bytes that are enough for its headers and notes, and a window of it,
--- for a dump with what the range shows, for the frames of a thread with its stack.
+-- for a dump with what the range shows, for the frames of a thread with its stack. What is at an address wants no window.
 abbrev pub IsSeenBy : MemoryQuery → List ℕ → ℕ → ℕ → List ℕ → List ℕ → Type 0
 IsSeenBy (Dump first n) front size at bytes image = IsEnough Core front image × IsAtHand front size at bytes first n image
+IsSeenBy (At address) front size at bytes image = IsEnough Core front image × IsFrontOf front size image
 IsSeenBy (Find needle) front size at bytes image = front ≡ image
 IsSeenBy (Strings least) front size at bytes image = front ≡ image
 IsSeenBy (Backtrace thread) front size at bytes image = IsEnough Core front image × HasFrames front size bytes thread image

@@ -27,6 +27,7 @@ use crate::find::answer_find;
 use crate::front::size_of;
 use crate::kept_image::{Images, kept_if};
 use crate::window::{lent_window, see_memory};
+use address_replies::tell_at;
 use archive_replies::reason;
 use build_replies::{listed, tell_builds, told_ids};
 use disk_model::Disk;
@@ -234,6 +235,7 @@ fn wanted_for<D: Disk>(
         MemoryQuery::Frame { .. } => wanted_for_builds(alloc, core, archive),
         MemoryQuery::Builds(_) => wanted_for_builds(alloc, core, archive),
         MemoryQuery::Dump { .. } => wanted_by_path(alloc, core, archive),
+        MemoryQuery::At { .. } => wanted_by_path(alloc, core, archive),
         MemoryQuery::Find { .. } => wanted_by_path(alloc, core, archive),
         MemoryQuery::Strings { .. } => wanted_by_path(alloc, core, archive),
         MemoryQuery::Backtrace { .. } => wanted_by_path(alloc, core, archive),
@@ -289,6 +291,7 @@ fn debugs_for<D: Disk>(
         MemoryQuery::Builds(BuildQuery::Compared) => Ok(Vec::new(alloc)),
         MemoryQuery::Builds(BuildQuery::Wanted) => Ok(Vec::new(alloc)),
         MemoryQuery::Dump { .. } => Ok(Vec::new(alloc)),
+        MemoryQuery::At { .. } => Ok(Vec::new(alloc)),
         MemoryQuery::Find { .. } => Ok(Vec::new(alloc)),
         MemoryQuery::Strings { .. } => Ok(Vec::new(alloc)),
         MemoryQuery::Backtrace { .. } => Ok(Vec::new(alloc)),
@@ -383,6 +386,9 @@ pub(crate) fn tell_memory<O: Output>(
     match query {
         MemoryQuery::Dump { first, length } => {
             tell_dump(alloc, reply, core, window, attached, *first, *length)
+        }
+        MemoryQuery::At { address } => {
+            tell_at(alloc, reply, core, window.size, attached, *address)
         }
         MemoryQuery::Find { needle } => {
             tell_find(alloc, reply, core, attached, needle.bytes.as_slice())

@@ -242,6 +242,18 @@ fn see_range<D: Disk>(
     }
 }
 
+// The first bytes alone of an image of `size` bytes.
+fn first_of(front: KeptImage, size: usize) -> Seen
+    ensures kept { result.kept ≡ front }
+    ensures size { result.size ≡ size }
+{
+    Seen {
+        kept: front,
+        size: size as u64,
+        part: None,
+    }
+}
+
 // What a line over a core's memory wants of an image apart from its first bytes.
 fn see_more<D: Disk>(
     seq: u32,
@@ -268,6 +280,7 @@ fn see_more<D: Disk>(
         MemoryQuery::Dump { first, length } => {
             see_range(seq, size, *first, *length, front, buffer, archive)
         }
+        MemoryQuery::At { .. } => Ok(first_of(front, size)),
         MemoryQuery::Find { .. } => read_rest(seq, size, front, archive),
         MemoryQuery::Strings { .. } => read_rest(seq, size, front, archive),
         MemoryQuery::Backtrace { thread } => see_stack(seq, size, *thread, front, buffer, archive),
@@ -283,6 +296,7 @@ fn most_for(query: &MemoryQuery) -> usize
 {
     match query {
         MemoryQuery::Dump { .. } => WINDOW,
+        MemoryQuery::At { .. } => 0,
         MemoryQuery::Find { .. } => 0,
         MemoryQuery::Strings { .. } => 0,
         MemoryQuery::Backtrace { .. } => STACK,
@@ -293,7 +307,7 @@ fn most_for(query: &MemoryQuery) -> usize
 }
 
 // As much of an image of `size` bytes as a line over a core's memory wants: its first bytes, as the lines over headers want them,
-// and the part that has the bytes of a dump's addresses or of a thread's stack; or all of it.
+// and the part that has the bytes of a dump's addresses or of a thread's stack, if it wants one; or all of it.
 fn see_parts<D: Disk>(
     alloc: Global,
     seq: u32,
@@ -331,6 +345,7 @@ fn keeps_front(seq: u32, kept: &Option<KeptImage>) -> bool {
 fn reads_all(seq: u32, query: &MemoryQuery, kept: &Option<KeptImage>) -> bool {
     match query {
         MemoryQuery::Dump { .. } => false,
+        MemoryQuery::At { .. } => false,
         MemoryQuery::Find { .. } => !keeps_front(seq, kept),
         MemoryQuery::Strings { .. } => !keeps_front(seq, kept),
         MemoryQuery::Backtrace { .. } => false,

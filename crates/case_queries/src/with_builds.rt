@@ -1,5 +1,5 @@
 // The answers to lines over a core's memory to which the executables are attached of the builds that were mapped. All of the image is read.
-// For `bt` the debug files of these are read too.
+// For `at` and `bt` the debug files of these are read too.
 ghost use Rattle.std.specs.Prelude.{◌≡◌, ◌++◌, Ok, false, map, IfOk};
 ghost use Rattle.build_replies.specs.BuildsWords.{numbered_view};
 ghost use Rattle.image_replies.specs.CoreWords.{core_bytes};
@@ -23,6 +23,7 @@ use crate::collect_executables::{
 };
 use crate::kept_image::{Images, kept_if, see_image};
 use crate::memory::{debugs_of_core, refused_by, tell_memory, wanted_for_builds};
+use address_replies::tell_at_with_debugs;
 use address_space::Attached;
 use archive_replies::reason;
 use build_replies::{ChosenExecutables, listed, told_ids};
@@ -66,7 +67,7 @@ fn lent_used<'a>(
     })
 }
 
-// Tells what a core answers with these. `bt` names functions by the debug files too.
+// Tells what a core answers with these. `at` and `bt` name functions by the debug files too.
 fn tell_with_used<O: Output>(
     alloc: Global,
     kind: Kind,
@@ -79,6 +80,15 @@ fn tell_with_used<O: Output>(
 {
     let window = whole_window(core);
     match query {
+        MemoryQuery::At { address } => tell_at_with_debugs(
+            alloc,
+            reply,
+            core,
+            window.size,
+            &used.lent.attached,
+            &used.debugs,
+            *address,
+        ),
         MemoryQuery::Backtrace { thread } => tell_bt_with_debugs(
             alloc,
             reply,
@@ -125,7 +135,7 @@ fn whole_window<'a>(core: &CoreImage<'a>) -> Window<'a>
     }
 }
 
-// The debug files that a line reads after these executables: `bt` alone names functions by them. The error is that there is no memory.
+// The debug files that a line reads after these executables: `at` and `bt` alone name functions by them. The error is that there is no memory.
 fn debugs_wanted<D: Disk>(
     alloc: Global,
     query: &MemoryQuery,
@@ -137,6 +147,7 @@ fn debugs_wanted<D: Disk>(
     ensures { IfOk result (λ v. map wanted_view v.items ≡ debugs_for (ask_by_build (memory_query query.now)) (core_bytes core.now) (state_of archive.now).cases (map executable_view executables.now)) }
 {
     match query {
+        MemoryQuery::At { .. } => debugs_of_core(alloc, core, executables, archive),
         MemoryQuery::Backtrace { .. } => debugs_of_core(alloc, core, executables, archive),
         _ => Ok(Vec::new(alloc)),
     }

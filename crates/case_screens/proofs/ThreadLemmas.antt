@@ -1,5 +1,5 @@
 -- One thread more.
-use Rattle.std.proofs.Common.{◌≡◌, ◌==◌, ℕ, ◌+◌, ◌<◌, Bool, true, false, if◌then◌else◌, List, [], ◌∷◌, ◌++◌, Option, drop, take, length, get_or, refl, ap, ◌∙◌}
+use Rattle.std.proofs.Common.{◌≡◌, ◌==◌, ℕ, ◌+◌, ◌<◌, Bool, true, false, if◌then◌else◌, List, [], ◌∷◌, ◌++◌, Option, None, drop, take, length, get_or, refl, ap, ◌∙◌}
 use Rattle.std.specs.Prelude.{◌||◌, codes, is_some}
 use Rattle.std.proofs.lemmas.List.{at_drop_more}
 use Rattle.core_notes.specs.FileList.{FileView}
@@ -29,8 +29,8 @@ told_if true t is = refl
 told_if false t is = absurd (let e : false ≡ true = is in cc)
 
 -- the function of a frame, where it is known or a signal handler returns there
-pub function_told : (f : FrameAnswer) → (f.signal || is_some f.function) ≡ true → codes " in " ++ place_text f ≡ in_function f
-function_told f is = told_if (f.signal || is_some f.function) (codes " in " ++ place_text f) is
+pub function_told : (f : FrameAnswer) → (f.signal || is_some f.function) ≡ true → codes " in " ++ place_text f None ≡ in_function f
+function_told f is = told_if (f.signal || is_some f.function) (codes " in " ++ place_text f None) is
 
 pub or_right : (a b : Bool) → b ≡ true → (a || b) ≡ true
 or_right true b is = refl

@@ -1,10 +1,10 @@
 -- The threads of a core and their frames.
 use Rattle.std.specs.Prelude.{ℕ, ◌-◌, ◌||◌, nat_lt, min, take, if◌then◌else◌, is_some, List, [], ◌∷◌, ◌++◌, length, find, Option, None, Some, Result, Ok, Err, codes, decimal}
 use Rattle.std.specs.Fmt.{signed_decimal}
-use Rattle.std.specs.Option.{option_map}
 use Rattle.core_notes.specs.Descriptor.{pr_reg, status_pid}
 use Rattle.core_notes.specs.FileList.{FileView, is_mapping}
 use Rattle.core_notes.specs.Typed.{all_descs, first_desc}
+use Rattle.crash_signatures.specs.Frames.{place_text as place_in_file}
 use Rattle.elf_view.specs.NoteList.{NoteView}
 use Rattle.frame_replies.specs.FrameLines.{stop_line}
 use Rattle.frame_replies.specs.declared.values.FrameAnswer.{FrameAnswer}
@@ -18,28 +18,37 @@ use Rattle.case_screens.specs.Core.{files_in}
 use Rattle.case_screens.specs.Reasons.{core_reason, no_thread}
 use Rattle.case_screens.specs.Texts.{margin, label_at, name_text, refused_line, rest_after}
 
--- the name of the first file that is mapped at an address
-abbrev pub file_at : List FileView → Option ℕ → Option (List ℕ)
+-- the first file that is mapped at an address
+abbrev pub file_at : List FileView → Option ℕ → Option FileView
 file_at files None = None
-file_at files (Some a) = option_map (λ (f : FileView). f.name) (find (is_mapping a) files)
+file_at files (Some a) = find (is_mapping a) files
 
--- the file of a frame
-abbrev pub frame_file : List FileView → FrameAnswer → Option (List ℕ)
+-- the file that is mapped at a frame
+abbrev pub frame_file : List FileView → FrameAnswer → Option FileView
 frame_file files f = file_at files f.looked_up
 
--- a place in a function, if it is known
-abbrev pub function_text : Option Location → List ℕ
-function_text None = codes "?"
-function_text (Some l) = name_text l.name.now ++ (codes "+" ++ hexadecimal l.distance)
+-- the file's last component, and the place of a pc in it
+abbrev pub file_place : FileView → ℕ → List ℕ
+file_place m pc = take 256 (place_in_file (record { path = m.name; start = m.start; offset = m.offset }) pc)
 
--- where a frame is: that a signal handler returns there, or a place in a function
-abbrev pub place_text : FrameAnswer → List ℕ
-place_text f = if f.signal then codes "signal" else function_text f.function
+-- a place in a file, if that is known
+abbrev pub unnamed_text : Option FileView → ℕ → List ℕ
+unnamed_text None pc = codes "?"
+unnamed_text (Some m) pc = name_text (file_place m pc)
+
+-- a place in a function, if it is known, else in a file
+abbrev pub function_text : Option Location → Option FileView → ℕ → List ℕ
+function_text None file pc = unnamed_text file pc
+function_text (Some l) file pc = name_text l.name.now ++ (codes "+" ++ hexadecimal l.distance)
+
+-- where a frame is: that a signal handler returns there, or a place in a function or a file
+abbrev pub place_text : FrameAnswer → Option FileView → List ℕ
+place_text f file = if f.signal then codes "signal" else function_text f.function file f.pc
 
 -- where a frame is, and its file, if that is known
-abbrev pub where_text : FrameAnswer → Option (List ℕ) → List ℕ
-where_text f None = place_text f
-where_text f (Some name) = left_text 24 (place_text f) ++ name_text name
+abbrev pub where_text : FrameAnswer → Option FileView → List ℕ
+where_text f None = place_text f None
+where_text f (Some m) = left_text 24 (place_text f (Some m)) ++ name_text m.name
 
 abbrev pub frame_row : List FileView → ℕ → FrameAnswer → List ℕ
 frame_row files k f =
@@ -65,11 +74,11 @@ frames_text files None = refused_line (codes "frames    ") no_thread
 
 -- the function and the file of a thread's pc, as far as they are known
 abbrev pub in_function : FrameAnswer → List ℕ
-in_function f = if f.signal || is_some f.function then codes " in " ++ place_text f else []
+in_function f = if f.signal || is_some f.function then codes " in " ++ place_text f None else []
 
-abbrev pub in_file : Option (List ℕ) → List ℕ
+abbrev pub in_file : Option FileView → List ℕ
 in_file None = []
-in_file (Some name) = codes " (" ++ (name_text name ++ codes ")")
+in_file (Some m) = codes " (" ++ (name_text m.name ++ codes ")")
 
 abbrev pub first_place : List FileView → List FrameAnswer → List ℕ
 first_place files [] = []

@@ -14,12 +14,12 @@ const SIGFPE: i32 = 8;
 
 const SIGSEGV: i32 = 11;
 
-// A code: its name, and its meaning, before the address and after it.
+/// A code of a signal: its name, and its meaning, before the address and after it.
 #[derive(Clone, Copy)]
-pub(crate) struct SignalCode {
-    pub(crate) name: &'static [u8],
-    pub(crate) before: &'static [u8],
-    pub(crate) after: &'static [u8],
+pub struct SignalCode {
+    pub name: &'static [u8],
+    pub before: &'static [u8],
+    pub after: &'static [u8],
 }
 
 fn named_code(
@@ -106,8 +106,8 @@ fn trap_code(code: i32) -> Option<SignalCode>
     }
 }
 
-// The code of a signal.
-pub(crate) fn code_of_signal(signo: i32, code: i32) -> Option<SignalCode>
+/// The code of a signal, if it is one of those that the signal alone has.
+pub fn code_of_signal(signo: i32, code: i32) -> Option<SignalCode>
     ensures { option_map code_words result ≡ code_of_signal signo code }
 {
     if signo == SIGSEGV {

@@ -181,8 +181,8 @@ fn tell_exec_text<O: Output>(reply: &mut Reply<'_, O>, name: &[u8])
     }
 }
 
-// The number of the executable that is stored under a name.
-pub(crate) fn stored_number(cases: &[Entry], name: &[u8]) -> Option<u32>
+/// The number of the executable that is stored under a name.
+pub fn stored_number(cases: &[Entry], name: &[u8]) -> Option<u32>
     ensures { result ≡ stored_number (map case_of cases.now) name.now }
 {
     exec_number(case_of_name(cases, name))

@@ -1,7 +1,7 @@
 // The frames of a thread.
-ghost use Rattle.std.specs.Prelude.{◌≡◌, ◌-◌, find, length, option_map};
-ghost use Rattle.core_notes.specs.FileList.{FileView, is_mapping};
-ghost use Rattle.core_notes.specs.FileWords.{files_bytes, files_left};
+ghost use Rattle.std.specs.Prelude.{◌≡◌, ◌-◌, Some, find, length, option_map};
+ghost use Rattle.core_notes.specs.FileList.{is_mapping};
+ghost use Rattle.core_notes.specs.FileWords.{file_view, files_bytes, files_left};
 ghost use Rattle.image_replies.specs.Lines.{numbered_lines};
 ghost use Rattle.script_streams.specs.Replies.{TellsText, telling};
 ghost use Rattle.case_screens.specs.Core.{files_in};
@@ -10,7 +10,8 @@ ghost use Rattle.case_screens.specs.Frames as spec;
 use crate::reason::no_thread;
 use crate::texts::{MARGIN, room_after, tell_label, tell_left, tell_name, tell_refused};
 use case_tables::tell_spaces;
-use core_notes::{FileMaps, Files};
+use core_notes::{FileMap, FileMaps, Files};
+use crash_signatures::{FrameFacts, MappedFile, Word, word_of};
 use frame_replies::{FrameAnswer, FramesAnswer, tell_stop};
 use memory_replies::Location;
 use script_streams::{Output, Reply};
@@ -79,19 +80,28 @@ fn tell_row<O: Output>(
     reply.tell(b"\n");
 }
 
-// Prints the place of a frame: that a signal handler returns there, or a place in a function.
-pub(crate) fn tell_place<O: Output>(reply: &mut Reply<'_, O>, frame: &FrameAnswer<'_>)
-    ensures { TellsText (telling O.Output reply.old reply.new) (spec.place_text frame.now) }
+// Prints the place of a frame: that a signal handler returns there, or a place in a function or in its file.
+pub(crate) fn tell_place<O: Output>(
+    reply: &mut Reply<'_, O>,
+    frame: &FrameAnswer<'_>,
+    file: Option<FileMap<'_>>,
+)
+    ensures { TellsText (telling O.Output reply.old reply.new) (spec.place_text frame.now (option_map file_view file.entry)) }
 {
     if frame.signal {
         reply.tell(b"signal");
     } else {
-        tell_function(reply, frame.function);
+        tell_function(reply, frame.function, file, frame.pc);
     }
 }
 
-fn tell_function<O: Output>(reply: &mut Reply<'_, O>, function: Option<Location<'_>>)
-    ensures { TellsText (telling O.Output reply.old reply.new) (spec.function_text function.entry) }
+fn tell_function<O: Output>(
+    reply: &mut Reply<'_, O>,
+    function: Option<Location<'_>>,
+    file: Option<FileMap<'_>>,
+    pc: u64,
+)
+    ensures { TellsText (telling O.Output reply.old reply.new) (spec.function_text function.entry (option_map file_view file.entry) pc) }
 {
     match function {
         Some(place) => {
@@ -99,32 +109,63 @@ fn tell_function<O: Output>(reply: &mut Reply<'_, O>, function: Option<Location<
             reply.tell(b"+");
             reply.tell_hexadecimal(place.distance);
         }
+        None => tell_unnamed(reply, file, pc),
+    }
+}
+
+fn tell_unnamed<O: Output>(reply: &mut Reply<'_, O>, file: Option<FileMap<'_>>, pc: u64)
+    ensures { TellsText (telling O.Output reply.old reply.new) (spec.unnamed_text (option_map file_view file.entry) pc) }
+{
+    match file {
+        Some(map) => tell_name(reply, &file_place(&map, pc).text),
         None => reply.tell(b"?"),
     }
 }
 
-// Prints the place of a frame, and its file, if that is known.
-fn tell_where<O: Output>(reply: &mut Reply<'_, O>, frame: &FrameAnswer<'_>, file: Option<&[u8]>)
-    ensures { TellsText (telling O.Output reply.old reply.new) (spec.where_text frame.now (option_map (λ n. n.now) file.entry)) }
+/// The last component of a file's name, and the place of a pc in the file.
+pub fn file_place(map: &FileMap<'_>, pc: u64) -> Word
+    ensures { result.text.items ≡ spec.file_place (file_view map.now) pc }
 {
-    tell_place(reply, frame);
-    if let Some(name) = file {
-        tell_spaces(reply, room_of(frame));
+    word_of(&FrameFacts {
+        pc,
+        is_signal: false,
+        function: None,
+        file: Some(MappedFile {
+            path: map.name,
+            start: map.start,
+            offset: map.offset,
+        }),
+        is_vdso: false,
+        has_files: true,
+    })
+}
+
+// Prints the place of a frame, and its file, if that is known.
+fn tell_where<O: Output>(
+    reply: &mut Reply<'_, O>,
+    frame: &FrameAnswer<'_>,
+    file: Option<FileMap<'_>>,
+)
+    ensures { TellsText (telling O.Output reply.old reply.new) (spec.where_text frame.now (option_map file_view file.entry)) }
+{
+    tell_place(reply, frame, file);
+    if let Some(map) = file {
+        tell_spaces(reply, room_of(frame, &map));
         reply.tell(b"  ");
-        tell_name(reply, name);
+        tell_name(reply, map.name);
     }
 }
 
-// How many spaces stand behind the place of a frame, in a column of 24.
-fn room_of(frame: &FrameAnswer<'_>) -> usize
-    ensures { result ≡ 24 - length (spec.place_text frame.now) }
+// How many spaces stand behind the place of a frame in a file, in a column of 24.
+fn room_of(frame: &FrameAnswer<'_>, file: &FileMap<'_>) -> usize
+    ensures { result ≡ 24 - length (spec.place_text frame.now (Some (file_view file.now))) }
 {
     if frame.signal {
         return 18;
     }
     match frame.function {
         Some(place) => room_after(24, place.name, 1 + print_hexadecimal(place.distance).len()),
-        None => 23,
+        None => room_after(24, &file_place(file, frame.pc).text, 0),
     }
 }
 
@@ -146,24 +187,24 @@ fn tell_rest<O: Output>(reply: &mut Reply<'_, O>, count: usize)
     reply.tell(b" more\n");
 }
 
-// The file of a frame, if it is known.
-pub(crate) fn frame_file<'a>(files: Option<Files<'a>>, frame: &FrameAnswer<'_>) -> Option<&'a [u8]>
-    ensures { option_map (λ n. n.now) result ≡ spec.frame_file (files_in (option_map files_bytes files.entry)) frame.now }
+/// The file that is mapped at a frame, if it is known.
+pub fn frame_file<'a>(files: Option<Files<'a>>, frame: &FrameAnswer<'_>) -> Option<FileMap<'a>>
+    ensures { option_map file_view result ≡ spec.frame_file (files_in (option_map files_bytes files.entry)) frame.now }
 {
     match (files, frame.looked_up) {
-        (Some(files), Some(address)) => name_at(files.maps(), address),
+        (Some(files), Some(address)) => map_at(files.maps(), address),
         _ => None,
     }
 }
 
-// The name of the first file that is mapped at an address.
-fn name_at<'a>(maps: FileMaps<'a>, address: u64) -> Option<&'a [u8]>
-    ensures { option_map (λ n. n.now) result ≡ option_map (λ (f : FileView). f.name) (find (is_mapping address) (files_left maps.entry)) }
+/// The first file that is mapped at an address.
+pub fn map_at<'a>(maps: FileMaps<'a>, address: u64) -> Option<FileMap<'a>>
+    ensures { option_map file_view result ≡ find (is_mapping address) (files_left maps.entry) }
 {
     let mut rest = maps;
     while let Some(map) = rest.next() {
         if map.start <= address && address < map.past {
-            return Some(map.name);
+            return Some(map);
         }
     }
     None

@@ -7,7 +7,7 @@ use crate::reason::{core_reason, missing, no_thread};
 use crate::rows::{number_value, put_text, string_value};
 use address_space::Attached;
 use build_replies::{BuildAnswer, verdict};
-use core_notes::Files;
+use core_notes::{FileMap, Files};
 use frame_replies::{FrameAnswer, FramesAnswer, stop_fault, stop_name};
 use journal_layout::Entry;
 use memory_replies::Location;
@@ -30,12 +30,7 @@ pub(crate) fn put_frames(
     for frame in &answer.frames {
         let mut map = Map::new(alloc);
         put_frame(alloc, &mut map, values.len(), frame)?;
-        put_text(
-            alloc,
-            &mut map,
-            "file",
-            frame_file(files, frame).unwrap_or(b""),
-        )?;
+        put_frame_file(alloc, &mut map, frame_file(files, frame), frame.pc)?;
         values.push(Value::Object(map))?;
     }
     put(map, alloc, "frames", Value::Array(values))?;
@@ -60,6 +55,27 @@ fn put_frame(
         put(map, alloc, "ra", known_value(alloc, frame.returns)?)?;
     }
     Ok(())
+}
+
+// Puts the file that is mapped at a frame, and the place of the frame's pc in it.
+fn put_frame_file(
+    alloc: Global,
+    map: &mut Map<String, Value>,
+    file: Option<FileMap<'_>>,
+    pc: u64,
+) -> Result<(), AllocError> {
+    match file {
+        Some(file) => {
+            put_text(alloc, map, "file", file.name)?;
+            let place = u128::from(pc.saturating_sub(file.start)) + u128::from(file.offset);
+            let place = print_hexadecimal(place);
+            put(map, alloc, "offset", string_value(alloc, place.as_slice())?)
+        }
+        None => {
+            put_text(alloc, map, "file", b"")?;
+            put(map, alloc, "offset", Value::Null)
+        }
+    }
 }
 
 // A place in a function; a function without a name is `-`.

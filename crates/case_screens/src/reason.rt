@@ -6,17 +6,17 @@ ghost use Rattle.case_screens.specs.ReasonWords.{reason_view};
 use elf_view::ElfFault;
 use image_replies::CoreFault;
 
-// Why something is not shown.
+/// Why something is not shown.
 #[derive(Clone, Copy)]
-pub(crate) struct Reason<'a> {
-    // The name of the part with the fault.
-    pub(crate) name: &'a [u8],
-    // Its number, if there may be many.
-    pub(crate) index: Option<u64>,
+pub struct Reason<'a> {
+    /// The name of the part with the fault.
+    pub name: &'a [u8],
+    /// Its number, if there may be many.
+    pub index: Option<u64>,
 }
 
-// The field of a header, of a program header or of a note that has the fault.
-pub(crate) fn elf_reason(fault: ElfFault) -> Reason<'static>
+/// The field of a header, of a program header or of a note that has the fault.
+pub fn elf_reason(fault: ElfFault) -> Reason<'static>
     ensures { reason_view result ≡ reasons.elf_reason fault }
 {
     Reason {
@@ -29,8 +29,8 @@ pub(crate) fn elf_reason(fault: ElfFault) -> Reason<'static>
     }
 }
 
-// Why a core is not shown.
-pub(crate) fn core_reason(fault: CoreFault) -> Reason<'static>
+/// Why a core is not shown.
+pub fn core_reason(fault: CoreFault) -> Reason<'static>
     ensures { reason_view result ≡ reasons.core_reason fault }
 {
     match fault {
@@ -42,8 +42,8 @@ pub(crate) fn core_reason(fault: CoreFault) -> Reason<'static>
     }
 }
 
-// A note that a core need not have is not there.
-pub(crate) fn missing() -> Reason<'static>
+/// A note that a core need not have is not there.
+pub fn missing() -> Reason<'static>
     ensures { reason_view result ≡ reasons.missing }
 {
     Reason {

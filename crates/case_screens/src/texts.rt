@@ -133,8 +133,8 @@ fn tell_plain_byte<O: Output>(reply: &mut Reply<'_, O>, byte: u8)
     }
 }
 
-// Prints why something is not shown.
-pub(crate) fn tell_refusal<O: Output>(reply: &mut Reply<'_, O>, reason: &Reason<'_>)
+/// Prints why something is not shown.
+pub fn tell_refusal<O: Output>(reply: &mut Reply<'_, O>, reason: &Reason<'_>)
     ensures { TellsText (telling O.Output reply.old reply.new) (refusal_text (reason_view reason.now)) }
 {
     let name = reason.name;

@@ -1,6 +1,6 @@
 // The threads of a core.
 ghost use Rattle.std.specs.Prelude.{◌≡◌, Ok, option_map};
-ghost use Rattle.core_notes.specs.FileWords.{files_bytes};
+ghost use Rattle.core_notes.specs.FileWords.{file_view, files_bytes};
 ghost use Rattle.elf_view.specs.ViewWords.{notes_of};
 ghost use Rattle.elf_view.specs.declared.faults.Want.TheVariants.{Core};
 ghost use Rattle.image_replies.specs.CoreWords.{core_bytes};
@@ -13,7 +13,7 @@ use crate::frames::{frame_file, tell_frames, tell_place as tell_frame_place};
 use crate::reason::core_reason;
 use crate::texts::{tell_name, tell_refused, tell_rest_after};
 use crate::told_notes::{pc_of, thread_count};
-use core_notes::Files;
+use core_notes::{FileMap, Files};
 use frame_replies::{FrameAnswer, FramesAnswer};
 use image_replies::{CoreFault, CoreImage};
 use script_streams::{Output, Reply};
@@ -147,16 +147,16 @@ fn tell_function<O: Output>(reply: &mut Reply<'_, O>, frame: &FrameAnswer<'_>)
 {
     if frame.signal || frame.function.is_some() {
         reply.tell(b" in ");
-        tell_frame_place(reply, frame);
+        tell_frame_place(reply, frame, None);
     }
 }
 
-fn tell_file<O: Output>(reply: &mut Reply<'_, O>, file: Option<&[u8]>)
-    ensures { TellsText (telling O.Output reply.old reply.new) (spec.in_file (option_map (λ n. n.now) file.entry)) }
+fn tell_file<O: Output>(reply: &mut Reply<'_, O>, file: Option<FileMap<'_>>)
+    ensures { TellsText (telling O.Output reply.old reply.new) (spec.in_file (option_map file_view file.entry)) }
 {
-    if let Some(name) = file {
+    if let Some(map) = file {
         reply.tell(b" (");
-        tell_name(reply, name);
+        tell_name(reply, map.name);
         reply.tell(b")");
     }
 }

@@ -1,18 +1,19 @@
 -- How JSON of cases nests, and which bytes a byte prints as.
-use Rattle.std.proofs.Common.{◌≡◌, not, ◌&&◌, ℕ, zero, suc, ◌+◌, ◌<◌, ◌≤◌, ◌^◌, Bool, true, false, List, [], ◌∷◌, map, max, length, take, Option, Some, None, nat_lt, nat_eq, if◌then◌else◌, ◌++◌, get_or, refl, sym, ap, ◌∙◌, subst, arith}
+use Rattle.std.proofs.Common.{◌≡◌, not, ◌&&◌, ℕ, suc, ◌+◌, ◌<◌, ◌≤◌, ◌^◌, Bool, true, false, List, [], ◌∷◌, map, length, take, Option, Some, None, nat_lt, nat_eq, if◌then◌else◌, ◌++◌, get_or, refl, sym, ap, ◌∙◌, subst, arith}
 use Rattle.std.proofs.Math.Seq.{take-suc}
 use Rattle.std.proofs.lemmas.List.{map-append, take_all}
 use Rattle.std.proofs.lemmas.Simd.{map-map}
 use Rattle.std.proofs.lemmas.Str.{IsUtf8-from_is_utf8}
 use Rattle.std.specs.Borrow.{Bor}
 use Rattle.std.specs.Str.{IsUtf8, is_utf8}
-use Rattle.serde_json.specs.Data.{Data, array, depth, items_depth, null, string, number, unsigned}
+use Rattle.serde_json.specs.Data.{Data, array, depth, items_depth, null}
 use Rattle.serde_json.specs.Read.{max_depth}
 use Rattle.serde_json.specs.View.{items_of}
 use Rattle.journal_layout.specs.Case.{Case, case_of}
 use Rattle.journal_layout.specs.declared.entry.Entry.{Entry}
 use Rattle.thread_regs.specs.SignalNames.{numbered_name}
-use Rattle.case_tables.specs.Json.{case_json, cases_json, is_escaped, named_json, text_json, known_json, number_json, signal_json}
+use Rattle.case_tables.specs.Json.{case_json, cases_json, found_json, is_escaped, is_text, named_json, origin_json, part_json, text_json, known_json, number_json}
+use Rattle.case_tables.specs.NameParts.{host_in, program_in, user_in}
 
 flat_if : (b : Bool) (d e : Data) → depth d ≡ 0 → depth e ≡ 0 → depth (if b then d else e) ≡ 0
 flat_if true d e one two = one
@@ -34,7 +35,22 @@ flat_text false [] = refl
 flat_text true (c ∷ cs) = refl
 flat_text false (c ∷ cs) = refl
 
-case_depth : (c : Case) → depth (case_json c) ≤ 1
+flat_found : (o : Option ℕ) → depth (found_json o) ≡ 0
+flat_found None = refl
+flat_found (Some n) = refl
+
+flat_part : (escaped : Bool) (part : List ℕ) → depth (part_json escaped part) ≡ 0
+flat_part escaped part = flat_if (is_text part) _ _ (flat_text escaped part) (flat_text true part)
+
+origin_depth : (c : Case) → depth (origin_json c) ≤ 1
+unfolding origin_json
+origin_depth c =
+    let host = flat_part (is_escaped c) (host_in c) in
+    let program = flat_part (is_escaped c) (program_in c) in
+    let user = flat_found (user_in c) in
+    omega (arith, host, program, user)
+
+case_depth : (c : Case) → depth (case_json c) ≤ 2
 case_depth c =
     let label = flat_text (is_escaped c) c.label in
     let name = flat_text (is_escaped c) c.origin.name in
@@ -42,9 +58,10 @@ case_depth c =
     let signal = flat_named (numbered_name c.origin.signal) c.origin.signal in
     let size = flat_number c.len in
     let time = flat_known c.origin.time in
-    omega (arith, label, name, pid, signal, size, time)
+    let origin = origin_depth c in
+    omega (arith, label, name, pid, signal, size, time, origin)
 
-cases_depth : (cs : List Case) → items_depth (items_of (map case_json cs)) ≤ 1
+cases_depth : (cs : List Case) → items_depth (items_of (map case_json cs)) ≤ 2
 cases_depth [] = omega arith
 cases_depth (c ∷ cs) =
     let one = case_depth c in
@@ -64,6 +81,11 @@ no_text bytes none = by_answer (is_utf8 bytes) refl
     by_answer : (b : Bool) → is_utf8 bytes ≡ b → false ≡ b
     by_answer true e = absurd (none (IsUtf8-from_is_utf8 bytes e))
     by_answer false e = refl
+
+-- a text is UTF-8
+pub is_utf8_text : (a b : Bool) → a && not b ≡ true → a ≡ true
+is_utf8_text true b e = refl
+is_utf8_text false b e = absurd (cc)
 
 -- neither is escaped only if both are texts
 pub both_texts : (a b : Bool) → not (a && b) ≡ false → (a ≡ true) × (b ≡ true)

@@ -3,3 +3,4 @@ pub mod TableLemmas
 pub mod NamedLemmas
 pub mod JsonLemmas
 pub mod SignalLemmas
+pub mod OrderLemmas

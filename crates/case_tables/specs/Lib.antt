@@ -4,6 +4,8 @@ pub mod Sizes
 pub mod Cells
 pub mod Filters
 pub mod Table
+pub mod NameParts
+pub mod Order
 pub mod Wanted
 pub mod Named
 pub mod Json

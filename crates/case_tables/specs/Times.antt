@@ -12,6 +12,14 @@ abbrev pub date_text : Day → List ℕ
 date_text d =
     two_digits (d.year / 100) ++ (two_digits (d.year % 100) ++ (codes "-" ++ (two_digits d.month ++ (codes "-" ++ two_digits d.day))))
 
+abbrev pub known_day : Option Day → List ℕ
+known_day (Some d) = date_text d
+known_day None = codes "-"
+
+-- a day by its number
+abbrev pub day_text : ℕ → List ℕ
+day_text n = known_day (dated n)
+
 -- `14:03:11`, of the seconds since midnight
 abbrev pub clock_text : ℕ → List ℕ
 clock_text n = two_digits (n / 3600) ++ (codes ":" ++ (two_digits (n / 60 % 60) ++ (codes ":" ++ two_digits (n % 60))))

@@ -1,12 +1,14 @@
 // The cases of an archive as JSON.
 ghost use Rattle.std.specs.Prelude.{◌≡◌, ◌≢◌, ◌++◌, ◌∷◌, [], true, false, map, Some, IfOk, OnOk, string_bytes};
+ghost use Rattle.std.specs.List.{list_any};
 ghost use Rattle.std.specs.Str.{is_utf8, IsAscii};
 ghost use Rattle.serde_json.specs.Read.{read};
 ghost use Rattle.serde_json.specs.View.{view};
 ghost use Rattle.journal_layout.specs.Case.{Case, case_of};
 ghost use Rattle.script_words.specs.Printing.{shown};
-ghost use Rattle.case_tables.specs.Json.{case_json, cases_json, is_escaped, kind_word, known_json, number_json, signal_json, text_json};
+ghost use Rattle.case_tables.specs.Json.{case_json, cases_json, found_json, is_escaped, is_text, is_zero, kind_word, known_json, number_json, origin_json, part_json, signal_json, text_json};
 
+use crate::name_parts::{host_in, program_in, user_in};
 use crate::signals::name_of;
 use journal_layout::{Entry, Kind};
 use script_words::print_byte;
@@ -17,8 +19,12 @@ use std::str;
 // The first number that a JSON number may not be told as: many readers of JSON round it.
 const FIRST_LARGE: u64 = 1 << 53;
 
-// An array of an object for each case.
-pub(crate) fn json_of(alloc: Global, cases: &[&Entry]) -> Result<String, AllocError>
+/// A JSON array of an object for each case.
+///
+/// # Errors
+///
+/// There is no memory.
+pub fn json_of(alloc: Global, cases: &[&Entry]) -> Result<String, AllocError>
     ensures { IfOk result (λ text. read (string_bytes text) ≡ Some (cases_json (map (λ e. case_of e.now) cases.now))) }
 {
     let mut values = Vec::new(alloc);
@@ -36,7 +42,7 @@ fn push_case(alloc: Global, values: &mut Vec<Value>, case: &Entry) -> Result<(),
     Ok(())
 }
 
-/// An object with what is known of a case. If the name or the label is no UTF-8, both are printed as a script prints them, and
+/// An object with what is known of a case. If the name or the label is no UTF-8 or has a NUL, both are printed as a script prints them, and
 /// `escaped` says so.
 ///
 /// # Errors
@@ -52,6 +58,7 @@ pub fn case_value(alloc: Global, case: &Entry) -> Result<Value, AllocError>
         "size": number_value(alloc, case.length)?,
         "signal": signal_value(alloc, case.signal)?,
         "pid": known_value(alloc, u64::from(case.pid))?,
+        "origin": origin_value(alloc, case)?,
         "name": text_value(alloc, case.name.as_slice(), escaped)?,
         "label": text_value(alloc, case.label.as_slice(), escaped)?,
         "kind": kind_word(case.kind),
@@ -61,14 +68,61 @@ pub fn case_value(alloc: Global, case: &Entry) -> Result<Value, AllocError>
     })
 }
 
-// Whether the name or the label is no UTF-8.
+// The user, the host and the program that the name of a case says, each null if the name does not say it.
+#[tactic(auto, unfolding(crate::specs::Json::origin_json))]
+fn origin_value(alloc: Global, case: &Entry) -> Result<Value, AllocError>
+    ensures { IfOk result (λ value. view value ≡ origin_json (case_of case.now)) }
+{
+    let escaped = is_escaped(case);
+    json!(in alloc; {
+        "user": found_value(user_in(case)),
+        "program": part_value(alloc, program_in(case), escaped)?,
+        "host": part_value(alloc, host_in(case), escaped)?,
+    })
+}
+
+// A number, if there is one, or null.
+fn found_value(number: Option<u32>) -> Value
+    ensures { view result ≡ found_json number }
+{
+    match number {
+        Some(number) => Value::from(number),
+        None => Value::Null,
+    }
+}
+
+// A part of a name, or null if it is empty.
+fn part_value(alloc: Global, part: &[u8], escaped: bool) -> Result<Value, AllocError>
+    ensures { IfOk result (λ value. view value ≡ part_json escaped part.now) }
+{
+    if is_text(part) {
+        text_value(alloc, part, escaped)
+    } else {
+        text_value(alloc, part, true)
+    }
+}
+
+// Whether JSON can't have the name or the label as it is.
 fn is_escaped(case: &Entry) -> bool
     ensures { result ≡ is_escaped (case_of case.now) }
 {
     !is_text(case.name.as_slice()) || !is_text(case.label.as_slice())
 }
 
+// Whether bytes are UTF-8 without a NUL.
 fn is_text(bytes: &[u8]) -> bool
+    ensures { result ≡ is_text bytes.now }
+{
+    is_utf8(bytes) && !has_zero(bytes)
+}
+
+fn has_zero(bytes: &[u8]) -> bool
+    ensures { result ≡ list_any is_zero bytes.now }
+{
+    bytes.iter().any(|byte| *byte == 0)
+}
+
+fn is_utf8(bytes: &[u8]) -> bool
     ensures { result ≡ is_utf8 bytes.now }
 {
     match str::from_utf8(bytes) {

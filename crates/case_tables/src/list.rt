@@ -1,15 +1,16 @@
 // A list of the cases that are wanted.
-ghost use Rattle.std.specs.Prelude.{◌≡◌, map, not, length, ◌==◌, Some, IfOk, string_bytes};
+ghost use Rattle.std.specs.Prelude.{◌≡◌, ◌==◌, IfOk, List, Some, length, map, not, string_bytes};
 ghost use Rattle.serde_json.specs.Read.{read};
-ghost use Rattle.journal_layout.specs.Case.{case_of};
+ghost use Rattle.journal_layout.specs.Case.{Case, case_of};
 ghost use Rattle.script_streams.specs.Replies.{TellsText, telling};
 ghost use Rattle.case_tables.specs.Json.{cases_json};
+ghost use Rattle.case_tables.specs.Order.{IsShown};
 ghost use Rattle.case_tables.specs.Table.{list_table};
 ghost use Rattle.case_tables.specs.Wanted.{chosen};
 
 use crate::json::json_of;
 use crate::table::tell_table;
-use crate::wanted::{Wanted, find_wanted, last_of};
+use crate::wanted::{Wanted, shown_of};
 use journal_layout::Entry;
 use script_streams::{Output, Reply};
 use std::alloc::{AllocError, Global};
@@ -25,12 +26,12 @@ pub fn tell_list<O: Output>(
     cases: &[Entry],
     wanted: &Wanted<'_>,
 ) -> Result<bool, AllocError>
-    ensures is_table { IfOk result (λ some. TellsText (telling O.Output reply.old reply.new) (list_table (chosen wanted.now (map case_of cases.now)))) }
+    ensures is_table { IfOk result (λ some. (shown : List Case) × IsShown wanted.now.order (chosen wanted.now (map case_of cases.now)) shown
+        × TellsText (telling O.Output reply.old reply.new) (list_table shown)) }
     ensures some { IfOk result (λ some. some ≡ not (length (chosen wanted.now (map case_of cases.now)) == 0)) }
 {
-    let found = find_wanted(alloc, cases, wanted)?;
-    let shown = last_of(&found, wanted.last);
-    tell_table(reply, shown);
+    let shown = shown_of(alloc, cases, wanted)?;
+    tell_table(reply, &shown);
     Ok(!shown.is_empty())
 }
 
@@ -44,11 +45,11 @@ pub fn list_json(
     cases: &[Entry],
     wanted: &Wanted<'_>,
 ) -> Result<(String, bool), AllocError>
-    ensures is_json { IfOk result (λ list. read (string_bytes list.0) ≡ Some (cases_json (chosen wanted.now (map case_of cases.now)))) }
+    ensures is_json { IfOk result (λ list. (shown : List Case) × IsShown wanted.now.order (chosen wanted.now (map case_of cases.now)) shown
+        × (read (string_bytes list.0) ≡ Some (cases_json shown))) }
     ensures some { IfOk result (λ list. list.1 ≡ not (length (chosen wanted.now (map case_of cases.now)) == 0)) }
 {
-    let found = find_wanted(alloc, cases, wanted)?;
-    let shown = last_of(&found, wanted.last);
-    let text = json_of(alloc, shown)?;
+    let shown = shown_of(alloc, cases, wanted)?;
+    let text = json_of(alloc, &shown)?;
     Ok((text, !shown.is_empty()))
 }

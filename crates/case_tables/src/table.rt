@@ -22,8 +22,8 @@ pub(crate) struct Widths {
     pub(crate) name: usize,
 }
 
-// Tells a table of cases: its heads, and a row for each case. Each column is as wide as it needs to be.
-pub(crate) fn tell_table<O: Output>(reply: &mut Reply<'_, O>, cases: &[&Entry])
+/// Prints a table of cases: its heads, and a row for each case. Each column is as wide as it needs to be.
+pub fn tell_table<O: Output>(reply: &mut Reply<'_, O>, cases: &[&Entry])
     ensures is_table { TellsText (telling O.Output reply.old reply.new) (list_table (map (λ e. case_of e.now) cases.now)) }
 {
     let widths = widths_of(cases);

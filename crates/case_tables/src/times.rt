@@ -1,7 +1,7 @@
 // Times in words.
 ghost use Rattle.std.specs.Prelude.{◌≡◌, ◌<◌, ◌≤◌, length};
 ghost use Rattle.script_streams.specs.Replies.{TellsText, telling};
-ghost use Rattle.case_tables.specs.Times.{two_digits, date_text, clock_text, moment_text, time_text};
+ghost use Rattle.case_tables.specs.Times.{two_digits, date_text, day_text, clock_text, moment_text, time_text};
 
 use crate::days::{Day, day_of};
 use script_streams::{Output, Reply};
@@ -24,6 +24,16 @@ pub fn tell_time<O: Output>(reply: &mut Reply<'_, O>, time: u64)
             reply.tell(b"@");
             reply.tell_decimal(u128::from(time));
         }
+    }
+}
+
+/// Prints the day that is so many days after 1970-01-01; or `-` after the year 9999.
+pub fn tell_day<O: Output>(reply: &mut Reply<'_, O>, number: u64)
+    ensures { TellsText (telling O.Output reply.old reply.new) (day_text number) }
+{
+    match day_of(number) {
+        Some(day) => tell_date(reply, day),
+        None => reply.tell(b"-"),
     }
 }
 

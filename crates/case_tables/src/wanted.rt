@@ -1,8 +1,12 @@
 // Which cases a list shows.
-ghost use Rattle.std.specs.Prelude.{◌≡◌, ◌++◌, ◌∷◌, [], filter, map, if◌then◌else◌, IfOk, OnOk, option_map};
+ghost use Rattle.std.specs.Prelude.{◌≡◌, ◌==◌, ◌++◌, ◌∷◌, [], filter, map, if◌then◌else◌, IfOk, OnOk, option_map};
+ghost use Rattle.std.specs.List.{list_any};
 ghost use Rattle.journal_layout.specs.Case.{case_of};
-ghost use Rattle.case_tables.specs.Wanted.{is_of_kind, is_number, has_text, is_since, is_until, is_kept, is_wanted, last_of, skipped};
+ghost use Rattle.case_tables.specs.Order.{IsShown};
+ghost use Rattle.case_tables.specs.Wanted.{chosen, has_text, has_user, is_among, is_kept, is_number, is_of_kind, is_since, is_until, is_wanted, last_of, skipped};
 
+use crate::name_parts::{program_in, user_in};
+use crate::order::{Order, put_in_order};
 use journal_layout::{Entry, Kind};
 use memchr::memmem;
 use std::alloc::{AllocError, Global};
@@ -11,9 +15,15 @@ use std::alloc::{AllocError, Global};
 #[derive(Clone, Copy)]
 pub struct Wanted<'a> {
     pub kind: Option<Kind>,
+    /// Only cases of these numbers.
+    pub numbers: Option<&'a [u32]>,
     /// A text that is somewhere in the name.
     pub name: Option<&'a [u8]>,
     pub pid: Option<u32>,
+    /// The user in the name of a core, as `user_in` has it.
+    pub user: Option<u32>,
+    /// A text that is somewhere in the program of a name, as `program_in` has it.
+    pub program: Option<&'a [u8]>,
     pub signal: Option<u32>,
     /// The time is known, and not before this one, in seconds since the epoch.
     pub since: Option<u64>,
@@ -25,16 +35,21 @@ pub struct Wanted<'a> {
     pub pinned: bool,
     /// So many of the greatest numbers of those that are left.
     pub last: Option<usize>,
+    /// In which order a list shows them.
+    pub order: Order,
 }
 
 impl Wanted<'_> {
-    // Whether a case is wanted.
-    pub(crate) fn takes(&self, case: &Entry) -> bool
+    /// Whether a case is wanted, were it the only one.
+    pub fn takes(&self, case: &Entry) -> bool
         ensures { result ≡ is_wanted self.now (case_of case.now) }
     {
         is_of_kind(self.kind, case.kind)
+            && is_among(self.numbers, case.seq)
             && has_text(self.name, case.name.as_slice())
             && is_number(self.pid, case.pid)
+            && has_user(self.user, case)
+            && has_text(self.program, program_in(case))
             && is_number(self.signal, case.signal)
             && is_since(self.since, case.time)
             && is_until(self.until, case.time)
@@ -55,12 +70,39 @@ fn is_of_kind(wanted: Option<Kind>, kind: Kind) -> bool
     }
 }
 
+fn is_among(wanted: Option<&[u32]>, number: u32) -> bool
+    ensures { result ≡ is_among (option_map (λ ns. ns.now) wanted.entry) number }
+{
+    match wanted {
+        Some(numbers) => is_one_of(numbers, number),
+        None => true,
+    }
+}
+
+fn is_one_of(numbers: &[u32], number: u32) -> bool
+    ensures { result ≡ list_any (λ m. m == number) numbers.now }
+{
+    numbers.iter().any(|wanted| *wanted == number)
+}
+
 fn is_number(wanted: Option<u32>, number: u32) -> bool
     ensures { result ≡ is_number wanted number }
 {
     match wanted {
         Some(wanted) => wanted == number,
         None => true,
+    }
+}
+
+fn has_user(wanted: Option<u32>, case: &Entry) -> bool
+    ensures { result ≡ has_user wanted (case_of case.now) }
+{
+    let Some(wanted) = wanted else {
+        return true;
+    };
+    match user_in(case) {
+        Some(user) => wanted == user,
+        None => false,
     }
 }
 
@@ -98,7 +140,7 @@ fn is_kept(only: bool, pinned: bool) -> bool
 }
 
 // The cases that are wanted. The error is that there is no memory.
-pub(crate) fn find_wanted<'a>(
+fn find_wanted<'a>(
     alloc: Global,
     cases: &'a [Entry],
     wanted: &Wanted<'_>,
@@ -128,8 +170,22 @@ fn add_wanted<'a>(
     Ok(())
 }
 
+// The cases that are wanted, in the order in which they are shown. The error is that there is no memory.
+pub(crate) fn shown_of<'a>(
+    alloc: Global,
+    cases: &'a [Entry],
+    wanted: &Wanted<'_>,
+) -> Result<Vec<&'a Entry>, AllocError>
+    ensures { IfOk result (λ found. IsShown wanted.now.order (chosen wanted.now (map case_of cases.now)) (map (λ e. case_of e.now) found.items)) }
+{
+    let found = find_wanted(alloc, cases, wanted)?;
+    let mut shown = last_of(&found, wanted.last).to_vec(alloc)?;
+    put_in_order(&mut shown, wanted.order);
+    Ok(shown)
+}
+
 // The last so many, or all.
-pub(crate) fn last_of<'a, 'b>(cases: &'b [&'a Entry], last: Option<usize>) -> &'b [&'a Entry]
+fn last_of<'a, 'b>(cases: &'b [&'a Entry], last: Option<usize>) -> &'b [&'a Entry]
     ensures { result.now ≡ last_of last cases.now }
 {
     cases.split_at(skipped(last, cases.len())).1

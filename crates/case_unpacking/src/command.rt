@@ -5,23 +5,26 @@ use crate::folder::NewFolder;
 use crate::telling::{gdb_text, lldb_text, note_fault, place_text, tell_unpacked};
 use archive_files::{ArchivePath, Collected, Failure, Refusal, take_look};
 use case_info::{DebugFile, UnpackedFile, Unpacking, unpacking_of};
+use case_listing::latest_time;
 use diagnostics::Onlooker;
 use script_streams::Output;
 use std::fs::File;
 use std::rt::Files;
 use std::str;
+use std::time::Clock;
 
 /// Writes a case into a new folder: the image of a core, the executables that are used for its mapped files, their debug files, and the
 /// commands by which GDB and LLDB open them. Of an executable it is that alone. The folder has its name only once all is whole and
 /// durable, and each case was found again: until then it is called DIR.part, and what fails leaves neither. For each executable the
-/// number of its case and its place are printed then. The case is named by its number, by its name, or as `last`.
+/// number of its case and its place are printed then. The case is named by its number, by its name, or as `last` or
+/// `latest`.
 ///
 /// # Errors
 ///
 /// `BadLine`: the folder has no name. `File`: DIR or DIR.part is there, or a file could not be made. The refusals of `take_look` of
 /// `archive_files` and of an opening. `NoCase`: there is no such case, or one was deleted meanwhile. `OutOfMemory` and `Disk`.
 /// `WriteFailed` if the output failed.
-pub fn unpack<R: AllocGlobal + Files<File = File>, O: Output, W: Onlooker>(
+pub fn unpack<R: AllocGlobal + Files<File = File> + Clock, O: Output, W: Onlooker>(
     rt: &R,
     place: ArchivePath<'_>,
     case: &str,
@@ -31,7 +34,8 @@ pub fn unpack<R: AllocGlobal + Files<File = File>, O: Output, W: Onlooker>(
     onlooker: &mut W,
 ) -> Result<(), Failure> {
     let mut folder = NewFolder::at(rt, folder)?;
-    let unpacking = unpacking_of(rt.alloc(), take_look(rt, place)?, case.as_bytes())?;
+    let until = latest_time(rt);
+    let unpacking = unpacking_of(rt.alloc(), take_look(rt, place)?, case.as_bytes(), until)?;
     let placed = Placed::of(rt.alloc(), &unpacking)?;
     onlooker.begin("unpacks", None);
     let made = make(rt, place, &unpacking, &placed, &mut folder, onlooker);

@@ -9,6 +9,8 @@ use Rattle.archive_files.specs.declared.failures.Refusal.{Refusal}
 use Rattle.case_info.specs.declared.prune.PruneWords.{PruneWords}
 use Rattle.case_listing.specs.Foreseeing.{IsPolicyOf}
 use Rattle.case_tables.specs.Filters.{SaysSignal}
+use Rattle.case_tables.specs.declared.order.Order.{Order}
+use Rattle.case_tables.specs.declared.order.Order.TheVariants.{Number, Time, Size, Name}
 use Rattle.case_listing.specs.declared.listing.ListWords.{ListWords}
 use Rattle.archive_files.specs.declared.failures.Refusal.TheVariants.{LineTooLong, NoLine}
 use Rattle.command_words.specs.Lines.{joined}
@@ -144,15 +146,27 @@ IsThereWith None signal = signal ≡ None
 IsThereWith (Some text) None = ⊥
 IsThereWith (Some text) (Some signal) = SaysSignal text (Some signal)
 
+-- `--sort`: the order that it names; that of the numbers, if it is not there
+abbrev pub IsOrder : Option (List ℕ) → Order → Type 0
+IsOrder None order = order ≡ Number
+IsOrder (Some text) Number = ⊥
+IsOrder (Some text) Time = text ≡ codes "time"
+IsOrder (Some text) Size = text ≡ codes "size"
+IsOrder (Some text) Name = text ≡ codes "name"
+
 -- Which cases `list` is to show, each fact under its own name. The times are read later, once the clock was asked.
 pub record IsListed (given : Given) (words : ListWords) : Type 0 where
   pub kind : IsKind (text_in given (codes "kind")) words.wanted.kind
+  pub numbers : words.wanted.numbers ≡ None
   pub name : option_map (λ (t : _). t.now) words.wanted.name ≡ text_in given (codes "name")
   pub pid : words.wanted.pid ≡ number_in given (codes "pid")
+  pub user : words.wanted.user ≡ number_in given (codes "user")
+  pub program : option_map (λ (t : _). t.now) words.wanted.program ≡ text_in given (codes "program")
   pub signal : IsThereWith (text_in given (codes "signal")) words.wanted.signal
   pub label : option_map (λ (t : _). t.now) words.wanted.label ≡ text_in given (codes "label")
   pub pinned : words.wanted.pinned ≡ flag_in given (codes "pinned")
   pub last : words.wanted.last ≡ number_in given (codes "last")
+  pub order : IsOrder (text_in given (codes "sort")) words.wanted.order
   pub since : option_copied words.since ≡ text_in given (codes "since")
   pub until : option_copied words.until ≡ text_in given (codes "until")
   pub json : words.is_json ≡ flag_in given (codes "json")
@@ -182,7 +196,7 @@ IsAsk given archive _ = ⊥
 -- the commands over the archive in a file
 abbrev pub names_over : List (List ℕ)
 names_over =
-    codes "run" ∷ codes "store" ∷ codes "extract" ∷ codes "unpack" ∷ codes "list" ∷ codes "ask" ∷ codes "info" ∷ codes "wants" ∷ codes "groups" ∷ codes "prune" ∷ codes "look" ∷ codes "check" ∷ codes "copy" ∷ codes "resize" ∷ codes "salvage" ∷ []
+    codes "run" ∷ codes "store" ∷ codes "extract" ∷ codes "unpack" ∷ codes "list" ∷ codes "ask" ∷ codes "info" ∷ codes "wants" ∷ codes "groups" ∷ codes "report" ∷ codes "search" ∷ codes "prune" ∷ codes "look" ∷ codes "check" ∷ codes "copy" ∷ codes "resize" ∷ codes "salvage" ∷ []
 
 -- a command that has none of these names
 abbrev pub IsNoneOf : List ℕ → List (List ℕ) → Type 0
@@ -211,6 +225,10 @@ IsOver given archive (asked.Wants place case wanted) =
     × (wanted.ids_alone ≡ flag_in given (codes "ids")) × (wanted.is_json ≡ flag_in given (codes "json"))
 IsOver given archive (asked.Groups place wanted) =
     (given.command.now ≡ codes "groups") × (place ≡ archive) × (option_copied wanted.case ≡ text_in given (codes "case")) × IsListed given wanted.list
+IsOver given archive (asked.Report place case) =
+    (given.command.now ≡ codes "report") × (place ≡ archive) × (option_copied case ≡ text_in given (codes "case"))
+IsOver given archive (asked.Search place wanted) =
+    (given.command.now ≡ codes "search") × (place ≡ archive) × (wanted.text.now ≡ text_said given (codes "text")) × IsListed given wanted.list
 IsOver given archive (asked.Prune place wanted) = (given.command.now ≡ codes "prune") × (place ≡ archive) × IsPruned given wanted
 IsOver given archive (asked.Look place by_build) = (given.command.now ≡ codes "look") × (place ≡ archive) × (by_build ≡ flag_in given (codes "builds"))
 IsOver given archive (asked.Check place sees_images) = (given.command.now ≡ codes "check") × (place ≡ archive) × (sees_images ≡ flag_in given (codes "images"))

@@ -20,6 +20,7 @@ use archive_files::{
 };
 use case_info::{GroupsWords, InfoWords, PruneWords, WantsWords};
 use case_listing::ListWords;
+use case_search::SearchWords;
 use command_words::{Given, is_text};
 use core_handler::{HandleWords, SpoolWords};
 use inspector_cli::Naming;
@@ -106,10 +107,20 @@ pub(crate) enum Asked<'a> {
         archive: ArchivePath<'a>,
         wanted: PruneWords,
     },
+    // The cases whose images have a text.
+    Search {
+        archive: ArchivePath<'a>,
+        wanted: SearchWords<'a>,
+    },
     // The cores that crashed alike.
     Groups {
         archive: ArchivePath<'a>,
         wanted: GroupsWords<'a>,
+    },
+    // A page of a case, or of the archive.
+    Report {
+        archive: ArchivePath<'a>,
+        case: Option<&'a str>,
     },
     // What one line of a script asks, and its reply. Without a question its second word names a case.
     Ask {
@@ -255,10 +266,21 @@ fn over_archive<'a>(
                 is_json: given.flag("json"),
             },
         }),
+        "report" => Ok(Asked::Report {
+            archive,
+            case: text_if(given, "case")?,
+        }),
         "groups" => Ok(Asked::Groups {
             archive,
             wanted: GroupsWords {
                 case: text_if(given, "case")?,
+                list: list_words(given)?,
+            },
+        }),
+        "search" => Ok(Asked::Search {
+            archive,
+            wanted: SearchWords {
+                text: text_of(given, "text")?,
                 list: list_words(given)?,
             },
         }),

@@ -7,7 +7,7 @@ ghost use Rattle.command_line.specs.Asking as asking;
 use crate::asked::text_if;
 use archive_files::Refusal;
 use case_listing::ListWords;
-use case_tables::{Wanted, read_signal};
+use case_tables::{Order, Wanted, read_signal};
 use command_words::Given;
 use journal_layout::Kind;
 
@@ -18,14 +18,18 @@ pub(crate) fn list_words<'a>(given: &Given<'a>) -> Result<ListWords<'a>, Refusal
     Ok(ListWords {
         wanted: Wanted {
             kind: kind_said(given.text("kind"))?,
+            numbers: None,
             name: text_said(given, "name")?,
-            pid: pid_said(given.number("pid"))?,
+            pid: number_said(given.number("pid"))?,
+            user: number_said(given.number("user"))?,
+            program: text_said(given, "program")?,
             signal: signal_said(given.text("signal"))?,
             since: None,
             until: None,
             label: text_said(given, "label")?,
             pinned: given.flag("pinned"),
             last: count_said(given.number("last")),
+            order: order_said(given.text("sort"))?,
         },
         since: given.text("since"),
         until: given.text("until"),
@@ -57,16 +61,35 @@ fn kind_said(text: Option<&str>) -> Result<Option<Kind>, Refusal>
     Err(Refusal::BadLine)
 }
 
-fn pid_said(pid: Option<u64>) -> Result<Option<u32>, Refusal>
-    ensures { IfOk result (λ number. number ≡ pid) }
+// A number of 32 bits, if there is one.
+fn number_said(number: Option<u64>) -> Result<Option<u32>, Refusal>
+    ensures { IfOk result (λ said. said ≡ number) }
 {
-    let Some(pid) = pid else {
+    let Some(number) = number else {
         return Ok(None);
     };
-    match u32::try_from(pid) {
-        Ok(pid) => Ok(Some(pid)),
+    match u32::try_from(number) {
+        Ok(number) => Ok(Some(number)),
         Err(_) => Err(Refusal::BadLine),
     }
+}
+
+fn order_said(text: Option<&str>) -> Result<Order, Refusal>
+    ensures { IfOk result (asking.IsOrder (option_copied text.entry)) }
+{
+    let Some(text) = text else {
+        return Ok(Order::Number);
+    };
+    if text == "time" {
+        return Ok(Order::Time);
+    }
+    if text == "size" {
+        return Ok(Order::Size);
+    }
+    if text == "name" {
+        return Ok(Order::Name);
+    }
+    Err(Refusal::BadLine)
 }
 
 fn signal_said(text: Option<&str>) -> Result<Option<u32>, Refusal>

@@ -11,11 +11,13 @@ use archive_files::{
     run_over, salvage, take_disk, tell_trouble,
 };
 use case_info::{
-    PruneWords, ask_rows, group_archive, info_archive, info_case, prune_archive, tell_wants,
+    PruneWords, ask_rows, group_archive, info_archive, info_case, prune_archive, report_archive,
+    tell_wants,
 };
 use case_listing::{
     NamedLine, ask_case, ask_plain, extract_case, list, named_question, would_retire,
 };
+use case_search::search;
 use case_unpacking::unpack;
 use command_words::{
     Context, Watched, asked_help, context_of, in_order, line_in_place_of_a_command, tell_help,
@@ -86,10 +88,12 @@ pub fn run_program<
 /// others; if it is refused, such as in an archive of version 1 of the layout, the case stays. With `--pin` the line `pin` comes after
 /// that, in the same way.
 /// - `list ARCHIVE` shows the cases as a table, or as JSON; with filters, those that match. The status is 1 if none does.
+/// - `search ARCHIVE --text TEXT` lists the cases whose images have these bytes, with the same filters. The status is 1 if none has them.
 /// - `info ARCHIVE CASE` shows a case on one screen, and `info ARCHIVE` the archive.
 /// - `ask ARCHIVE WORD..` carries out one line of a script, with `--plain` so that people read its reply, and `find N --text TEXT` looks
 /// for these bytes. `extract ARCHIVE N [FILE]` writes the image of a case. A line that changes no case, and `extract`, need no right to
 /// write the archive's file, and hold its lock only while they read its journal.
+/// - `report ARCHIVE` prints a page in HTML of the crashes in the archive, and `report ARCHIVE CASE` one of a case.
 /// - `unpack ARCHIVE CASE DIR` writes the image of a case, its executables, and the commands of debuggers into a new folder.
 /// - `prune ARCHIVE` prints which executables and debug files are of builds that no core needs, and with `--cores K`, `--bytes B` or
 /// `--before T` which cores go first; with `--yes` it deletes them.
@@ -292,6 +296,8 @@ fn answer_asked<
         } => tell_wants(rt, archive, case, wanted, output, onlooker),
         Asked::Prune { archive, wanted } => prune(rt, archive, wanted, output, onlooker),
         Asked::Groups { archive, wanted } => group_archive(rt, archive, wanted, output),
+        Asked::Report { archive, case } => report_archive(rt, archive, case, output),
+        Asked::Search { archive, wanted } => search(rt, archive, wanted, output),
         Asked::WouldRetire { archive, policy } => would_retire(rt, archive, &policy, output),
         Asked::Look { archive, by_build } => {
             look(rt, archive, by_build, &mut ReadInput::new(input), output)

@@ -21,6 +21,7 @@ pub(crate) const ASK_HELP: &str = "Lines (corekeep help LINE says more):\n\
 \x20\x20files N                              the files that were mapped\n\
 \x20\x20maps N                               the ranges of memory\n\
 \x20\x20dump N ADDR LEN                      LEN bytes of memory from ADDR on, at most 65,536\n\
+\x20\x20at N ADDR                            what is at ADDR: range, file, function and whose stack\n\
 \x20\x20find N HEX                           each address at which these bytes begin\n\
 \x20\x20strings N MIN                        the texts in memory of at least MIN bytes, 1 to 1,024\n\
 \x20\x20bt N T                               the frames of thread T by frame pointers\n\

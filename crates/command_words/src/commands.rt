@@ -9,15 +9,17 @@ use crate::groups_tables::GROUPS;
 use crate::info_tables::{INFO, WANTS};
 use crate::list_tables::LIST;
 use crate::prune_tables::PRUNE;
+use crate::report_tables::REPORT;
+use crate::search_tables::SEARCH;
 use crate::tables::{CommandWords, EXTRACT, FORMAT, HANDLE, LOOK, MEMORY, RUN, STORE};
 use crate::unpack_tables::UNPACK;
 
 // All of them, in the order in which help shows them. What names a table is dear to prove: only this function does.
-pub(crate) fn commands() -> [&'static CommandWords; 18]
+pub(crate) fn commands() -> [&'static CommandWords; 20]
     ensures { is_simple (grammar (map (λ command. command.now) result)) ≡ true }
 {
     [
-        &FORMAT, &STORE, &LIST, &INFO, &GROUPS, &ASK, &WANTS, &PRUNE, &EXTRACT, &UNPACK, &LOOK,
-        &RUN, &CHECK, &COPY, &RESIZE, &SALVAGE, &HANDLE, &MEMORY,
+        &FORMAT, &STORE, &LIST, &INFO, &GROUPS, &REPORT, &ASK, &SEARCH, &WANTS, &PRUNE, &EXTRACT,
+        &UNPACK, &LOOK, &RUN, &CHECK, &COPY, &RESIZE, &SALVAGE, &HANDLE, &MEMORY,
     ]
 }

@@ -75,7 +75,7 @@ static HANDLER_MEANINGS: [Meaning; 1] = [Meaning {
 static LIST_MEANINGS: [Meaning; 2] = [
     Meaning {
         reason: b"BadLine",
-        words: b"the value of a filter can't be read: --kind takes core or exec, --signal a number or a name such as SEGV, --since and --until 2h, 3d, 2026-11-25, 2026-11-25T14:03:11Z or @SECONDS",
+        words: b"the value of a filter can't be read: --kind takes core or exec, --signal a number or a name such as SEGV, --since and --until 2h, 3d, 2026-11-25, 2026-11-25T14:03:11Z or @SECONDS, --sort time, size or name; or search has no --text TEXT",
     },
     Meaning {
         reason: b"Disk",
@@ -134,9 +134,9 @@ pub fn context_of(words: &[String], line: &LastLine) -> Context {
         "handle" => Context::Handling,
         "store" if line.is_first() => Context::Naming,
         "store" => Context::Storing,
-        "list" => Context::Listing,
+        "list" | "search" => Context::Listing,
         "groups" => Context::Grouping,
-        "info" | "wants" | "look" | "extract" | "unpack" | "check" => Context::Looking,
+        "info" | "report" | "wants" | "look" | "extract" | "unpack" | "check" => Context::Looking,
         "prune" => Context::Pruning,
         "copy" | "resize" => Context::Copying,
         _ => Context::Other,

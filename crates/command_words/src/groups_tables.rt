@@ -1,5 +1,7 @@
 // The words of `groups`.
-use crate::list_tables::{JSON, LABEL_PART, LAST, NAME_PART, PID, PINNED, SIGNAL, SINCE, UNTIL};
+use crate::list_tables::{
+    JSON, LABEL_PART, LAST, NAME_PART, PID, PINNED, PROGRAM_PART, SIGNAL, SINCE, UNTIL, USER,
+};
 use crate::tables::{ARCHIVE, CommandWords, NO_WAIT, Takes, Word};
 
 pub(crate) static GROUPS: CommandWords = CommandWords {
@@ -11,6 +13,8 @@ pub(crate) static GROUPS: CommandWords = CommandWords {
         GROUPS_CASE,
         JSON,
         NAME_PART,
+        USER,
+        PROGRAM_PART,
         PID,
         SIGNAL,
         SINCE,
@@ -34,5 +38,5 @@ const GROUPS_CASE: Word = Word {
     shown: "CASE",
     takes: Takes::NewPlace,
     default: None,
-    help: "A core: its number, its name, or last; its group is shown, with the cores that are in it",
+    help: "A core: its number, its name, last or latest; its group is shown, with the cores that are in it",
 };

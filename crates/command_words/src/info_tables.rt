@@ -28,7 +28,7 @@ const WANTS_CASE: Word = Word {
     shown: "CASE",
     takes: Takes::NewPlace,
     default: None,
-    help: "A core: its number, its name, or last; without it, all cores",
+    help: "A core: its number, its name, last or latest; without it, all cores",
 };
 
 // Whether the IDs alone are printed.
@@ -46,7 +46,7 @@ const INFO_CASE: Word = Word {
     shown: "CASE",
     takes: Takes::NewPlace,
     default: None,
-    help: "A case: its number, its name, or last; without it, the archive is shown",
+    help: "A case: its number, its name, last or latest; without it, the archive is shown",
 };
 
 // Whether all threads are shown.

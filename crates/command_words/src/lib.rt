@@ -18,6 +18,8 @@ mod notes;
 mod prune_tables;
 mod raw_words;
 mod reasons;
+mod report_tables;
+mod search_tables;
 mod tables;
 mod text_digits;
 mod troubles;

@@ -6,7 +6,20 @@ pub(crate) static LIST: CommandWords = CommandWords {
     about: "List the cases of an archive",
     after_help: None,
     words: &[
-        ARCHIVE, NO_WAIT, JSON, KIND, NAME_PART, PID, SIGNAL, SINCE, UNTIL, LABEL_PART, PINNED,
+        ARCHIVE,
+        NO_WAIT,
+        JSON,
+        SORT,
+        KIND,
+        NAME_PART,
+        USER,
+        PROGRAM_PART,
+        PID,
+        SIGNAL,
+        SINCE,
+        UNTIL,
+        LABEL_PART,
+        PINNED,
         LAST,
     ],
 };
@@ -20,8 +33,17 @@ pub(crate) const JSON: Word = Word {
     help: "Print JSON, for programs",
 };
 
+// In which order cases are shown.
+pub(crate) const SORT: Word = Word {
+    id: "sort",
+    shown: "BY",
+    takes: Takes::Text,
+    default: None,
+    help: "Show them by time, size or name, and not by number",
+};
+
 // Of which kind a case is.
-const KIND: Word = Word {
+pub(crate) const KIND: Word = Word {
     id: "kind",
     shown: "KIND",
     takes: Takes::Text,
@@ -36,6 +58,24 @@ pub(crate) const NAME_PART: Word = Word {
     takes: Takes::Text,
     default: None,
     help: "Only cases with this text in the name",
+};
+
+// The user in its name.
+pub(crate) const USER: Word = Word {
+    id: "user",
+    shown: "UID",
+    takes: Takes::Bytes,
+    default: None,
+    help: "Only cores of this user: by their names, as core.UID.HOST.PROGRAM.PID.TIME has it",
+};
+
+// A part of the program in its name.
+pub(crate) const PROGRAM_PART: Word = Word {
+    id: "program",
+    shown: "TEXT",
+    takes: Takes::Text,
+    default: None,
+    help: "Only cores with this text in the program of such a name",
 };
 
 // Its process.

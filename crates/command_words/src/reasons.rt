@@ -7,7 +7,7 @@ pub(crate) struct Meaning {
 }
 
 // The reasons for which something is refused. Other reasons are fields of an image.
-static MEANINGS: [Meaning; 43] = [
+static MEANINGS: [Meaning; 44] = [
     Meaning {
         reason: b"SpaceFull",
         words: b"the image takes more blocks than are free (corekeep ask ARCHIVE free counts them): delete or retire cases (pinned ones once they are unpinned); if it takes more than the archive has, make that larger (corekeep resize)",
@@ -135,6 +135,10 @@ static MEANINGS: [Meaning; 43] = [
     Meaning {
         reason: b"Range",
         words: b"the range goes past the end of the address space, or is over 65,536 bytes",
+    },
+    Meaning {
+        reason: b"Unmapped",
+        words: b"no range of the core's memory has this address: maps N lists them",
     },
     Meaning {
         reason: b"Truncated",

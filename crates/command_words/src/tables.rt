@@ -172,7 +172,7 @@ pub(crate) const BUILDS: Word = Word {
     shown: "",
     takes: Takes::Flag,
     default: None,
-    help: "For `dump`, `find`, `strings` and `bt`: use the executables of the builds that the core tells, as `unwind` does, not those under its paths alone. `bt` and `symbol` name functions by debug files too",
+    help: "For `dump`, `at`, `find`, `strings` and `bt`: use the executables of the builds that the core tells, as `unwind` does, not those under its paths alone. `at`, `bt` and `symbol` name functions by debug files too",
 };
 
 // How cores are named.
@@ -361,7 +361,7 @@ const CASE: Word = Word {
     shown: "N",
     takes: Takes::Place,
     default: None,
-    help: "The case: its number, its name, or last",
+    help: "The case: its number, its name, last or latest",
 };
 
 // A new file for an image.

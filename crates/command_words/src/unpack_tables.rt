@@ -22,7 +22,7 @@ const UNPACKED_CASE: Word = Word {
     shown: "CASE",
     takes: Takes::Place,
     default: None,
-    help: "A case: its number, its name, or last",
+    help: "A case: its number, its name, last or latest",
 };
 
 // The directory that is made.

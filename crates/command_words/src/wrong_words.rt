@@ -11,7 +11,7 @@ struct Part {
 static PARTS: [Part; 6] = [
     Part {
         name: "N",
-        words: b"the case: its number, its whole name, or last",
+        words: b"the case: its number, its whole name, last or latest",
     },
     Part {
         name: "T",

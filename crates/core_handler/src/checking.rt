@@ -14,10 +14,12 @@ use disk_model::Disk;
 use handler_config::{Burst, Config};
 use intake::{Archive, Settings};
 use journal_layout::Shape;
+use memchr::memmem;
 use name_template::Template;
 use script_streams::{Output, Reply};
 use spool::{FolderFault, begin_part, folder_fault};
 use std::alloc::Global;
+use std::fs;
 use std::fs::File;
 use std::rt::Files;
 use std::time::Clock;
@@ -25,6 +27,9 @@ use whole_files::{PartFile, remove};
 
 // The bytes of a block.
 const BLOCK: u128 = 4096;
+
+// The file that says which program the kernel starts for a core, and with which words (core(5)).
+const PATTERN: &str = "/proc/sys/kernel/core_pattern";
 
 // Prints the fault of the file as a whole, the values that hold, a line for each key, and then each fault. The last lines say whether the
 // archive has room for all that the configuration keeps. Anything that is not in order is a refusal.
@@ -46,6 +51,7 @@ pub(crate) fn check<R: AllocGlobal + Files<File = File> + Clock, O: Output>(
     tell_path(rt, &mut reply, b"log ", config.log);
     tell_path(rt, &mut reply, b"spool ", config.spool);
     tell_fair(&mut reply, &config);
+    tell_pattern(rt, &mut reply, &config);
     let are_known = tell_faults(rt, &mut reply, words, document);
     let are_taken = tell_values(rt, &mut reply, &config, log);
     let is_large = tell_size(rt, &mut reply, &config, words.archive);
@@ -199,6 +205,30 @@ fn tell_fair<O: Output>(reply: &mut Reply<'_, O>, config: &Config<'_>) {
         reply.tell(
             b"note fair: the template does not begin with core.%u., so all cores are of one user\n",
         );
+    }
+}
+
+// Prints a note for each word that the names of cores need and the kernel's pattern does not give. A pattern that starts another program says
+// nothing of this one.
+fn tell_pattern<R: AllocGlobal + Files<File = File>, O: Output>(
+    rt: &R,
+    reply: &mut Reply<'_, O>,
+    config: &Config<'_>,
+) {
+    let Ok(pattern) = fs::read(rt, PATTERN) else {
+        return;
+    };
+    if !pattern.starts_with(b"|") || memmem::find(&pattern, b" handle ").is_none() {
+        return;
+    }
+    let template = config.template.unwrap_or(HANDLER_TEMPLATE);
+    if template.contains("%u") && memmem::find(&pattern, b" uid=").is_none() {
+        reply.tell(
+            b"note core_pattern: it has no uid=%u, so each core is named as if user 0 had made it\n",
+        );
+    }
+    if template.contains("%h") && memmem::find(&pattern, b" host=").is_none() {
+        reply.tell(b"note core_pattern: it has no host=%h, so the names of cores have no host\n");
     }
 }
 

@@ -1,4 +1,3 @@
 pub mod LabelLemmas
 pub mod RowLemmas
 pub mod TableLemmas
-pub mod WantedLemmas

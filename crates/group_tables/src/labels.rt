@@ -10,8 +10,12 @@ use crate::rows::GroupMember;
 use script_streams::{Output, Reply};
 use std::alloc::{AllocError, Global};
 
-// The labels of these cores, each once.
-pub(crate) fn labels_of<'a>(
+/// The labels of these cores, each once.
+///
+/// # Errors
+///
+/// There is no memory.
+pub fn labels_of<'a>(
     alloc: Global,
     members: &[GroupMember<'a>],
 ) -> Result<Vec<&'a [u8]>, AllocError>

@@ -16,7 +16,9 @@ mod words;
 
 pub use identity::group_name;
 pub use json::{group_json, groups_json};
+pub use labels::labels_of;
 pub use numbers::{CrashPlace, CrashedCore, numbered};
 pub use rows::{Crash, GroupMember, GroupRow, rows_of};
+pub use summary::{certain_count, last_time, newest, perhaps_count};
 pub use table::{tell_group, tell_groups};
 pub use wanted::wanted_cores;

@@ -8,8 +8,8 @@ use crate::rows::GroupMember;
 // The first second of the year 2000.
 const FIRST_TIME: u64 = 946_684_800;
 
-// How many cores are certain.
-pub(crate) fn certain_count(members: &[GroupMember<'_>]) -> usize
+/// How many cores are certain.
+pub fn certain_count(members: &[GroupMember<'_>]) -> usize
     ensures { result ≡ spec.certain_count (map member_said members.now) }
 {
     let mut count = 0;
@@ -21,8 +21,8 @@ pub(crate) fn certain_count(members: &[GroupMember<'_>]) -> usize
     count
 }
 
-// How many cores are perhaps of the group.
-pub(crate) fn perhaps_count(members: &[GroupMember<'_>]) -> usize
+/// How many cores are perhaps of the group.
+pub fn perhaps_count(members: &[GroupMember<'_>]) -> usize
     ensures { result ≡ spec.perhaps_count (map member_said members.now) }
 {
     let mut count = 0;
@@ -34,8 +34,8 @@ pub(crate) fn perhaps_count(members: &[GroupMember<'_>]) -> usize
     count
 }
 
-// The greatest number of those that are certain.
-pub(crate) fn newest(members: &[GroupMember<'_>]) -> u32
+/// The greatest number of those that are certain.
+pub fn newest(members: &[GroupMember<'_>]) -> u32
     ensures { result ≡ spec.newest (map member_said members.now) }
 {
     let mut newest = 0;
@@ -47,8 +47,8 @@ pub(crate) fn newest(members: &[GroupMember<'_>]) -> u32
     newest
 }
 
-// The last of the times that may be right; 0, if there is none.
-pub(crate) fn last_time(latest: u64, members: &[GroupMember<'_>]) -> u64
+/// The last of the times that may be right; 0, if there is none.
+pub fn last_time(latest: u64, members: &[GroupMember<'_>]) -> u64
     ensures { result ≡ spec.last_time latest (map member_said members.now) }
 {
     let mut last = 0;

@@ -1,15 +1,12 @@
 //! Which cores are grouped.
 ghost use Rattle.std.specs.Prelude.{◌≡◌, ◌++◌, ◌∷◌, [], IfOk, OnOk, map};
 ghost use Rattle.journal_layout.specs.Case.{case_of};
-ghost use Rattle.case_tables.specs.Wanted.{is_wanted, skipped};
+ghost use Rattle.case_tables.specs.Wanted.{skipped};
 ghost use Rattle.group_tables.specs.Chosen as spec;
 
-use crate::kept::KeptText;
-use case_tables::{Wanted, tell_list};
+use case_tables::Wanted;
 use journal_layout::{Entry, Kind};
-use script_streams::Reply;
 use std::alloc::{AllocError, Global};
-use std::slice;
 
 /// The numbers of the cores that are wanted, in their order: those that a list with these words shows, of them the last so many.
 ///
@@ -44,44 +41,27 @@ fn all_wanted(alloc: Global, cases: &[Entry], wanted: &Wanted<'_>) -> Result<Vec
 {
     let mut numbers = Vec::new(alloc);
     for case in cases {
-        add_wanted(alloc, &mut numbers, case, wanted)?;
+        add_wanted(&mut numbers, case, wanted)?;
     }
     Ok(numbers)
 }
 
 // Adds the number of a case, if it is a core that is wanted.
-fn add_wanted(
-    alloc: Global,
-    numbers: &mut Vec<u32>,
-    case: &Entry,
-    wanted: &Wanted<'_>,
-) -> Result<(), AllocError>
+fn add_wanted(numbers: &mut Vec<u32>, case: &Entry, wanted: &Wanted<'_>) -> Result<(), AllocError>
     ensures { OnOk result (numbers.new.items ≡ numbers.old.items ++ spec.all_wanted wanted.now (case_of case.now ∷ [])) }
 {
-    if !is_wanted_core(alloc, case, wanted)? {
+    if !is_wanted_core(case, wanted) {
         return Ok(());
     }
     numbers.push(case.seq)?;
     Ok(())
 }
 
-fn is_wanted_core(alloc: Global, case: &Entry, wanted: &Wanted<'_>) -> Result<bool, AllocError>
-    ensures { IfOk result (λ yes. yes ≡ spec.is_wanted_core wanted.now (case_of case.now)) }
+fn is_wanted_core(case: &Entry, wanted: &Wanted<'_>) -> bool
+    ensures { result ≡ spec.is_wanted_core wanted.now (case_of case.now) }
 {
     match case.kind {
-        Kind::Core => is_listed(alloc, case, wanted),
-        Kind::Exec => Ok(false),
+        Kind::Core => wanted.takes(case),
+        Kind::Exec => false,
     }
-}
-
-// Whether a list shows a case.
-#[tactic(auto, using(crate::proofs::WantedLemmas::listed_one))]
-fn is_listed(alloc: Global, case: &Entry, wanted: &Wanted<'_>) -> Result<bool, AllocError>
-    ensures { IfOk result (λ yes. yes ≡ is_wanted wanted.now (case_of case.now)) }
-{
-    let mut each = *wanted;
-    each.last = None;
-    let mut text = KeptText::new(alloc);
-    let mut reply = Reply::new(&mut text);
-    tell_list(alloc, &mut reply, slice::from_ref(case), &each)
 }

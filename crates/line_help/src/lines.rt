@@ -2,7 +2,7 @@
 use crate::line::LineHelp;
 
 /// The help of each line.
-pub static LINES: [LineHelp; 31] = [
+pub static LINES: [LineHelp; 32] = [
     LineHelp {
         name: "list",
         usage: "list",
@@ -146,6 +146,14 @@ pub static LINES: [LineHelp; 31] = [
         reply: "ADDR HEX for each 16 bytes, or why there are none",
         example: "dump 3 0x11000 32",
         reasons: "Stopped, NoCase, NotCore, OutOfMemory, Disk, a field of the headers, notes or typed notes, Range",
+    },
+    LineHelp {
+        name: "at",
+        usage: "at N ADDR",
+        does: "the mapping, the place in the mapped file and the function of ADDR, and whose stack the mapping is",
+        reply: "at ADDR START PAST RWX SOURCE, file OFFSET NAME, function WHERE, then stack T for each thread whose sp is in the mapping",
+        example: "at 3 0x11000",
+        reasons: "Stopped, NoCase, NotCore, OutOfMemory, Disk, a field of the headers, notes or typed notes, Unmapped",
     },
     LineHelp {
         name: "find",

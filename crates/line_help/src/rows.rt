@@ -64,7 +64,7 @@ static IMAGE_ROWS: [LineRows; 9] = [
 ];
 
 /// The same of the lines that ask memory, frames and symbols.
-static MEMORY_ROWS: [LineRows; 10] = [
+static MEMORY_ROWS: [LineRows; 11] = [
     LineRows {
         name: "dump",
         rows: &[
@@ -73,6 +73,15 @@ static MEMORY_ROWS: [LineRows; 10] = [
             "<addr> cut <cut>",
             "<addr> unmapped <unmapped>",
             "<addr> <bytes:digits>",
+        ],
+    },
+    LineRows {
+        name: "at",
+        rows: &[
+            "at <addr> <start> <past> <flags> <source>",
+            "file <offset> <name:text>",
+            "function <where:place>",
+            "stack <thread>",
         ],
     },
     LineRows {

@@ -10,7 +10,7 @@ use Rattle.std.specs.List.{list_all, AllByRecursion}
 use Rattle.script_words.specs.Hex.{hex_of, bytes_of_hex, needle_of}
 use Rattle.script_words.specs.Number.{number_of, kept_within, number_within}
 use Rattle.script_words.specs.Words.{with_first, pieces_of, is_word, words_of, is_plain_line, is_blank_or_comment_line}
-use Rattle.script_lines.specs.Queries.{QuerySaid, ask_header, ask_notes, ask_threads, ask_registers, ask_process, ask_signal, ask_auxiliary_vector, ask_files, ask_maps, ask_dump, ask_find, ask_strings, ask_backtrace, ask_unwind, ask_frame, ask_builds, ask_symbol, ask_by_build, ask_symbol_by_build, asks_of, asks_both, IsSayable}
+use Rattle.script_lines.specs.Queries.{QuerySaid, ask_header, ask_notes, ask_threads, ask_registers, ask_process, ask_signal, ask_auxiliary_vector, ask_files, ask_maps, ask_dump, ask_at, ask_find, ask_strings, ask_backtrace, ask_unwind, ask_frame, ask_builds, ask_symbol, ask_by_build, ask_symbol_by_build, asks_of, asks_both, IsSayable}
 use Rattle.script_lines.specs.declared.query.BuildQuery.TheVariants.{Compared, Used, Wanted}
 use Rattle.script_lines.specs.Said.{known_or_bad, inspects, words_said, said, inspect_of}
 
@@ -220,6 +220,8 @@ module _ (reads : ReadsDecimal) (reads_hex : ReadsHex) (seq : ℕ) (some : 1 ≤
   query_line ask_maps fits = alone_line (codes "maps") ask_maps (record { some = omega arith; few = omega arith; marks = refl; seen = λ ws. refl }) (λ word. refl)
   query_line (ask_dump first many) fits =
       ranged_line (codes "dump") ask_dump first many fits.0 fits.1 (record { some = omega arith; few = omega arith; marks = refl; seen = λ ws. refl }) (λ word first second. refl)
+  query_line (ask_at address) fits =
+      numbered_line (codes "at") ask_at address fits (record { some = omega arith; few = omega arith; marks = refl; seen = λ ws. refl }) (λ word number. refl)
   query_line (ask_find needle) fits =
       worded_line (codes "find") needle_of ask_find needle (hex_of needle) (short_hex needle fits.0 fits.1 fits.2) (reads_needle reads_hex needle fits.0 fits.1 fits.2)
       (record { some = omega arith; few = omega arith; marks = refl; seen = λ ws. refl }) (λ word more. refl)

@@ -11,7 +11,7 @@ use Rattle.script_lines.specs.declared.query.ImageQuery.TheVariants.{Header, Not
 use Rattle.script_lines.specs.declared.query.BuildQuery.{BuildQuery}
 use Rattle.script_lines.specs.declared.query.BuildQuery.TheVariants.{Compared, Used, Wanted}
 use Rattle.script_lines.specs.declared.query.MemoryQuery.{MemoryQuery}
-use Rattle.script_lines.specs.declared.query.MemoryQuery.TheVariants.{Dump, Find, Strings, Backtrace, Unwind, Frame, Builds}
+use Rattle.script_lines.specs.declared.query.MemoryQuery.TheVariants.{Dump, At, Find, Strings, Backtrace, Unwind, Frame, Builds}
 
 -- what a line asks an image
 pub data QuerySaid : Type 0 where
@@ -35,6 +35,8 @@ pub data QuerySaid : Type 0 where
   ask_maps : QuerySaid
   -- the bytes of its memory from an address on, and how many of them
   ask_dump : ℕ → ℕ → QuerySaid
+  -- what is at this address of its memory
+  ask_at : ℕ → QuerySaid
   -- where these bytes occur in its memory
   ask_find : List ℕ → QuerySaid
   -- the texts in its memory of at least this length in bytes
@@ -108,6 +110,7 @@ abbrev pub memory_rows : List (List ℕ × (List (List ℕ) → Option QuerySaid
 memory_rows =
     (codes "maps", alone ask_maps)
     ∷ (codes "dump", ranged ask_dump)
+    ∷ (codes "at", numbered ask_at)
     ∷ (codes "find", searched ask_find)
     ∷ (codes "strings", bounded ask_strings)
     ∷ (codes "bt", numbered ask_backtrace)
@@ -151,6 +154,7 @@ image_query Maps = ask_maps
 
 abbrev pub memory_query : MemoryQuery → QuerySaid
 memory_query (Dump first length) = ask_dump first length
+memory_query (At address) = ask_at address
 memory_query (Find needle) = ask_find needle.bytes.items
 memory_query (Strings least) = ask_strings least
 memory_query (Backtrace thread) = ask_backtrace thread
@@ -169,6 +173,7 @@ query_of (SymbolByBuild address) = ask_symbol_by_build address
 -- is looked up in the debug file too
 abbrev pub by_build : QuerySaid → QuerySaid
 by_build (ask_dump first length) = ask_by_build (ask_dump first length)
+by_build (ask_at address) = ask_by_build (ask_at address)
 by_build (ask_find needle) = ask_by_build (ask_find needle)
 by_build (ask_strings least) = ask_by_build (ask_strings least)
 by_build (ask_backtrace thread) = ask_by_build (ask_backtrace thread)
@@ -179,6 +184,7 @@ by_build query = query
 abbrev pub IsSayable : QuerySaid → Type 0
 IsSayable (ask_registers thread) = thread < 2 ^ 64
 IsSayable (ask_dump first length) = (first < 2 ^ 64) × (length < 2 ^ 64)
+IsSayable (ask_at address) = address < 2 ^ 64
 IsSayable (ask_find needle) = (0 < length needle) × (length needle ≤ 64) × All (λ c. c < 256) needle
 IsSayable (ask_strings least) = (1 ≤ least) × (least ≤ 1024)
 IsSayable (ask_backtrace thread) = thread < 2 ^ 64

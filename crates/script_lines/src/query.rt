@@ -30,8 +30,8 @@ pub enum Query {
 }
 
 impl Query {
-    /// The same query where executables are chosen by build: `dump`, `find`, `strings` and `bt` attach those of the builds that were
-    /// mapped, and `bt` and `symbol` name functions by their debug files too. Any other query chooses so already, or reads no executable.
+    /// The same query where executables are chosen by build: `dump`, `at`, `find`, `strings` and `bt` attach those of the builds that
+    /// were mapped, and `at`, `bt` and `symbol` name functions by their debug files too. Any other query chooses so already, or reads no executable.
     pub(crate) fn by_build(self) -> Query
         ensures { query_of result ≡ by_build (query_of self) }
     {
@@ -90,6 +90,11 @@ pub enum MemoryQuery {
         first: u64,
         /// How many bytes.
         length: u64,
+    },
+    /// What is at an address of it.
+    At {
+        /// The address.
+        address: u64,
     },
     /// Where bytes occur in it.
     Find {
@@ -168,6 +173,10 @@ fn parse_memory_query(command: &[u8], words: Words<'_>) -> Option<Query>
         alone(words, Query::Image(ImageQuery::Maps))
     } else if command == b"dump".as_slice() {
         parse_dump(words)
+    } else if command == b"at".as_slice() {
+        Some(Query::Memory(MemoryQuery::At {
+            address: parse_number_alone(words)?,
+        }))
     } else if command == b"find".as_slice() {
         Some(Query::Memory(MemoryQuery::Find {
             needle: parse_needle_alone(words)?,

@@ -71,9 +71,9 @@ impl Call {
 }
 
 impl Question {
-    /// The same question where executables are chosen by build, if they are: then `dump`, `find`, `strings` and `bt` attach those of the
-    /// builds that were mapped, not those that are stored under the paths, and `bt` and `symbol` name functions by their debug files
-    /// too. Any other question stays.
+    /// The same question where executables are chosen by build, if they are: then `dump`, `at`, `find`, `strings` and `bt` attach those of
+    /// the builds that were mapped, not those that are stored under the paths, and `at`, `bt` and `symbol` name functions by their debug
+    /// files too. Any other question stays.
     pub fn choosing(self, by_build: bool) -> Question
         ensures { question_said result ≡ said_choosing by_build (question_said self) }
     {

@@ -1,13 +1,16 @@
-use Rattle.std.proofs.Common.{map, ap, ◌∙◌, Some}
+use Rattle.std.proofs.Common.{◌≡◌, ◌==◌, length, map, not, ap, ◌∙◌, arith}
+use Rattle.std.proofs.lemmas.List.{length-map}
+use Rattle.std.specs.Vec.{vec_len}
 use Rattle.journal_layout.specs.Case.{case_of}
-use Rattle.case_tables.specs.Json.{cases_json}
-use Rattle.case_tables.specs.Wanted.{last_of}
-use Rattle.case_tables.proofs.TableLemmas.{last_made}
+use Rattle.case_tables.specs.Wanted.{chosen}
+use Rattle.case_tables.proofs.OrderLemmas.{shown_length}
 use Rattle.case_tables.proofs.list.list_json.Goals as goal
 
-pub returns-clause-is_json : goal.returns-clause-is_json
-returns-clause-is_json c =
-    let last = c.args.wanted.now.last in
-    let shown = c.last_of-shown.ensures ∙ ap (last_of last) c.deref.ensures.value in
-    let cases = ap (map (λ e. case_of e.now)) shown ∙ last_made (λ e. case_of e.now) last c.in_ok-found.found.items ∙ ap (last_of last) c.in_ok-found.ensures in
-    c.in_ok-text.ensures ∙ ap (λ cs. Some (cases_json cs)) cases
+pub returns-clause-some : goal.returns-clause-some
+returns-clause-some c =
+    let shown = c.in_ok-shown.shown in
+    let cases = chosen c.args.wanted.now (map case_of c.args.cases.now) in
+    let long = shown_length c.args.wanted.now.order cases (map (λ e. case_of e.now) shown.items) c.in_ok-shown.ensures in
+    let each = length-map shown.items (λ e. case_of e.now) in
+    let count : vec_len shown ≡ length cases = omega (arith, shown.ok, long, each) in
+    ap not (c.is_empty.ensures ∙ ap (λ n. n == 0) count)

@@ -1,4 +1,3 @@
-use Rattle.std.proofs.Common.{ℕ, List, refl, ◌∙◌}
 use Rattle.case_tables.proofs.SignalLemmas.{no_more_named, none_named}
 use Rattle.case_tables.proofs.signals.signal_named.Goals as goal
 

@@ -1,0 +1,4 @@
+pub mod TellLemmas
+pub mod CountLemmas
+pub mod FrontLemmas
+pub mod AtLemmas

@@ -1,0 +1,95 @@
+// What is shown of an archive.
+use crate::groups::put_groups;
+use crate::texts::{open, put, put_decimal, put_time};
+use case_screens::{Tally, tally_of};
+use group_tables::GroupRow;
+use html_pages::{Page, Tag};
+use journal_layout::Entry;
+use std::alloc::{AllocError, Global};
+use std::collections::BTreeSet;
+
+/// What is known of an archive.
+#[derive(Clone, Copy)]
+pub struct PagedArchive<'p, 'a> {
+    /// Its cases.
+    pub cases: &'p [Entry],
+    /// The groups of its cores.
+    pub rows: &'p [GroupRow<'a>],
+    /// The latest time that counts, in seconds since the epoch.
+    pub latest: u64,
+}
+
+/// Puts what is known of an archive: how much there is of what, and a row for each of its first groups. The numbers are those of the cases
+/// that come on the page.
+///
+/// # Errors
+///
+/// There is no memory.
+pub fn put_archive(
+    alloc: Global,
+    page: &mut Page,
+    archive: &PagedArchive<'_, '_>,
+    numbers: &[u32],
+) -> Result<(), AllocError> {
+    let tally = tally_of(archive.cases);
+    put_range(page, &tally);
+    let programs = program_count(alloc, archive.rows)?;
+    let hosts = host_count(alloc, archive.rows)?;
+    open(page, Tag::Ul, "tiles");
+    put_tile(page, tally.cores, b"cores");
+    put_tile(page, archive.rows.len() as u64, b"crashes");
+    put_tile(page, programs as u64, b"programs");
+    put_tile(page, hosts as u64, b"hosts");
+    put_tile(page, tally.executables, b"stored executables");
+    page.close();
+    page.close();
+    put_groups(alloc, page, archive.rows, archive.latest, numbers)
+}
+
+fn put_range(page: &mut Page, tally: &Tally) {
+    open(page, Tag::P, "dim");
+    put_time(page, tally.oldest);
+    page.text(b" to ");
+    put_time(page, tally.newest);
+    page.close();
+}
+
+fn put_tile(page: &mut Page, count: u64, text: &[u8]) {
+    page.open(Tag::Li, &[]);
+    page.open(Tag::B, &[]);
+    put_decimal(page, count);
+    page.close();
+    put(page, Tag::Span, text);
+    page.close();
+}
+
+// How many programs crashed.
+fn program_count(alloc: Global, rows: &[GroupRow<'_>]) -> Result<usize, AllocError> {
+    let mut programs = BTreeSet::new(alloc);
+    for row in rows {
+        programs.insert(row.crash.program.as_slice())?;
+    }
+    Ok(programs.len())
+}
+
+// How many labels the cores have.
+fn host_count(alloc: Global, rows: &[GroupRow<'_>]) -> Result<usize, AllocError> {
+    let mut hosts = BTreeSet::new(alloc);
+    for row in rows {
+        add_hosts(&mut hosts, row)?;
+    }
+    Ok(hosts.len())
+}
+
+fn add_hosts<'r, 'a>(
+    hosts: &mut BTreeSet<&'r [u8]>,
+    row: &'r GroupRow<'a>,
+) -> Result<(), AllocError> {
+    for member in &row.members {
+        let label = member.case.label.as_slice();
+        if !label.is_empty() {
+            hosts.insert(label)?;
+        }
+    }
+    Ok(())
+}

@@ -1,0 +1,91 @@
+// The small texts of a page.
+use case_tables::{tell_signal, tell_size, tell_time};
+use html_pages::{Attribute, AttributeName, Page, Tag, Value};
+use memchr::memrchr;
+use script_streams::Reply;
+use script_words::{print_decimal, print_hexadecimal, print_signed};
+
+// How many bytes of a text are shown at most.
+const TEXT_BYTES: usize = 256;
+
+// The attribute that gives an element its look.
+pub(crate) fn class(name: &'static str) -> Attribute {
+    Attribute {
+        name: AttributeName::Class,
+        value: Value::Constant(name),
+    }
+}
+
+// Opens an element of this look.
+pub(crate) fn open(page: &mut Page, element: Tag, look: &'static str) {
+    page.open(element, &[class(look)]);
+}
+
+// Puts an element with a text.
+pub(crate) fn put(page: &mut Page, element: Tag, text: &[u8]) {
+    page.open(element, &[]);
+    page.text(text);
+    page.close();
+}
+
+// Puts an element of this look with a text.
+pub(crate) fn put_looking(page: &mut Page, element: Tag, look: &'static str, text: &[u8]) {
+    open(page, element, look);
+    page.text(text);
+    page.close();
+}
+
+// Puts a text that comes from elsewhere: its first bytes, and how many more it has; `-`, if it is empty.
+pub(crate) fn put_text(page: &mut Page, text: &[u8]) {
+    let (shown, rest) = text.split_at(text.len().min(TEXT_BYTES));
+    page.text(if shown.is_empty() { b"-" } else { shown });
+    if !rest.is_empty() {
+        page.text(b".. ");
+        put_more(page, rest.len());
+    }
+}
+
+// Puts how many more there are.
+pub(crate) fn put_more(page: &mut Page, count: usize) {
+    page.text(b"and ");
+    put_decimal(page, count as u64);
+    page.text(b" more");
+}
+
+pub(crate) fn put_decimal(page: &mut Page, number: u64) {
+    page.text(print_decimal(u128::from(number)).as_slice());
+}
+
+pub(crate) fn put_signed(page: &mut Page, number: i64) {
+    page.text(print_signed(number).as_slice());
+}
+
+pub(crate) fn put_hexadecimal(page: &mut Page, number: u64) {
+    page.text(print_hexadecimal(u128::from(number)).as_slice());
+}
+
+pub(crate) fn put_time(page: &mut Page, time: u64) {
+    let mut reply = Reply::new(page);
+    tell_time(&mut reply, time);
+    let _ = reply.finish();
+}
+
+pub(crate) fn put_size(page: &mut Page, size: u64) {
+    let mut reply = Reply::new(page);
+    tell_size(&mut reply, size);
+    let _ = reply.finish();
+}
+
+pub(crate) fn put_signal(page: &mut Page, signal: u32) {
+    let mut reply = Reply::new(page);
+    tell_signal(&mut reply, signal);
+    let _ = reply.finish();
+}
+
+// What is behind the last slash of a path.
+pub(crate) fn base_of(path: &[u8]) -> &[u8] {
+    match memrchr(b'/', path) {
+        Some(at) => path.split_at(at).1.split_at(1).1,
+        None => path,
+    }
+}

@@ -1,0 +1,2 @@
+pub mod Containing
+pub mod Having

@@ -1,0 +1,4 @@
+pub mod ReadingLemmas
+pub mod EscapeLemmas
+pub mod PieceLemmas
+pub mod PageLemmas

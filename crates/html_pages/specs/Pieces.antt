@@ -1,0 +1,39 @@
+-- The pieces of a page.
+use Rattle.std.specs.Prelude.{ℕ, List, ◌++◌, codes, decimal}
+use Rattle.std.specs.List.{flat_map}
+use Rattle.html_pages.specs.Escaping.{escape}
+use Rattle.html_pages.specs.Names.{attribute_name, tag_name}
+use Rattle.html_pages.specs.declared.attributes.Attribute.{Attribute}
+use Rattle.html_pages.specs.declared.attributes.Value.{Value}
+use Rattle.html_pages.specs.declared.attributes.Value.TheVariants.{Box, Case, Constant, LinkToCase, Number}
+use Rattle.html_pages.specs.declared.tags.Tag.{Tag}
+
+abbrev pub digits : ℕ → List ℕ
+digits n = decimal n
+
+-- a box from 0 0 on
+abbrev pub box_bytes : ℕ → ℕ → List ℕ
+box_bytes width height = codes "0 0 " ++ (digits width ++ (codes " " ++ digits height))
+
+-- what the value of an attribute is
+abbrev pub value_bytes : Value → List ℕ
+value_bytes (Constant text) = text.now
+value_bytes (Number n) = digits n
+value_bytes (Case n) = codes "case-" ++ digits n
+value_bytes (LinkToCase n) = codes "#case-" ++ digits n
+value_bytes (Box width height) = box_bytes width height
+
+-- an attribute behind the name of its tag, or behind another
+abbrev pub attribute_text : Attribute → List ℕ
+attribute_text a = codes " " ++ (attribute_name a.name ++ (codes "=\"" ++ (escape (value_bytes a.value) ++ codes "\"")))
+
+abbrev pub attributes_text : List Attribute → List ℕ
+attributes_text attributes = flat_map attribute_text attributes
+
+-- the start tag of an element
+abbrev pub start_text : Tag → List Attribute → List ℕ
+start_text tag attributes = codes "<" ++ (tag_name tag ++ (attributes_text attributes ++ codes ">"))
+
+-- the end tag of an element
+abbrev pub end_text : Tag → List ℕ
+end_text tag = codes "</" ++ (tag_name tag ++ codes ">")
