@@ -2,7 +2,7 @@
 _corekeep() {
     local word=${COMP_WORDS[COMP_CWORD]}
     local before=${COMP_WORDS[COMP_CWORD-1]}
-    local commands="format run store handle list info groups report search ask wants prune look extract unpack check copy resize salvage memory"
+    local commands="format run store handle list info groups report search ask wants prune look extract digest unpack check copy resize salvage memory"
     local lines="list free delete pin unpin label retire upgrade header notes threads regs process signal auxv files maps dump at find strings bt unwind frame builds symbol"
     local session="--template --uses-pid --limit"
     COMPREPLY=()
@@ -37,18 +37,18 @@ _corekeep() {
     case ${COMP_WORDS[1]} in
     format) options="--half --data --sparse --layout --quiet --help" ;;
     run) options="--builds --no-wait $session --help" ;;
-    store) options="--exec --pin --label --escape --keep --bytes --before --fit --fair --cut --length --stall --spool --build --id --debug --log --no-wait --quiet $session --help" ;;
+    store) options="--exec --name --pin --label --escape --keep --bytes --before --fit --fair --cut --length --stall --spool --build --id --debug --log --no-wait --quiet $session --help" ;;
     handle) options="--check --flush --archive --length --stall --help" ;;
-    list) options="--json --sort --kind --name --user --program --pid --signal --since --until --label --pinned --last --no-wait --help" ;;
-    info) options="--threads --json --no-wait --help" ;;
-    search) options="--text --json --sort --kind --name --user --program --pid --signal --since --until --label --pinned --last --no-wait --help" ;;
-    groups) options="--json --name --user --program --pid --signal --since --until --label --pinned --last --no-wait --help" ;;
+    list) options="--json --json-lines --sort --kind --name --user --program --pid --signal --since --until --label --pinned --last --no-wait --help" ;;
+    info) options="--threads --json --metrics --no-wait --help" ;;
+    search) options="--text --json --json-lines --sort --kind --name --user --program --pid --signal --since --until --label --pinned --last --no-wait --help" ;;
+    groups) options="--json --json-lines --name --user --program --pid --signal --since --until --label --pinned --last --no-wait --help" ;;
     report) options="--no-wait --help" ;;
-    ask) options="--text --plain --json --builds --no-wait --help" ;;
+    ask) options="--text --plain --words --json --builds --no-wait --help" ;;
     wants) options="--ids --json --no-wait --help" ;;
     prune) options="--cores --bytes --before --yes --no-wait --help" ;;
     look) options="--builds --no-wait --help" ;;
-    extract | unpack) options="--no-wait --quiet --help" ;;
+    extract | digest | unpack) options="--no-wait --quiet --help" ;;
     salvage) options="--half --data --no-wait --quiet --help" ;;
     check) options="--images --no-wait --help" ;;
     copy) options="--half --data --layout --sparse --no-wait --quiet --help" ;;
@@ -66,7 +66,7 @@ _corekeep() {
         return
     fi
     # A case: its number, `last` or `latest`.
-    if { [ "${COMP_WORDS[1]}" = ask ] && [ "$COMP_CWORD" -eq 4 ]; } || { [[ ${COMP_WORDS[1]} = @(extract|unpack|info|groups|report|wants) ]] && [ "$COMP_CWORD" -eq 3 ]; }; then
+    if { [ "${COMP_WORDS[1]}" = ask ] && [ "$COMP_CWORD" -eq 4 ]; } || { [[ ${COMP_WORDS[1]} = @(extract|unpack|info|groups|wants) ]] && [ "$COMP_CWORD" -eq 3 ]; } || { [[ ${COMP_WORDS[1]} = @(digest|report) ]] && [ "$COMP_CWORD" -ge 3 ]; }; then
         COMPREPLY=($(compgen -W "last latest $(corekeep ask "${COMP_WORDS[2]}" list --no-wait 2>/dev/null | sed -n 's/^\([0-9][0-9]*\) .*/\1/p')" -- "$word"))
         return
     fi

@@ -31,7 +31,7 @@ use std::alloc::{AllocError, Global};
 use thread_regs::ThreadList;
 
 /// The first mapping that has an address.
-fn mapping_at<'a>(space: &AddressSpace<'a>, address: u64) -> Option<Mapping<'a>>
+pub fn mapping_at<'a>(space: &AddressSpace<'a>, address: u64) -> Option<Mapping<'a>>
     ensures { option_map mapping_view result ≡ find (spec.has_address address) (mappings_of (space_of space.now)) }
 {
     for mapping in space.mappings() {

@@ -7,4 +7,5 @@
 mod at;
 mod stacks;
 
-pub use at::{tell_at, tell_at_with_debugs};
+pub use at::{mapping_at, tell_at, tell_at_with_debugs};
+pub use stacks::{has_address, threads_of};

@@ -16,7 +16,7 @@ use script_streams::{Output, Reply};
 use thread_regs::{Reg, Thread, ThreadList, threads};
 
 /// Whether an address is one of a mapping's.
-pub(crate) fn has_address(mapping: &Mapping<'_>, address: u64) -> bool
+pub fn has_address(mapping: &Mapping<'_>, address: u64) -> bool
     ensures { result ≡ spec.has_address address (mapping_view mapping.now) }
 {
     mapping.start <= address
@@ -34,7 +34,7 @@ fn notes_are_few(elf: &Elf<'_>)
 
 /// The threads of a core, which are so few that a number of 128 bits counts them.
 #[tactic(auto, using(crate::proofs::CountLemmas::descs_few))]
-pub(crate) fn threads_of<'a>(core: &CoreImage<'a>) -> ThreadList<'a>
+pub fn threads_of<'a>(core: &CoreImage<'a>) -> ThreadList<'a>
     ensures threads { threads_left result ≡ all_descs 1 (notes_of Core (core_bytes core.now)) }
     ensures few { length (threads_left result) < 2 ^ 128 }
 {

@@ -85,6 +85,16 @@ abbrev pub name_found : Result StreamFacts (List ℕ) → List ℕ
 name_found (Ok stream) = shown stream.origin.name
 name_found (Err reason) = codes "a core"
 
+-- the stream with another name
+abbrev pub under_name : List ℕ → StreamFacts → StreamFacts
+under_name name stream = record stream { origin = record stream.origin { name = name } }
+
+-- The stream under the name of another, or why one of them is not found.
+abbrev pub named_as : Result StreamFacts (List ℕ) → Result StreamFacts (List ℕ) → Result StreamFacts (List ℕ)
+named_as (Ok stream) (Ok other) = Ok (under_name other.origin.name stream)
+named_as (Err reason) other = Err reason
+named_as (Ok stream) (Err reason) = Err reason
+
 -- the same request, or without its policy
 abbrev pub IsFitted : StoreRequest → StoreRequest → Type 0
 IsFitted request fitted = (fitted ≡ request) ⊎ (fitted ≡ record request { policy = None })

@@ -46,7 +46,7 @@ pub use folders::{note_shared, shared_folder};
 pub use gaps::note_gap;
 pub use held::Held;
 pub use look_session::look;
-pub use looking::take_look;
+pub use looking::{take_look, unlocked_told};
 pub use making::what_is_made_lasts;
 pub use outcomes::ask_told;
 pub use over_disk::{ask_over, run_over};

@@ -3,11 +3,11 @@ ghost use Rattle.std.specs.Prelude.{◌≡◌, ℕ, List, None, Option, false, i
 ghost use Rattle.std.specs.Option.{option_map};
 ghost use Rattle.std.specs.Io.KnownBytes.{Keeps};
 ghost use Rattle.script_lines.specs.Said.{said};
-ghost use Rattle.stream_names.specs.Commands.{stream_found};
+ghost use Rattle.stream_names.specs.Commands.{stream_begun, stream_found};
 ghost use Rattle.inspector_cli.specs.Session.{streams_of};
 ghost use Rattle.inspector_cli.specs.Storing.{line_stream, options_asked};
 ghost use Rattle.script_streams.specs.Replies.{TellsText, telling};
-ghost use Rattle.archive_files.specs.OverDisks.{StoresOnDisk, StoresFile, IsFitted, IsFittedBy, is_refused, is_too_long, name_found, reason_found, sparing, sparing_for, within_limit};
+ghost use Rattle.archive_files.specs.OverDisks.{StoresOnDisk, StoresFile, IsFitted, IsFittedBy, is_refused, is_too_long, name_found, named_as, reason_found, sparing, sparing_for, under_name, within_limit};
 ghost use Rattle.archive_files.specs.Telling.{IsKeptAs};
 
 use crate::collected::Collected;
@@ -66,6 +66,19 @@ impl StoreRequest {
             found: line_stream(&begin, naming),
             options,
             limit,
+        }
+    }
+
+    /// The same stream under the name of the executable that this line of a script begins, or why that line begins none.
+    pub fn named(self, line: &[u8], naming: &Naming) -> Self
+        ensures policy { result.policy ≡ self.policy }
+        ensures found { stream_found result.found ≡ named_as (stream_found self.found) (line_stream naming.now (said line.now)) }
+        ensures options { result.options ≡ self.options }
+        ensures limit { result.limit ≡ self.limit }
+    {
+        StoreRequest {
+            found: named_as(self.found, line_stream(line, naming)),
+            ..self
         }
     }
 
@@ -180,6 +193,32 @@ impl StoreRequest {
         } else {
             self
         }
+    }
+}
+
+// A stream under the name of another.
+fn named_as(
+    found: Result<NewStream, &'static [u8]>,
+    other: Result<NewStream, &'static [u8]>,
+) -> Result<NewStream, &'static [u8]>
+    ensures { stream_found result ≡ named_as (stream_found found.entry) (stream_found other.entry) }
+{
+    match (found, other) {
+        (Ok(stream), Ok(other)) => Ok(renamed(stream, other)),
+        (Err(reason), _) => Err(reason),
+        (Ok(_), Err(reason)) => Err(reason),
+    }
+}
+
+fn renamed(stream: NewStream, other: NewStream) -> NewStream
+    ensures { stream_begun result ≡ under_name (stream_begun other).origin.name (stream_begun stream) }
+{
+    NewStream {
+        kind: stream.kind,
+        name: other.name,
+        pid: stream.pid,
+        signal: stream.signal,
+        time: stream.time,
     }
 }
 

@@ -51,6 +51,33 @@ next_chosen stored files i f k d old mid new within is before picked debug next_
     ∙ sym (choice_more stored (map id_view (take i files)) (id_view f))
     ∙ ap (λ (ts : List NamedId). choice_of ts stored) (sym next)
 
+-- of a file that has nothing nothing is chosen
+nothing_more : (stored : List ExecutableView) (path : List ℕ) (c : Choice) → with_debug path (debug_of stored none) (with_chosen path none c) ≡ c
+unfolding debug_of
+nothing_more stored path c =
+    ap (λ us. all us (c.others ++ []) (c.debugs ++ [])) (append-nil c.used)
+    ∙ ap (λ os. all c.used os (c.debugs ++ [])) (append-nil c.others)
+    ∙ ap (all c.used c.others) (append-nil c.debugs)
+
+pub chosen_without : (stored : List ExecutableView) (told : List NamedId) (t : NamedId) → chosen stored t.1 t.0 ≡ none → choice_of told stored ≡ choice_of (told ++ t ∷ []) stored
+chosen_without stored told t is =
+    sym (choice_more stored told t ∙ ap (λ k. with_debug t.0 (debug_of stored k) (with_chosen t.0 k (choice_of told stored))) is ∙ nothing_more stored t.0 (choice_of told stored))
+
+-- what is chosen for some files is what is chosen for those that went by, and for one more
+pub chosen_as : (stored : List ExecutableView) (old new : List NamedId) (files : List FrontId) (i : ℕ) (f : FrontId) → i < length files → f ≡ get_or files i f
+    → choice_of old stored ≡ choice_of (map id_view (take i files)) stored → choice_of new stored ≡ choice_of (old ++ id_view f ∷ []) stored
+    → choice_of new stored ≡ choice_of (map id_view (take (i + 1) files)) stored
+chosen_as stored old new files i f within is before after =
+    let t = id_view f in
+    let next : map id_view (take (i + 1) files) ≡ map id_view (take i files) ++ t ∷ [] =
+    ap (map id_view) (take_more files i f within)
+    ∙ map-append id_view (take i files) (get_or files i f ∷ [])
+    ∙ ap (λ (y : FrontId). map id_view (take i files) ++ id_view y ∷ []) (sym is) in
+    after ∙ choice_more stored old t
+    ∙ ap (λ (c : Choice). with_debug t.0 (debug_of stored (chosen stored t.1 t.0)) (with_chosen t.0 (chosen stored t.1 t.0) c)) before
+    ∙ sym (choice_more stored (map id_view (take i files)) t)
+    ∙ ap (λ (ts : List NamedId). choice_of ts stored) (sym next)
+
 -- The ID that is told for the file of its name is its own.
 abbrev pub IsOwn : List ExecutableView → ExecutableView → Type 0
 IsOwn fronts x = (id : List ℕ) → id_named fronts x.path ≡ Some id → build_id_of x.image ≡ Some id

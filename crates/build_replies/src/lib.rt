@@ -4,6 +4,7 @@
 //! as [`address_space::Attached`] images.
 #![tactic(auto)]
 
+mod alike;
 mod answers;
 mod builds;
 mod choosing;
@@ -16,6 +17,7 @@ mod table;
 mod used;
 mod wanted;
 
+pub use alike::{are_same_files, chosen_files};
 pub use answers::{BuildAnswer, build_answers};
 pub use builds::{BuildsAsked, tell_builds, tell_told, verdict};
 pub use choosing::{ChosenExecutables, ChosenFile};

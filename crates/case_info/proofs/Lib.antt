@@ -8,3 +8,4 @@ pub mod UnpackLemmas
 pub mod WantLemmas
 pub mod CrashLemmas
 pub mod GroupLemmas
+pub mod SearchLemmas

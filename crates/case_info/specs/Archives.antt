@@ -2,11 +2,12 @@
 use Rattle.std.specs.Prelude.{◌≡◌, ◌-◌, ℕ, Result, Ok, Err}
 use Rattle.archive_files.specs.declared.failures.Refusal.{Refusal}
 use Rattle.archive_files.specs.declared.failures.Refusal.TheVariants.{Open}
+use Rattle.archive_screens.specs.Days.{cores_by_day}
+use Rattle.archive_screens.specs.Tally.{tally_of}
+use Rattle.archive_screens.specs.declared.archive.ArchiveFacts.{ArchiveFacts}
 use Rattle.case_journal.specs.Opening.{journal_of}
 use Rattle.case_journal.specs.Viewing.{ShowsOpening}
 use Rattle.case_journal.specs.declared.open.Opened.{Opened}
-use Rattle.case_screens.specs.Tally.{tally_of}
-use Rattle.case_screens.specs.declared.archive.ArchiveFacts.{ArchiveFacts}
 use Rattle.disk_model.specs.declared.disk.Disk as disk
 use Rattle.extents.specs.FreeSet.{free_count}
 use Rattle.journal_layout.specs.Layout.{IsWithinLimits, disk_length, half_length}
@@ -28,6 +29,7 @@ pub record AreFactsOf (s : Standing) (free : ℕ) (f : ArchiveFacts) : Type 0 wh
   pub oldest : f.oldest ≡ (tally_of s.cases).oldest
   pub newest : f.newest ≡ (tally_of s.cases).newest
   pub last_number : f.last_number ≡ s.next - 1
+  pub days : f.days ≡ cores_by_day (tally_of s.cases).newest s.cases
 
 -- those of a journal that was opened: free are the data blocks that no case has
 abbrev pub AreFactsIn : Opened → ArchiveFacts → Type 0

@@ -1,6 +1,7 @@
 -- The crashes of cores of an archive.
 use Rattle.std.specs.Prelude.{◌≡◌, ◌++◌, false, ℕ, List, [], ◌∷◌, length, map, codes, slice_get, Option, None, Some, Result, Ok, Err, Vec}
 use Rattle.std.specs.Global.{Global}
+use Rattle.std.specs.List.Sorted.{IsNonDecreasingBy, IsPermutation}
 use Rattle.std.specs.Option.{option_and_then}
 use Rattle.address_space.specs.Source.{ExecutableView}
 use Rattle.build_replies.specs.Builds.{NamedId, told_of, told_or_none}
@@ -93,3 +94,13 @@ abbrev pub SeesCrashes : {D : Type 0} → disk.Ghosts D → Parts D → List ℕ
 SeesCrashes g old [] [] new = new ≡ old
 SeesCrashes {D} g old (seq ∷ seqs) (crash ∷ crashes) new = (mid : Parts D) × SeesCrash g old seq crash mid × SeesCrashes g mid seqs crashes new
 SeesCrashes g old _ _ new = ⊥
+
+-- The crashes of cores are found. The cores are looked at one after the other, each of them once, in an order that nothing is said of. Their
+-- crashes stand in the order of the numbers of their cases.
+pub record FindsEach {D : Type 0} (g : disk.Ghosts D) (old : Parts D) (seqs : List ℕ) (crashes : List CrashedSaid) (new : Parts D) : Type 0 where
+  pub order : List ℕ
+  pub each : IsPermutation seqs order
+  pub seen : List CrashedSaid
+  pub sees : SeesCrashes g old order seen new
+  pub all : IsPermutation seen crashes
+  pub rising : IsNonDecreasingBy (λ (crash : CrashedSaid). crash.number) crashes

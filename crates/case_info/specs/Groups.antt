@@ -23,7 +23,7 @@ use Rattle.intake.specs.Step.{HasCase}
 use Rattle.journal_layout.specs.Case.{Case}
 use Rattle.journal_layout.specs.declared.faults.OpenFault.{OpenFault}
 use Rattle.unlocked_reading.specs.Finding.{has_number}
-use Rattle.case_info.specs.Crashes.{SeesCrashes}
+use Rattle.case_info.specs.Crashes.{FindsEach}
 use Rattle.case_info.specs.Gathering.{is_core_kind}
 use Rattle.case_info.specs.Screens.{held}
 use Rattle.case_info.specs.declared.groups.GroupsForm.{GroupsForm}
@@ -35,11 +35,11 @@ abbrev pub IsCoreIf : {D : Type 0} → Parts D → Option ℕ → Bool → Type 
 IsCoreIf a None is_core = is_core ≡ true
 IsCoreIf a (Some seq) is_core = (c : Case) × HasCase (state_of a) seq c × (is_core ≡ is_core_kind c.origin.kind)
 
--- The crashes of the cores that are wanted are found, in the order of their numbers; or the case that is named is no core.
+-- The crashes of the cores that are wanted are found, and stand in the order of their numbers; or the case that is named is no core.
 abbrev pub FindsCrashes : {D : Type 0} → disk.Ghosts D → Parts D → Wanted → Option ℕ → Option (Vec CrashedCore Global) → Parts D → Type 0
 FindsCrashes g old wanted case None new = IsCoreIf old case false × (new ≡ old)
 FindsCrashes g old wanted case (Some v) new =
-    IsCoreIf old case true × SeesCrashes g old (wanted_cores wanted (state_of old).cases) (map crashed_said v.items) new
+    IsCoreIf old case true × FindsEach g old (wanted_cores wanted (state_of old).cases) (map crashed_said v.items) new
 
 -- by the archive that was opened, or why it was not
 abbrev pub FindsCrashesBy : {D : Type 0} → disk.Ghosts D → Wanted → Option ℕ → Result (Parts D) (OpenFault × D) → Result (Option (Vec CrashedCore Global)) Refusal → Type 0

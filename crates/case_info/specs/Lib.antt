@@ -9,3 +9,6 @@ pub mod WantWords
 pub mod Wants
 pub mod Crashes
 pub mod Groups
+pub mod Addresses
+pub mod Stacks
+pub mod CrashWords

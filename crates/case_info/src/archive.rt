@@ -4,8 +4,8 @@ ghost use Rattle.extents.specs.FreeSet.{free_count};
 
 use crate::telling::{shown, write_json, write_text};
 use archive_files::{ArchivePath, Collected, Failure, Refusal, take_look};
+use archive_screens::{ArchiveFacts, archive_json, cores_by_day, tally_of, tell_archive_screen};
 use case_journal::{Journal, Opened};
-use case_screens::{ArchiveFacts, archive_json, tally_of, tell_archive_screen};
 use disk_model::Disk;
 use script_streams::{Output, Reply};
 use std::alloc::Global;
@@ -54,8 +54,12 @@ fn tell_facts<O: Output>(
     }
 }
 
-// Opens the journal on a disk, and finds the facts of its archive.
-fn facts_over<D: Disk + Drop>(alloc: Global, disk: D) -> Result<ArchiveFacts, Refusal>
+/// Opens the journal on a disk, and finds the facts of its archive.
+///
+/// # Errors
+///
+/// What an opening is refused for.
+pub fn facts_over<D: Disk + Drop>(alloc: Global, disk: D) -> Result<ArchiveFacts, Refusal>
     ensures { FactsOn D.Disk disk result }
 {
     let mut disk = disk;
@@ -84,5 +88,6 @@ fn facts_of(opened: &Opened) -> ArchiveFacts
         oldest: tally.oldest,
         newest: tally.newest,
         last_number: journal.next_seq().saturating_sub(1),
+        days: cores_by_day(journal.entries(), tally.newest),
     }
 }

@@ -1,28 +1,34 @@
 // The crashes of cores, over one archive that is open.
-ghost use Rattle.std.specs.Prelude.{◌≡◌, ◌++◌, ◌∷◌, [], IfOk, OnOk, map};
+ghost use Rattle.std.specs.Prelude.{◌≡◌, ◌≤◌, IfOk, Ok, length};
 ghost use Rattle.std.specs.Option.{option_map};
-ghost use Rattle.case_queries.specs.Fronts.{HasSize};
+ghost use Rattle.build_replies.specs.Mapped.{told_view};
+ghost use Rattle.case_queries.specs.Fronts.{HasSize, IsSoundFront};
+ghost use Rattle.case_queries.specs.Pieces.{SeesPieces};
+ghost use Rattle.case_queries.specs.Preparing.{AreChosenFor, prepared_views};
+ghost use Rattle.case_queries.specs.ToldWords.{IsToldBy, files_told};
+ghost use Rattle.case_screens.specs.Core.{notes_read};
 ghost use Rattle.core_crashes.specs.Views.{crashed_said};
+ghost use Rattle.elf_view.specs.declared.faults.Want.TheVariants as want;
 ghost use Rattle.image_replies.specs.CoreWords.{core_bytes};
 ghost use Rattle.intake.specs.Parts.{state_of};
 ghost use Rattle.intake.specs.Step.{HasCase};
 ghost use Rattle.journal_layout.specs.Case.{case_of};
-ghost use Rattle.case_info.specs.Crashes.{IsCrashBy, IsRefusedBy, SeesCrash, SeesCrashes, first_frames};
+ghost use Rattle.case_info.specs.Crashes.{IsCrashBy, IsRefusedBy, first_frames, first_thread};
+ghost use Rattle.case_info.specs.CrashWords.{CrashesBy};
+ghost use Rattle.case_info.specs.Screens.{shown_count};
 
 use crate::case::InfoWords;
-use crate::front::{core_in, front_of, size_of};
-use crate::gathered::{builds_in, debug_files_of, executables_of, facts_of, told_of};
+use crate::gathered::{builds_in, facts_with};
 use archive_files::Refusal;
-use case_queries::{CaseImage, CoreFacts};
+use case_queries::{CaseImage, CoreFacts, PreparedExecutables, ToldFiles};
 use core_crashes::{crash_of, crash_without_thread, handled_in_case, refused_crash};
 use disk_model::Disk;
-use elf_view::Want;
 use frame_replies::FramesAnswer;
 use group_tables::CrashedCore;
 use image_replies::{CoreFault, CoreImage};
 use intake::Archive;
 use journal_layout::Entry;
-use std::alloc::{AllocError, Global};
+use std::alloc::Global;
 
 // The frames of the thread that dumped, which Linux writes first.
 const FIRST_THREAD: InfoWords = InfoWords {
@@ -41,7 +47,7 @@ fn case_in<D: Disk>(archive: &Archive<D>, seq: u32) -> Result<&Entry, Refusal>
 }
 
 // The crash of a core whose headers or notes have a fault.
-fn refused_in<D: Disk>(
+pub(crate) fn refused_in<D: Disk>(
     alloc: Global,
     seq: u32,
     fault: CoreFault,
@@ -85,62 +91,25 @@ fn crash_by<'a, D: Disk>(
     Ok(crash_of(alloc, case, core, frames, handled, builds_in(facts))?)
 }
 
-// The crash of a core.
-pub(crate) fn crash_in<D: Disk>(
+// The crash of a core, with executables and debug files that are prepared and serve it.
+pub(crate) fn crash_with<'a, 'e: 'a, D: Disk>(
     alloc: Global,
-    seq: u32,
+    image: CaseImage<'_>,
+    core: &CoreImage<'a>,
+    told: ToldFiles<'a>,
+    prepared: &PreparedExecutables<'e>,
     archive: &mut Archive<D>,
 ) -> Result<CrashedCore, Refusal>
-    ensures { IfOk result (λ crash. SeesCrash D.Disk archive.old seq (crashed_said crash) archive.new) }
+    requires serve { AreChosenFor prepared.now (files_told told) }
+    requires has { HasSize (state_of archive.old) image.seq image.size }
+    requires short { length image.front.now ≤ image.size }
+    requires front { core_bytes core.now ≡ image.front.now }
+    requires sound { IsSoundFront want.Core image.front.now }
+    requires told { IsToldBy image told }
+    requires seen { SeesPieces D.Disk archive.old image told.pieces.items archive.old }
+    ensures { IfOk result (λ crash. CrashesBy D.Disk archive.old image.entry.seq image.entry.front.now image.entry.size (told_view told.entry.files) (prepared_views prepared.now) (shown_count first_thread (notes_read (Ok core.now)))
+        (crashed_said crash) archive.new) }
 {
-    let size = size_of(seq, archive)?;
-    let front = front_of(alloc, seq, size, Want::Core, archive)?;
-    let core = match core_in(&front).core {
-        Ok(core) => core,
-        Err(fault) => return Ok(refused_in(alloc, seq, fault, archive)?),
-    };
-    let elf = core.elf();
-    let image = CaseImage {
-        seq,
-        size,
-        front: elf.image(),
-    };
-    let told = told_of(alloc, image, &core, archive)?;
-    let executables = executables_of(alloc, &told, archive)?;
-    let debug_files = debug_files_of(alloc, &told, &executables, archive)?;
-    let facts = facts_of(
-        alloc,
-        image,
-        &core,
-        told,
-        &executables,
-        &debug_files,
-        FIRST_THREAD,
-        archive,
-    )?;
-    Ok(crash_by(alloc, seq, size, &core, &facts, archive)?)
-}
-
-// Puts a crash after those of others.
-fn push_crash(crashes: &mut Vec<CrashedCore>, crash: CrashedCore) -> Result<(), AllocError>
-    ensures { OnOk result (map crashed_said crashes.new.items ≡ map crashed_said crashes.old.items ++ crashed_said crash ∷ []) }
-{
-    crashes.push(crash)?;
-    Ok(())
-}
-
-// The crashes of cores, one after the other: what is read of one is given back before the next.
-pub(crate) fn crashes_of<D: Disk>(
-    alloc: Global,
-    numbers: &[u32],
-    archive: &mut Archive<D>,
-) -> Result<Vec<CrashedCore>, Refusal>
-    ensures { IfOk result (λ crashes. SeesCrashes D.Disk archive.old numbers.now (map crashed_said crashes.items) archive.new) }
-{
-    let mut crashes = Vec::new(alloc);
-    for seq in numbers {
-        let crash = crash_in(alloc, *seq, archive)?;
-        push_crash(&mut crashes, crash)?;
-    }
-    Ok(crashes)
+    let facts = facts_with(alloc, image, core, told, prepared, FIRST_THREAD, archive)?;
+    Ok(crash_by(alloc, image.seq, image.size, core, &facts, archive)?)
 }

@@ -3,11 +3,12 @@ ghost use Rattle.std.specs.Prelude.{◌≡◌, ◌≤◌, ◌++◌, false, IfOk,
 ghost use Rattle.build_replies.specs.Builds.{told_or_none};
 ghost use Rattle.build_replies.specs.Mapped.{told_view};
 ghost use Rattle.case_queries.specs.Collecting.{CollectsAll, debugs_by, wanted_by};
-ghost use Rattle.case_queries.specs.CollectingWords.{executable_view};
+ghost use Rattle.case_queries.specs.CollectingWords.{executable_view, read_as};
 ghost use Rattle.case_queries.specs.Facts.{SaysFacts};
 ghost use Rattle.case_queries.specs.Fronts.{HasSize, IsSoundFront, ReadsFront};
 ghost use Rattle.case_queries.specs.Pieces.{SeesPieces};
-ghost use Rattle.case_queries.specs.ToldWords.{IsToldBy};
+ghost use Rattle.case_queries.specs.Preparing.{AreChosenFor, prepared_views};
+ghost use Rattle.case_queries.specs.ToldWords.{IsToldBy, files_told};
 ghost use Rattle.case_screens.specs.Core.{notes_read};
 ghost use Rattle.elf_view.specs.declared.faults.Want.TheVariants as want;
 ghost use Rattle.image_replies.specs.CoreWords.{core_bytes};
@@ -18,8 +19,8 @@ use crate::case::InfoWords;
 use archive_files::Refusal;
 use build_replies::BuildAnswer;
 use case_queries::{
-    CaseImage, CoreFacts, StoredExecutable, ToldFiles, WalkFault, core_facts, stored_debug_files,
-    stored_executables, told_files,
+    CaseImage, CoreFacts, PreparedExecutables, StoredExecutable, ToldFiles, WalkFault, core_facts,
+    core_facts_with, stored_debug_files, stored_executables, told_files,
 };
 use case_screens::{MOST_THREADS, thread_count};
 use disk_model::Disk;
@@ -56,7 +57,8 @@ pub(crate) fn executables_of<D: Disk>(
     archive: &mut Archive<D>,
 ) -> Result<Vec<StoredExecutable>, Refusal>
     requires { archive.old.stopped ≡ false }
-    ensures { IfOk result (λ v. CollectsAll D.Disk archive.old (wanted_by (told_or_none (told_view told.now.files)) (state_of archive.old).cases) (Ok (map executable_view v.items)) archive.new) }
+    ensures collects { IfOk result (λ v. CollectsAll D.Disk archive.old (wanted_by (told_or_none (told_view told.now.files)) (state_of archive.old).cases) (Ok (map executable_view v.items)) archive.new) }
+    ensures are { IfOk result (λ v. map read_as v.items ≡ wanted_by (told_or_none (told_view told.now.files)) (state_of archive.old).cases) }
 {
     match stored_executables(alloc, told, archive) {
         Ok(executables) => Ok(executables),
@@ -72,7 +74,8 @@ pub(crate) fn debug_files_of<D: Disk>(
     archive: &mut Archive<D>,
 ) -> Result<Vec<StoredExecutable>, Refusal>
     requires { archive.old.stopped ≡ false }
-    ensures { IfOk result (λ v. CollectsAll D.Disk archive.old (debugs_by (told_or_none (told_view told.now.files)) (map executable_view executables.now) (state_of archive.old).cases) (Ok (map executable_view v.items)) archive.new) }
+    ensures collects { IfOk result (λ v. CollectsAll D.Disk archive.old (debugs_by (told_or_none (told_view told.now.files)) (map executable_view executables.now) (state_of archive.old).cases) (Ok (map executable_view v.items)) archive.new) }
+    ensures are { IfOk result (λ v. map read_as v.items ≡ debugs_by (told_or_none (told_view told.now.files)) (map executable_view executables.now) (state_of archive.old).cases) }
 {
     match stored_debug_files(alloc, told, executables, archive) {
         Ok(debug_files) => Ok(debug_files),
@@ -110,6 +113,32 @@ pub(crate) fn facts_of<'a, D: Disk>(
         count,
         archive,
     ) {
+        Ok(facts) => Ok(facts),
+        Err(fault) => Err(refusal_of(fault)),
+    }
+}
+
+// The same with executables and debug files that are prepared, which serve the core.
+pub(crate) fn facts_with<'a, 'e: 'a, D: Disk>(
+    alloc: Global,
+    image: CaseImage<'_>,
+    core: &CoreImage<'a>,
+    told: ToldFiles<'a>,
+    prepared: &PreparedExecutables<'e>,
+    words: InfoWords,
+    archive: &mut Archive<D>,
+) -> Result<CoreFacts<'a>, Refusal>
+    requires serve { AreChosenFor prepared.now (files_told told) }
+    requires has { HasSize (state_of archive.old) image.seq image.size }
+    requires short { length image.front.now ≤ image.size }
+    requires front { core_bytes core.now ≡ image.front.now }
+    requires sound { IsSoundFront want.Core image.front.now }
+    requires told { IsToldBy image told }
+    ensures { IfOk result (λ facts. (before : Parts D) → SeesPieces D.Disk before image.entry told.entry.pieces.items archive.old
+        → SaysFacts D.Disk before image.entry.seq image.entry.front.now image.entry.size (told_view told.entry.files) (prepared_views prepared.now) (shown_count words (notes_read (Ok core.now))) facts archive.new) }
+{
+    let count = shown_count(core, words);
+    match core_facts_with(alloc, image, core, told, prepared, count, archive) {
         Ok(facts) => Ok(facts),
         Err(fault) => Err(refusal_of(fault)),
     }

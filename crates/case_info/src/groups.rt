@@ -13,7 +13,7 @@ ghost use Rattle.case_info.specs.Groups.{FindsCrashes, FindsCrashesOn, IsText, I
 ghost use Rattle.case_info.specs.Screens.{held};
 
 use crate::case::{kind_of, number_of};
-use crate::crashes::crashes_of;
+use crate::crash_search::crashes_of;
 use crate::rows::tell_refused;
 use crate::telling::{shown, write_text};
 use archive_files::{ArchivePath, Collected, Failure, Refusal, take_look, unasked};
@@ -22,8 +22,8 @@ use case_tables::Wanted;
 use crash_signatures::grouped;
 use disk_model::Disk;
 use group_tables::{
-    CrashedCore, GroupRow, group_json, groups_json, numbered, rows_of, tell_group, tell_groups,
-    wanted_cores,
+    CrashedCore, GroupRow, group_json, groups_json, numbered, rows_of, tell_group,
+    tell_group_lines, tell_groups, wanted_cores,
 };
 use intake::{Archive, ArchiveFault, Settings};
 use journal_layout::{Entry, Kind};
@@ -53,6 +53,8 @@ pub(crate) struct GroupsForm {
     // That of this case alone.
     case: Option<u32>,
     is_json: bool,
+    // As JSON, each group in a line of its own.
+    by_lines: bool,
     // The latest time that counts.
     latest: u64,
 }
@@ -89,7 +91,12 @@ pub fn group_archive<R: AllocGlobal + Files<File = File> + Clock, O: Output>(
         Ok(found) => write_found(alloc, found, words.list, output),
         Err(refusal) => Err(Failure::Refused(refusal)),
     };
-    shown(alloc, words.list.is_json, done, output)
+    shown(
+        alloc,
+        words.list.is_json || words.list.by_lines,
+        done,
+        output,
+    )
 }
 
 // Writes what was found.
@@ -100,7 +107,11 @@ fn write_found<O: Output>(
     output: &mut O,
 ) -> Result<(), Failure> {
     match found {
-        Found::NotCore if words.is_json => tell_refused(alloc, b"no NotCore\n", output),
+        Found::NotCore if words.is_json || words.by_lines => tell_refused(
+            alloc,
+            b"no NotCore\n",
+            output,
+        ),
         Found::NotCore => {
             write_text(b"no NotCore\n", output)?;
             Err(Failure::Told)
@@ -136,7 +147,8 @@ fn find_groups<R: AllocGlobal + Files<File = File>>(
     };
     let form = GroupsForm {
         case,
-        is_json: words.list.is_json,
+        is_json: words.list.is_json || words.list.by_lines,
+        by_lines: words.list.by_lines,
         latest,
     };
     groups_looked(alloc, looked, &wanted, form)
@@ -338,10 +350,23 @@ fn tell_all<O: Output>(
     ensures { OnOk result (form.is_json ≡ false → TellsText (telling O.Output reply.old reply.new) (groups_table form.latest (map row_said rows.now))) }
 {
     if form.is_json {
-        tell_json(reply, &groups_json(alloc, form.latest, rows)?);
-        return Ok(());
+        return tell_all_json(alloc, reply, rows, form);
     }
     Ok(tell_groups(alloc, reply, form.latest, rows)?)
+}
+
+// Tells all groups as JSON: as an array, or a line for each.
+fn tell_all_json<O: Output>(
+    alloc: Global,
+    reply: &mut Reply<'_, O>,
+    rows: &[GroupRow<'_>],
+    form: GroupsForm,
+) -> Result<(), Refusal> {
+    if form.by_lines {
+        return Ok(tell_group_lines(alloc, reply, form.latest, rows)?);
+    }
+    tell_json(reply, &groups_json(alloc, form.latest, rows)?);
+    Ok(())
 }
 
 // Tells the group that a case is in.

@@ -2,8 +2,10 @@
 //! that its cores want; which cases go in a prune of it; and what is unpacked of a case.
 #![tactic(auto)]
 
+mod addresses;
 mod archive;
 mod case;
+mod crash_search;
 mod crashes;
 mod front;
 mod gathered;
@@ -16,13 +18,16 @@ mod plan;
 mod prune;
 mod report;
 mod rows;
+mod stack;
 mod telling;
 mod unpacked_files;
 mod unpacking;
 mod wanted;
 mod wants;
+mod words;
 
-pub use archive::info_archive;
+pub use addresses::{question_at, question_with, register_in};
+pub use archive::{facts_over, info_archive};
 pub use case::{InfoWords, info_case};
 pub use groups::{GroupsWords, group_archive};
 pub use laws::{wants_then_stored, what_is_wanted_is_told_once};
@@ -32,3 +37,4 @@ pub use rows::ask_rows;
 pub use unpacked_files::{DebugFile, UnpackedFile};
 pub use unpacking::{Unpacking, unpacking_of};
 pub use wants::{WantsWords, tell_wants};
+pub use words::{CoreLine, CoreQuestion, DumpedPlace, ask_core, dumped_words, thread_words};

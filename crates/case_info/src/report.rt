@@ -1,13 +1,14 @@
-// `report`: a page of an archive, or of one of its cases.
+// `report`: a page of an archive, or of cases of it.
 use crate::case::{InfoWords, kind_of, no_frames, number_of};
 use crate::front::{CoreFront, core_in, front_of, header_in, size_of};
 use crate::gathered::{builds_in, debug_files_of, executables_of, facts_of, told_of};
 use crate::groups::{find_crashes, has_case, row_with};
+use crate::stack::{StackPart, lent_stack, read_stack};
 use crate::telling::write_text;
 use archive_files::{ArchivePath, Failure, Refusal, take_look, unasked};
 use build_replies::BuildAnswer;
 use case_listing::latest_time;
-use case_pages::{PagedArchive, put_archive, put_case, put_foot, put_head};
+use case_pages::{PagedArchive, latest_of, put_archive, put_case, put_foot, put_head};
 use case_queries::CaseImage;
 use case_screens::{CaseAnswers, CoreAnswers};
 use case_tables::{Order, Wanted};
@@ -18,12 +19,14 @@ use frame_replies::FramesAnswer;
 use group_tables::{CrashedCore, GroupRow, newest, numbered, rows_of};
 use html_pages::Page;
 use intake::{Archive, Settings};
-use journal_layout::Kind;
+use journal_layout::{Entry, Kind};
+use memory_replies::Window;
 use script_streams::Output;
 use shared_disk::{Looked, SharedDisk};
 use std::alloc::{AllocError, Global};
 use std::fs::File;
 use std::rt::Files;
+use std::slice;
 use std::time::Clock;
 use unlocked_reading::{AskFault, Places, Reads, find_cases, stay};
 
@@ -60,9 +63,10 @@ struct GroupedCores {
     groups: Vec<Group>,
 }
 
-/// Prints a page of a case, or of the archive: the groups of its cores, and the newest certain core of each of the first groups. The case is
-/// named by its number, by its name, or as `last` or `latest`. The page is held until the cases that are on it, and the executables, are found again. A core
-/// that was deleted while the others were looked at is left out.
+/// Prints a page of these cases, in their order, each once; if there are none, of the archive: when its cores came, their groups, and the newest
+/// certain core of each of the first groups. A case is named by its number, by its name, or as `last` or `latest`. The page is held until the
+/// cases that are on it, and the executables, are found again. On the page of an archive a core that was deleted while the others were looked at
+/// is left out.
 ///
 /// # Errors
 ///
@@ -71,13 +75,13 @@ struct GroupedCores {
 pub fn report_archive<R: AllocGlobal + Files<File = File> + Clock, O: Output>(
     rt: &R,
     place: ArchivePath<'_>,
-    case: Option<&str>,
+    cases: &[&str],
     output: &mut O,
 ) -> Result<(), Failure> {
     let alloc = rt.alloc();
     let until = latest_time(rt);
     let found = match take_look(rt, place) {
-        Ok(looked) => page_looked(alloc, looked, place.path.as_bytes(), case, until),
+        Ok(looked) => page_looked(alloc, looked, place.path.as_bytes(), cases, until),
         Err(refusal) => Err(refusal),
     };
     match found {
@@ -91,20 +95,42 @@ fn page_looked<S: SharedDisk + Drop>(
     alloc: Global,
     looked: Looked<S>,
     name: &[u8],
-    case: Option<&str>,
+    cases: &[&str],
     until: u64,
 ) -> Result<Vec<u8>, Refusal> {
-    if let Some(case) = case {
-        let disk = looked.unlocked(Vec::new(alloc));
-        let seq = number_of(alloc, disk, case.as_bytes(), until)?;
-        return held_page(alloc, looked, name, Some(seq), Vec::new(alloc));
+    if !cases.is_empty() {
+        let seqs = numbers_named(alloc, &looked, cases, until)?;
+        return held_page(alloc, looked, name, &seqs, Vec::new(alloc));
     }
     let crashes = crashes_looked(alloc, &looked)?;
     let again = match Looked::look(alloc, looked.into_shared()) {
         Ok(again) => again,
         Err(fault) => return Err(unasked(AskFault::Look(fault))),
     };
-    held_page(alloc, again, name, None, crashes)
+    held_page(alloc, again, name, &[], crashes)
+}
+
+// The numbers of these cases, each once.
+fn numbers_named<S: SharedDisk + Drop>(
+    alloc: Global,
+    looked: &Looked<S>,
+    cases: &[&str],
+    until: u64,
+) -> Result<Vec<u32>, Refusal> {
+    let mut seqs = Vec::new(alloc);
+    for case in cases {
+        let disk = looked.unlocked(Vec::new(alloc));
+        let seq = number_of(alloc, disk, case.as_bytes(), until)?;
+        add_once(&mut seqs, seq)?;
+    }
+    Ok(seqs)
+}
+
+fn add_once(seqs: &mut Vec<u32>, seq: u32) -> Result<(), AllocError> {
+    if !seqs.contains(&seq) {
+        seqs.push(seq)?;
+    }
+    Ok(())
 }
 
 // The crashes of all cores.
@@ -123,22 +149,22 @@ fn held_page<S: SharedDisk + Drop>(
     alloc: Global,
     looked: Looked<S>,
     name: &[u8],
-    seq: Option<u32>,
+    seqs: &[u32],
     crashes: Vec<CrashedCore>,
 ) -> Result<Vec<u8>, Refusal> {
     let all = find_cases(alloc, looked.unlocked(Vec::new(alloc)), Reads::All);
     let Places { ranges, .. } = all.map_err(|fault| unasked(fault))?;
-    let reads = Reads::Memory {
-        seq: seq.unwrap_or(0),
-    };
+    // No case has the number 0: these are the executables alone.
+    let reads = Reads::Memory { seq: 0 };
     let kept = find_cases(alloc, looked.unlocked(Vec::new(alloc)), reads);
     let Places { numbers, .. } = kept.map_err(|fault| unasked(fault))?;
     let mut numbers = numbers;
+    numbers.extend_from_slice(seqs)?;
     let page = page_over(
         alloc,
         looked.unlocked(ranges),
         name,
-        seq,
+        seqs,
         crashes,
         &mut numbers,
     )?;
@@ -153,33 +179,35 @@ fn page_over<D: Disk + Drop>(
     alloc: Global,
     disk: D,
     name: &[u8],
-    seq: Option<u32>,
+    seqs: &[u32],
     crashes: Vec<CrashedCore>,
     numbers: &mut Vec<u32>,
 ) -> Result<Vec<u8>, Refusal> {
     match Archive::open(alloc, disk, Settings { limit: 0 }) {
         Ok(archive) => {
             let mut archive = archive;
-            match seq {
-                Some(seq) => case_alone(alloc, &mut archive, name, seq),
-                None => whole_page(alloc, &mut archive, name, crashes, numbers),
+            if seqs.is_empty() {
+                return whole_page(alloc, &mut archive, name, crashes, numbers);
             }
+            cases_alone(alloc, &mut archive, name, seqs)
         }
         Err((fault, _)) => Err(Refusal::Open(fault)),
     }
 }
 
-// The page of one case.
-fn case_alone<D: Disk>(
+// The page of these cases.
+fn cases_alone<D: Disk>(
     alloc: Global,
     archive: &mut Archive<D>,
     name: &[u8],
-    seq: u32,
+    seqs: &[u32],
 ) -> Result<Vec<u8>, Refusal> {
     let mut page = Page::new(alloc)?;
-    put_head(&mut page, name, &[seq]);
+    put_head(&mut page, name, seqs);
     page.close();
-    page_case(alloc, archive, &mut page, seq, None)?;
+    for seq in seqs {
+        page_case(alloc, archive, &mut page, *seq, None)?;
+    }
     end_page(archive, page, name)
 }
 
@@ -231,10 +259,21 @@ fn page_archive<D: Disk>(
     let paged = PagedArchive {
         cases,
         rows: &rows,
-        latest: u64::MAX,
+        latest: latest_of(alloc, &times_of(alloc, cases)?)?,
     };
     put_archive(alloc, page, &paged, &numbers)?;
     Ok(numbers)
+}
+
+// The times of cores, in the order in which they were stored.
+fn times_of(alloc: Global, cases: &[Entry]) -> Result<Vec<u64>, AllocError> {
+    let mut times = Vec::new(alloc);
+    for case in cases {
+        if case.kind == Kind::Core {
+            times.push(case.time)?;
+        }
+    }
+    Ok(times)
 }
 
 // The newest certain core of each of the first groups.
@@ -272,7 +311,8 @@ fn page_core<D: Disk>(
     let front = front_of(alloc, seq, size, Want::Core, archive)?;
     let said = core_in(&front);
     let Ok(core) = said.core else {
-        return Ok(page_known(alloc, archive, page, seq, said, no_frames(), None, grouped)?);
+        let answers = core_answers(said, no_frames(), None);
+        return Ok(page_answers(alloc, archive, page, seq, &answers, nothing(size), grouped)?);
     };
     let elf = core.elf();
     let image = CaseImage {
@@ -280,6 +320,7 @@ fn page_core<D: Disk>(
         size,
         front: elf.image(),
     };
+    let stack = read_stack(alloc, image, &core, archive)?;
     let told = told_of(alloc, image, &core, archive)?;
     let executables = executables_of(alloc, &told, archive)?;
     let debug_files = debug_files_of(alloc, &told, &executables, archive)?;
@@ -293,37 +334,33 @@ fn page_core<D: Disk>(
         ALL_THREADS,
         archive,
     )?;
-    Ok(page_known(
-        alloc,
-        archive,
-        page,
-        seq,
-        said,
-        &facts.unwound,
-        builds_in(&facts),
-        grouped,
-    )?)
+    let answers = core_answers(said, &facts.unwound, builds_in(&facts));
+    let window = lent_stack(size, &stack);
+    Ok(page_answers(alloc, archive, page, seq, &answers, window, grouped)?)
 }
 
-// Puts a core by the facts of its image, the frames of its threads and the builds of its files.
-fn page_known<D: Disk>(
-    alloc: Global,
-    archive: &Archive<D>,
-    page: &mut Page,
-    seq: u32,
-    said: CoreFront<'_>,
-    unwound: &[Option<FramesAnswer<'_>>],
-    builds: Option<&[BuildAnswer<'_>]>,
-    grouped: Option<&GroupedCores>,
-) -> Result<(), Refusal> {
-    let answers = CaseAnswers::Core(CoreAnswers {
+// A core by the facts of its image, the frames of its threads and the builds of its files.
+fn core_answers<'s, 'a>(
+    said: CoreFront<'a>,
+    unwound: &'s [Option<FramesAnswer<'a>>],
+    builds: Option<&'s [BuildAnswer<'a>]>,
+) -> CaseAnswers<'s, 'a> {
+    CaseAnswers::Core(CoreAnswers {
         core: said.core,
         unwound,
         builds,
         whole: said.whole,
         unread: said.unread,
-    });
-    page_answers(alloc, archive, page, seq, &answers, grouped)
+    })
+}
+
+// Nothing of an image of `size` bytes.
+fn nothing<'w>(size: usize) -> Window<'w> {
+    Window {
+        size: size as u64,
+        at: 0,
+        bytes: &[],
+    }
 }
 
 fn page_exec<D: Disk>(
@@ -335,16 +372,17 @@ fn page_exec<D: Disk>(
     let size = size_of(seq, archive)?;
     let front = front_of(alloc, seq, size, Want::Exec, archive)?;
     let answers = CaseAnswers::Exec(header_in(&front));
-    page_answers(alloc, archive, page, seq, &answers, None)
+    page_answers(alloc, archive, page, seq, &answers, nothing(size), None)
 }
 
-// Puts a case by what is known of it.
+// Puts a case by what is known of it, and by the window of its image that has its stack.
 fn page_answers<D: Disk>(
     alloc: Global,
     archive: &Archive<D>,
     page: &mut Page,
     seq: u32,
     answers: &CaseAnswers<'_, '_>,
+    window: Window<'_>,
     grouped: Option<&GroupedCores>,
 ) -> Result<(), Refusal> {
     let case = match archive.case(seq) {
@@ -356,8 +394,27 @@ fn page_answers<D: Disk>(
         Err(fault) => return Err(Refusal::Call(fault)),
     };
     let Some(grouped) = grouped else {
-        return Ok(put_case(alloc, page, case, cases, answers, None)?);
+        return Ok(put_case(alloc, page, case, cases, answers, window, None)?);
     };
-    let rows = rows_of(alloc, cases, &grouped.cores, &grouped.groups)?;
-    Ok(put_case(alloc, page, case, cases, answers, row_with(&rows, seq))?)
+    let rows = rows_of(
+        alloc,
+        cases,
+        &grouped.cores,
+        group_with(&grouped.groups, seq),
+    )?;
+    let row = row_with(&rows, seq);
+    Ok(put_case(alloc, page, case, cases, answers, window, row)?)
+}
+
+// The group that has a case, alone; or no group.
+fn group_with(groups: &[Group], seq: u32) -> &[Group] {
+    match groups.iter().find(|group| has_core(group, seq)) {
+        Some(group) => slice::from_ref(group),
+        None => &[],
+    }
+}
+
+fn has_core(group: &Group, seq: u32) -> bool {
+    let number = u64::from(seq);
+    group.cases.iter().any(|its| *its == number) || group.perhaps.iter().any(|its| *its == number)
 }

@@ -1,6 +1,6 @@
 // How text is written.
-use archive_files::{Failure, Refusal, reason_of};
-use case_screens::refusal_json;
+use archive_files::{Collected, Failure, Refusal, reason_of};
+use case_screens::{Reason, refusal_json, tell_named};
 use script_streams::{Output, Reply, write_whole};
 use std::alloc::Global;
 
@@ -39,5 +39,18 @@ fn refuse<O: Output>(alloc: Global, refusal: Refusal, output: &mut O) -> Failure
     match write_json(&json, output) {
         Ok(()) => Failure::Aside(refusal),
         Err(failure) => failure,
+    }
+}
+
+// The script's reply to a line that is refused for this reason.
+pub(crate) fn refusal_reply(alloc: Global, reason: &Reason<'_>) -> Result<Collected, Refusal> {
+    let mut text = Collected::new(alloc);
+    let mut reply = Reply::new(&mut text);
+    reply.tell(b"no ");
+    tell_named(&mut reply, reason);
+    reply.tell(b"\n");
+    match reply.finish() {
+        Ok(()) => Ok(text),
+        Err(_) => Err(Refusal::OutOfMemory),
     }
 }

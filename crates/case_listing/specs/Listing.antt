@@ -1,6 +1,7 @@
 -- The list of the cases of an archive.
 use Rattle.std.specs.Prelude.{◌≡◌, ◌==◌, ◌||◌, ℕ, Bool, true, false, is_some, not, List, [], ◌∷◌, ◌++◌, length, Option, None, Some, Result, Ok, Err, IfOk}
 use Rattle.std.specs.Io.KnownBytes.{Appends}
+use Rattle.std.specs.List.{flat_map}
 use Rattle.std.specs.Option.{option_copied}
 use Rattle.archive_files.specs.declared.failures.Failure.{Failure}
 use Rattle.archive_files.specs.declared.failures.Failure.TheVariants.{Refused}
@@ -8,6 +9,7 @@ use Rattle.archive_files.specs.declared.failures.Refusal.TheVariants.{Open}
 use Rattle.case_listing.specs.declared.listing.ListWords.{ListWords}
 use Rattle.case_tables.specs.Filters.{SaysTime}
 use Rattle.case_tables.specs.Json.{cases_json}
+use Rattle.case_tables.specs.Lines.{case_line}
 use Rattle.case_tables.specs.Order.{IsShown}
 use Rattle.case_tables.specs.Table.{list_table}
 use Rattle.case_tables.specs.Wanted.{chosen}
@@ -45,6 +47,22 @@ ListsBy is_json wanted before after (Err (fault, d)) r = (r ≡ Err (Refused (Op
 abbrev pub ListsOn : {D : Type 0} → disk.Ghosts D → Bool → Wanted → Option (List ℕ) → Option (List ℕ) → D → Result Bool Failure → Type 0
 ListsOn {D} g is_json wanted before after before_disk r =
     (opened : Result (Parts D) (OpenFault × D)) × OpenCall g 0 before_disk opened × ListsBy is_json wanted before after opened r
+
+-- The wanted cases are printed as lines of JSON, in their order; and whether there are any.
+pub record ListsLines (wanted : Wanted) (cases : List Case) (before after : Option (List ℕ)) (some : Bool) : Type 0 where
+  pub shown : List Case
+  pub in_order : IsShown wanted.order (chosen wanted cases) shown
+  pub told : Appends before after (flat_map case_line shown)
+  pub some_is : some ≡ not (length (chosen wanted cases) == 0)
+
+abbrev pub ListsLinesBy : {D : Type 0} → Wanted → Option (List ℕ) → Option (List ℕ) → Result (Parts D) (OpenFault × D) → Result Bool Failure → Type 0
+ListsLinesBy wanted before after (Ok a) r = IfOk r (ListsLines wanted (state_of a).cases before after)
+ListsLinesBy wanted before after (Err (fault, d)) r = (r ≡ Err (Refused (Open fault))) × (after ≡ before)
+
+-- The archive on a disk is opened, and its cases are printed so.
+abbrev pub ListsLinesOn : {D : Type 0} → disk.Ghosts D → Wanted → Option (List ℕ) → Option (List ℕ) → D → Result Bool Failure → Type 0
+ListsLinesOn {D} g wanted before after before_disk r =
+    (opened : Result (Parts D) (OpenFault × D)) × OpenCall g 0 before_disk opened × ListsLinesBy wanted before after opened r
 
 -- the text of a filter is a time, if there is such a text
 abbrev pub IsTimeSaid : Option ℕ → Option (List ℕ) → Option ℕ → Type 0

@@ -9,5 +9,5 @@ mod plain;
 
 pub use case_words::{NamedLine, ask_case, extract_case, find_case, latest_time, named_question};
 pub use foreseen::{foreseen_by, would_retire};
-pub use listing::{ListWords, list, list_over};
+pub use listing::{ListWords, list, list_lines_over, list_over};
 pub use plain::ask_plain;

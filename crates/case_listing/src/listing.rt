@@ -5,10 +5,10 @@ ghost use Rattle.std.specs.Option.{option_copied};
 ghost use Rattle.case_tables.specs.Wanted.{chosen};
 ghost use Rattle.intake.specs.Parts.{state_of};
 ghost use Rattle.journal_layout.specs.Case.{case_of};
-ghost use Rattle.case_listing.specs.Listing.{IsTimeSaid, IsWantedAt, Lists, ListsOn, TellsJson, TellsTable, picks};
+ghost use Rattle.case_listing.specs.Listing.{IsTimeSaid, IsWantedAt, Lists, ListsLines, ListsLinesOn, ListsOn, TellsJson, TellsTable, picks};
 
 use archive_files::{ArchivePath, Failure, Refusal, take_look};
-use case_tables::{Wanted, list_json, read_time, tell_list};
+use case_tables::{Wanted, list_json, read_time, tell_list, tell_list_lines};
 use disk_model::Disk;
 use inspector_cli::SessionFault;
 use intake::{Archive, Settings};
@@ -30,6 +30,8 @@ pub struct ListWords<'a> {
     pub until: Option<&'a str>,
     /// They are printed as JSON.
     pub is_json: bool,
+    /// They are printed as JSON, each in a line of its own.
+    pub by_lines: bool,
 }
 
 impl<'a> ListWords<'a> {
@@ -95,7 +97,11 @@ pub fn list<R: AllocGlobal + Files<File = File> + Clock, O: Output>(
     let looked = take_look(rt, place)?;
     let alloc = rt.alloc();
     let disk = looked.unlocked(Vec::new(alloc));
-    let some = list_over(alloc, disk, &wanted, words.is_json, output)?;
+    let some = if words.by_lines {
+        list_lines_over(alloc, disk, &wanted, output)?
+    } else {
+        list_over(alloc, disk, &wanted, words.is_json, output)?
+    };
     if some || !words.picks() {
         Ok(())
     } else {
@@ -120,6 +126,40 @@ pub fn list_over<D: Disk + Drop, O: Output>(
     match Archive::open(alloc, disk, Settings { limit: 0 }) {
         Ok(archive) => list_archive(alloc, &archive, wanted, is_json, output),
         Err((fault, _)) => Err(Failure::Refused(Refusal::Open(fault))),
+    }
+}
+
+/// Opens the archive on a disk, and prints the wanted cases as lines of JSON. Returns whether there are any.
+///
+/// # Errors
+///
+/// What an opening is refused for. `OutOfMemory`: some lines may be printed. `WriteFailed` if the lines could not be written.
+pub fn list_lines_over<D: Disk + Drop, O: Output>(
+    alloc: Global,
+    disk: D,
+    wanted: &Wanted<'_>,
+    output: &mut O,
+) -> Result<bool, Failure>
+    ensures { ListsLinesOn D.Disk wanted.now (O.taken output.old) (O.taken output.new) disk result }
+{
+    match Archive::open(alloc, disk, Settings { limit: 0 }) {
+        Ok(archive) => list_lines(alloc, &archive, wanted, output),
+        Err((fault, _)) => Err(Failure::Refused(Refusal::Open(fault))),
+    }
+}
+
+fn list_lines<D: Disk, O: Output>(
+    alloc: Global,
+    archive: &Archive<D>,
+    wanted: &Wanted<'_>,
+    output: &mut O,
+) -> Result<bool, Failure>
+    requires runs { archive.now.stopped ≡ false }
+    ensures { IfOk result (ListsLines wanted.now (state_of archive.now).cases (O.taken output.old) (O.taken output.new)) }
+{
+    match archive.cases() {
+        Ok(cases) => tell_lines(alloc, cases, wanted, output),
+        Err(fault) => Err(Failure::Refused(Refusal::Call(fault))),
     }
 }
 
@@ -155,6 +195,22 @@ fn tell_table<O: Output>(
 {
     let mut reply = Reply::new(output);
     let some = tell_list(alloc, &mut reply, cases, wanted)?;
+    match reply.finish() {
+        Ok(()) => Ok(some),
+        Err(_) => Err(Failure::Faulted(SessionFault::WriteFailed)),
+    }
+}
+
+fn tell_lines<O: Output>(
+    alloc: Global,
+    cases: &[Entry],
+    wanted: &Wanted<'_>,
+    output: &mut O,
+) -> Result<bool, Failure>
+    ensures { IfOk result (ListsLines wanted.now (map case_of cases.now) (O.taken output.old) (O.taken output.new)) }
+{
+    let mut reply = Reply::new(output);
+    let some = tell_list_lines(alloc, &mut reply, cases, wanted)?;
     match reply.finish() {
         Ok(()) => Ok(some),
         Err(_) => Err(Failure::Faulted(SessionFault::WriteFailed)),

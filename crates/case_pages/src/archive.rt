@@ -1,12 +1,16 @@
 // What is shown of an archive.
 use crate::groups::put_groups;
+use crate::plot::put_plot;
 use crate::texts::{open, put, put_decimal, put_time};
-use case_screens::{Tally, tally_of};
+use archive_screens::tally_of;
 use group_tables::GroupRow;
 use html_pages::{Page, Tag};
-use journal_layout::Entry;
+use journal_layout::{Entry, Kind};
 use std::alloc::{AllocError, Global};
 use std::collections::BTreeSet;
+
+// The first second of the year 2000.
+const FIRST_TIME: u64 = 946_684_800;
 
 /// What is known of an archive.
 #[derive(Clone, Copy)]
@@ -15,11 +19,11 @@ pub struct PagedArchive<'p, 'a> {
     pub cases: &'p [Entry],
     /// The groups of its cores.
     pub rows: &'p [GroupRow<'a>],
-    /// The latest time that counts, in seconds since the epoch.
+    /// The latest time that counts, in seconds since the epoch: see `latest_of`.
     pub latest: u64,
 }
 
-/// Puts what is known of an archive: how much there is of what, and a row for each of its first groups. The numbers are those of the cases
+/// Puts what is known of an archive: how much there is of what, when its cores came, and a row for each of its first groups. The numbers are those of the cases
 /// that come on the page.
 ///
 /// # Errors
@@ -32,7 +36,7 @@ pub fn put_archive(
     numbers: &[u32],
 ) -> Result<(), AllocError> {
     let tally = tally_of(archive.cases);
-    put_range(page, &tally);
+    put_range(page, archive.cases, archive.latest);
     let programs = program_count(alloc, archive.rows)?;
     let hosts = host_count(alloc, archive.rows)?;
     open(page, Tag::Ul, "tiles");
@@ -43,15 +47,33 @@ pub fn put_archive(
     put_tile(page, tally.executables, b"stored executables");
     page.close();
     page.close();
-    put_groups(alloc, page, archive.rows, archive.latest, numbers)
+    let bars = put_plot(alloc, page, archive.rows, tally.cores, archive.latest)?;
+    put_groups(alloc, page, archive.rows, archive.latest, bars, numbers)
 }
 
-fn put_range(page: &mut Page, tally: &Tally) {
+// Puts the first and the last of the times of cores that count.
+fn put_range(page: &mut Page, cases: &[Entry], latest: u64) {
+    let mut first = 0;
+    let mut last = 0;
+    for case in cases {
+        if is_counted(case, latest) {
+            first = if first == 0 {
+                case.time
+            } else {
+                case.time.min(first)
+            };
+            last = case.time.max(last);
+        }
+    }
     open(page, Tag::P, "dim");
-    put_time(page, tally.oldest);
+    put_time(page, first);
     page.text(b" to ");
-    put_time(page, tally.newest);
+    put_time(page, last);
     page.close();
+}
+
+fn is_counted(case: &Entry, latest: u64) -> bool {
+    case.kind == Kind::Core && FIRST_TIME <= case.time && case.time <= latest
 }
 
 fn put_tile(page: &mut Page, count: u64, text: &[u8]) {

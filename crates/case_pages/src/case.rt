@@ -2,8 +2,11 @@
 use crate::cause::put_cause;
 use crate::files::put_files;
 use crate::frames::put_first_frames;
+use crate::map::put_map;
+use crate::memory::memory_of;
 use crate::missing::put_missing;
 use crate::registers::put_registers;
+use crate::stack::put_stack;
 use crate::texts::{
     base_of, class, open, put, put_decimal, put_hexadecimal, put_more, put_signed, put_size,
     put_text, put_time,
@@ -15,13 +18,15 @@ use elf_view::{ElfFault, Header};
 use group_tables::GroupRow;
 use html_pages::{Attribute, AttributeName, Page, Tag, Value};
 use journal_layout::Entry;
+use memory_replies::Window;
 use script_streams::Reply;
 use std::alloc::{AllocError, Global};
 
 // How many cores like it are named at most.
 const LIKES: usize = 24;
 
-/// Puts what is known of a case, of the cases of its archive, and of its group, if it has one.
+/// Puts what is known of a case, of the cases of its archive, and of its group, if it has one. The window has those bytes of its image that are at
+/// the addresses of `stack_of`.
 ///
 /// # Errors
 ///
@@ -32,6 +37,7 @@ pub fn put_case(
     case: &Entry,
     cases: &[Entry],
     answers: &CaseAnswers<'_, '_>,
+    window: Window<'_>,
     row: Option<&GroupRow<'_>>,
 ) -> Result<(), AllocError> {
     page.open(
@@ -45,7 +51,7 @@ pub fn put_case(
         ],
     );
     match answers {
-        CaseAnswers::Core(answers) => put_core(alloc, page, case, cases, answers, row)?,
+        CaseAnswers::Core(answers) => put_core(alloc, page, case, cases, answers, window, row)?,
         CaseAnswers::Exec(header) => put_exec(page, case, header),
     }
     page.close();
@@ -58,10 +64,11 @@ fn put_core(
     case: &Entry,
     cases: &[Entry],
     answers: &CoreAnswers<'_, '_>,
+    window: Window<'_>,
     row: Option<&GroupRow<'_>>,
 ) -> Result<(), AllocError> {
     page.open(Tag::Header, &[]);
-    put_name(page, case, program_of(case, row));
+    put_name(page, case, program_of(case, answers, row));
     put_cause(page, case.signal, &answers.core);
     open(page, Tag::Dl, "facts");
     begin_fact(page, b"When");
@@ -73,18 +80,49 @@ fn put_core(
     page.close();
     put_first_frames(page, answers);
     put_threads(alloc, page, answers)?;
-    put_registers(page, answers);
+    put_memory(alloc, page, answers, window)?;
     put_files(page, cases, answers);
     put_missing(page, case, answers);
     put_likes(page, case.seq, row);
     Ok(())
 }
 
-// The name of the program of a core: that of its group, or that of its case.
-fn program_of<'n>(case: &'n Entry, row: Option<&'n GroupRow<'_>>) -> &'n [u8] {
-    match row {
-        Some(row) => base_of(&row.crash.program),
+// Puts the memory of a core: its map, and the registers and the stack of the thread that dumped.
+fn put_memory(
+    alloc: Global,
+    page: &mut Page,
+    answers: &CoreAnswers<'_, '_>,
+    window: Window<'_>,
+) -> Result<(), AllocError> {
+    let Ok(core) = &answers.core else {
+        return Ok(());
+    };
+    let memory = memory_of(alloc, core)?;
+    put_map(alloc, page, &memory)?;
+    put_registers(page, answers, &memory);
+    put_stack(alloc, page, answers, &memory, window)
+}
+
+// The name of the program of a core: that of its group, of its process, or of its case.
+fn program_of<'n>(
+    case: &'n Entry,
+    answers: &CoreAnswers<'_, 'n>,
+    row: Option<&'n GroupRow<'_>>,
+) -> &'n [u8] {
+    if let Some(row) = row {
+        return base_of(&row.crash.program);
+    }
+    match process_of(answers) {
+        Some(process) => process.pr_fname(),
         None => case.name.as_slice(),
+    }
+}
+
+// The process of a core, as its notes have it.
+fn process_of<'a>(answers: &CoreAnswers<'_, 'a>) -> Option<PsInfo<'a>> {
+    match &answers.core {
+        Ok(core) => core.notes().psinfo(),
+        Err(_) => None,
     }
 }
 
@@ -112,10 +150,7 @@ fn end_fact(page: &mut Page) {
 }
 
 fn put_process(page: &mut Page, case: &Entry, answers: &CoreAnswers<'_, '_>) {
-    let process = match &answers.core {
-        Ok(core) => core.notes().psinfo(),
-        Err(_) => None,
-    };
+    let process = process_of(answers);
     begin_fact(page, b"Process");
     match &process {
         Some(process) => put_numbers(page, process),

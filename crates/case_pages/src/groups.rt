@@ -1,4 +1,6 @@
 // The groups of cores that crashed alike.
+use crate::span::Span;
+use crate::spark::put_spark;
 use crate::texts::{open, put, put_decimal, put_looking, put_more, put_signal, put_text, put_time};
 use crash_signatures::{Signature, Word};
 use group_tables::{GroupRow, certain_count, labels_of, last_time, newest, perhaps_count};
@@ -11,12 +13,13 @@ const MOST: usize = 40;
 // How many labels of a group are shown at most.
 const LABELS: usize = 2;
 
-// Puts a row for each of the first groups.
+// Puts a row for each of the first groups. It shows when the group's cores came by the bars of the plot, if there is one.
 pub(crate) fn put_groups(
     alloc: Global,
     page: &mut Page,
     rows: &[GroupRow<'_>],
     latest: u64,
+    span: Option<Span>,
     numbers: &[u32],
 ) -> Result<(), AllocError> {
     page.open(Tag::Section, &[]);
@@ -34,7 +37,7 @@ pub(crate) fn put_groups(
     page.open(Tag::Tbody, &[]);
     let (first, others) = rows.split_at(rows.len().min(MOST));
     for row in first {
-        put_row(alloc, page, row, latest, numbers)?;
+        put_row(alloc, page, row, latest, span, numbers)?;
     }
     page.close();
     page.close();
@@ -56,6 +59,7 @@ fn put_headings(page: &mut Page) {
     page.open(Tag::Thead, &[]);
     page.open(Tag::Tr, &[]);
     put(page, Tag::Th, b"Cores");
+    put(page, Tag::Th, b"When");
     put(page, Tag::Th, b"Last");
     put(page, Tag::Th, b"Signal and program");
     put(page, Tag::Th, b"Frames, innermost first");
@@ -70,11 +74,17 @@ fn put_row(
     page: &mut Page,
     row: &GroupRow<'_>,
     latest: u64,
+    span: Option<Span>,
     numbers: &[u32],
 ) -> Result<(), AllocError> {
     let labels = labels_of(alloc, &row.members)?;
     page.open(Tag::Tr, &[]);
     put_count(page, row);
+    page.open(Tag::Td, &[]);
+    if let Some(span) = span {
+        put_spark(alloc, page, row, latest, span)?;
+    }
+    page.close();
     open(page, Tag::Td, "time");
     put_time(page, last_time(latest, &row.members));
     page.close();
@@ -138,7 +148,7 @@ pub(crate) fn put_separator(page: &mut Page, at: usize) {
 fn put_word(page: &mut Page, word: &Word) {
     open(
         page,
-        Tag::Span,
+        Tag::Code,
         if word.is_mark { "tok mark" } else { "tok" },
     );
     put_text(page, word.text.as_slice());

@@ -1,15 +1,20 @@
 // The registers of the thread that dumped.
-use crate::texts::{base_of, open, put, put_hexadecimal, put_signed, put_text};
-use case_screens::{CoreAnswers, map_at};
-use core_notes::Files;
+use crate::memory::{Memory, Use};
+use crate::texts::{open, put, put_hexadecimal, put_key, put_signed, put_text};
+use case_screens::CoreAnswers;
 use html_pages::{Page, Tag};
 use thread_regs::{Reg, Thread, threads};
 
 // How many words a thread's state has: pc, and x1 to x31.
 const WORDS: usize = 32;
 
-// Puts the registers, and the file that is mapped where a register points.
-pub(crate) fn put_registers(page: &mut Page, answers: &CoreAnswers<'_, '_>) {
+// The words of pc and sp.
+const PC: usize = 0;
+
+const SP: usize = 2;
+
+// Puts the registers, each with the colour and the name of the mapping that it points into.
+pub(crate) fn put_registers(page: &mut Page, answers: &CoreAnswers<'_, '_>, memory: &Memory<'_>) {
     let Ok(core) = &answers.core else {
         return;
     };
@@ -22,34 +27,50 @@ pub(crate) fn put_registers(page: &mut Page, answers: &CoreAnswers<'_, '_>) {
     page.text(b" of thread ");
     put_signed(page, i64::from(thread.tid()));
     page.close();
+    put_key(page);
     page.close();
     open(page, Tag::Dl, "regs");
     for word in 0..WORDS {
-        put_register(page, core.notes().files(), &thread, Reg::of_word(word));
+        let marked = word == PC || word == SP;
+        put_register(page, &thread, Reg::of_word(word), marked, memory);
     }
     page.close();
 }
 
-fn put_register(page: &mut Page, files: Option<Files<'_>>, thread: &Thread<'_>, register: Reg) {
+fn put_register(
+    page: &mut Page,
+    thread: &Thread<'_>,
+    register: Reg,
+    marked: bool,
+    memory: &Memory<'_>,
+) {
     let value = thread.register(register);
-    let file = match files {
-        Some(files) => map_at(files.maps(), value),
-        None => None,
-    };
-    open(
-        page,
-        Tag::Div,
-        if file.is_some() { "reg k-code" } else { "reg" },
-    );
+    let target = memory.at(value);
+    let purpose = target.map(|mapping| memory.use_of(mapping));
+    open(page, Tag::Div, look_of(purpose, marked));
     put(page, Tag::Dt, register.name().as_bytes());
     page.open(Tag::Dd, &[]);
     put_hexadecimal(page, value);
-    if let Some(map) = file {
+    if let Some(mapping) = target {
         page.text(b" ");
         open(page, Tag::Span, "into");
-        put_text(page, base_of(map.name));
+        put_text(page, memory.name_of(mapping));
         page.close();
     }
     page.close();
     page.close();
+}
+
+// How a register looks that points there. Those of the place where the thread was are marked.
+fn look_of(purpose: Option<Use>, marked: bool) -> &'static str {
+    match (purpose, marked) {
+        (None, false) => "reg",
+        (None, true) => "reg now",
+        (Some(Use::Stack), false) => "reg k-stack",
+        (Some(Use::Stack), true) => "reg k-stack now",
+        (Some(Use::Code), false) => "reg k-code",
+        (Some(Use::Code), true) => "reg k-code now",
+        (Some(_), false) => "reg k-data",
+        (Some(_), true) => "reg k-data now",
+    }
 }

@@ -45,6 +45,45 @@ pub(crate) fn put_text(page: &mut Page, text: &[u8]) {
     }
 }
 
+// How many characters a name has at most where there is little room.
+const ROOM: usize = 30;
+
+// Puts the first bytes of a text, as many as there is room for.
+pub(crate) fn put_front(page: &mut Page, text: &[u8]) {
+    let (shown, rest) = text.split_at(fitting(text).min(text.len()));
+    page.text(shown);
+    if !rest.is_empty() {
+        page.text(b"..");
+    }
+}
+
+// How many first bytes of a text fit: a byte that doesn't print takes four characters.
+fn fitting(text: &[u8]) -> usize {
+    let mut room = ROOM;
+    for (at, byte) in text.iter().enumerate() {
+        let width = if 32 <= *byte && *byte <= 126 { 1 } else { 4 };
+        if width > room {
+            return at;
+        }
+        room -= width;
+    }
+    text.len()
+}
+
+// Puts what the colours of words mean.
+pub(crate) fn put_key(page: &mut Page) {
+    open(page, Tag::Span, "key");
+    put_colour(page, "k-code", b"code ");
+    put_colour(page, "k-stack", b"stack ");
+    put_colour(page, "k-data", b"data");
+    page.close();
+}
+
+fn put_colour(page: &mut Page, look: &'static str, text: &[u8]) {
+    put_looking(page, Tag::I, look, b"");
+    page.text(text);
+}
+
 // Puts how many more there are.
 pub(crate) fn put_more(page: &mut Page, count: usize) {
     page.text(b"and ");

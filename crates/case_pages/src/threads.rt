@@ -128,7 +128,7 @@ fn put_chain(page: &mut Page, files: Option<Files<'_>>, frames: &[FrameAnswer<'_
     let (first, others) = frames.split_at(frames.len().min(FRAMES));
     for (at, frame) in first.iter().enumerate() {
         put_separator(page, at);
-        open(page, Tag::Span, "tok");
+        open(page, Tag::Code, "tok");
         put_frame(page, files, frame);
         page.close();
     }

@@ -45,7 +45,7 @@ module _ {D : Type 0} (g : disk.Ghosts D) (now : Parts D) (only : (c : List ℕ)
       (Ok image, now, seen_again x.0 image (own_still g old now x.0 image all looks.own), inr (Ok list, more list collects, is))
   one_again old mid new x xs image views (Err f) more looks leaves collects is = absurd (given_not views f is)
 
-  again : (old new : Parts D) (xs : List Wanted) (views : List ExecutableView) → Leaves g new now → Collects g old xs (Ok views) new → Collects g now xs (Ok views) now
+  pub again : (old new : Parts D) (xs : List Wanted) (views : List ExecutableView) → Leaves g new now → Collects g old xs (Ok views) new → Collects g now xs (Ok views) now
   again old new [] views leaves collects = (collects.0, refl)
   again old new (x ∷ xs) views leaves (Ok image, mid, looks, more) =
       ⊎_elim

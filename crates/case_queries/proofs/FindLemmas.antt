@@ -253,7 +253,7 @@ module _ {D : Type 0} (g : disk.Ghosts D) (only : (d : D) (c : List ℕ) → g.l
       more
   collects_all old new (x ∷ xs) views (Err f, mid, looks, more) = absurd (given_not views f more.0)
 
-  gathered_all : (old new : Parts D) (xs : List Wanted) (views : List ExecutableView) → CollectsAll g old xs (Ok views) new → LeavesAll g old new
+  pub gathered_all : (old new : Parts D) (xs : List Wanted) (views : List ExecutableView) → CollectsAll g old xs (Ok views) new → LeavesAll g old new
   gathered_all old new xs views all = ⊎_elim (λ short. absurd (given_not views _ short.0)) (λ collects. collects_all old new xs views collects) all
 
   pub still_front : (before mid new : Parts D) (seq : ℕ) (front : List ℕ) (xs : List Wanted) (views : List ExecutableView) → ReadsFront g before seq front mid → CollectsAll g mid xs (Ok views) new → ReadsFront g before seq front new

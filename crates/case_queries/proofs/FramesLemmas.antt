@@ -1,5 +1,5 @@
 -- What is shown of the frames of a thread of a core that is read piece by piece.
-use Rattle.std.proofs.Common.{◌≡◌, ◌≤◌, inl, inr, ℕ, ◌-◌, List, [], ◌++◌, take, length, map, replicate, Option, None, Some, Ok, Err, refl, ap, sym, subst, ◌∙◌, arith}
+use Rattle.std.proofs.Common.{◌≡◌, ◌≤◌, inl, inr, ℕ, ◌-◌, List, [], ◌++◌, take, length, replicate, Option, None, Some, Ok, Err, refl, ap, sym, subst, ◌∙◌, arith}
 use Rattle.std.specs.Prelude.{codes, slice_get}
 use Rattle.std.proofs.lemmas.List.{length-append, length-replicate}
 use Rattle.std.proofs.Math.Seq.{take-append_seam}
@@ -16,10 +16,9 @@ use Rattle.address_space.specs.Whole.{IsFrontOf}
 use Rattle.build_replies.specs.Builds.{NamedId, told_of, told_or_none}
 use Rattle.build_replies.specs.Choosing.{choice_for, choice_of}
 use Rattle.build_replies.specs.ChoosingWords.{choice_view}
-use Rattle.build_replies.specs.Mapped.{id_view, told_view}
+use Rattle.build_replies.specs.Mapped.{told_view}
 use Rattle.build_replies.specs.ToldLaws.{told_all}
 use Rattle.build_replies.specs.declared.choosing.ChosenExecutables.{ChosenExecutables}
-use Rattle.build_replies.specs.declared.ids.FrontId.{FrontId}
 use Rattle.frame_replies.specs.Processes.{start_by, start_of, state_of as thread_state}
 use Rattle.frame_replies.specs.Walking.{BeginsAt, IsProcessOf, IsWalkOf}
 use Rattle.frame_replies.specs.WalkLaws.{frame_missing, unwind_missing, walk_begins}
@@ -31,7 +30,7 @@ use Rattle.memory_replies.specs.declared.outcome.Outcome.{Outcome}
 use Rattle.script_streams.specs.Replies.{Telling, TellsOutcome, TellsReply, no_reply, reply_of}
 use Rattle.case_queries.specs.Asking.{for_frames, frames_answer}
 use Rattle.case_queries.specs.Finding.{found_reply}
-use Rattle.case_queries.specs.ToldWords.{IsToldBy, ShowsTold}
+use Rattle.case_queries.specs.ToldWords.{IsToldBy, ShowsTold, files_told}
 use Rattle.case_queries.specs.declared.told.ToldFiles.{ToldFiles}
 use Rattle.case_queries.specs.Fronts.{HasSize, IsSoundFront, ReadsFront}
 use Rattle.case_queries.specs.Pieces.{BeginsWith, FindsFrames, SeesPieces}
@@ -62,11 +61,10 @@ no_thread t image xs None none = ap reply_of (unwind_missing image xs t none)
 no_thread t image xs (Some i) none = ap reply_of (frame_missing image xs t none i)
 
 -- what is chosen for the files that an image tells is what is chosen for the core
-chosen_for : (xs : List ExecutableView) (image : List ℕ) (told : ToldFiles) (files : List FrontId) (c : ChosenExecutables) → map id_view files ≡ told_or_none (told_view told.files) → choice_view c ≡ choice_of (map id_view files) xs → told_of image ≡ told_view told.files
+chosen_for : (xs : List ExecutableView) (image : List ℕ) (told : ToldFiles) (c : ChosenExecutables) → choice_view c ≡ choice_of (files_told told) xs → told_of image ≡ told_view told.files
     → choice_view c ≡ choice_for image xs
 unfolding choice_for
-chosen_for xs image told files c listed chosen is =
-    chosen ∙ ap (λ (ts : List NamedId). choice_of ts xs) (listed ∙ sym (told_all image ∙ ap told_or_none is))
+chosen_for xs image told c chosen is = chosen ∙ ap (λ (ts : List NamedId). choice_of ts xs) (sym (told_all image ∙ ap told_or_none is))
 
 module _ (notes : NotesLaw) (o : CaseImage) (sound : IsSoundFront Core o.front.now) (t : ℕ) where
   -- the first bytes have the threads
@@ -80,11 +78,11 @@ module _ (notes : NotesLaw) (o : CaseImage) (sound : IsSoundFront Core o.front.n
       enough_shows start_of (λ b n whole fine. ap (λ (ns : List NoteView). start_by (first_desc 6 ns)) (notes Core b n whole fine)) o.front.now image (inr (front.1, sound))
 
   -- a walk that begins
-  pub begins_of : FilesLaw → (xs : List ExecutableView) (told : ToldFiles) (files : List FrontId) (c : ChosenExecutables) (w : frames.Walk) → IsToldBy o told → map id_view files ≡ told_or_none (told_view told.files) → choice_view c ≡ choice_of (map id_view files) xs
+  pub begins_of : FilesLaw → (xs : List ExecutableView) (told : ToldFiles) (c : ChosenExecutables) (w : frames.Walk) → IsToldBy o told → choice_view c ≡ choice_of (files_told told) xs
       → BeginsAt (thread_state o.front.now t) w → (image : List ℕ) (p : UnwoundProcess) → BeginsWith o told.pieces.items image → IsProcessOf o.front.now (choice_view c) p → IsWalkOf image xs t p w
-  begins_of law xs told files c w by listed chosen begins image p has own =
+  begins_of law xs told c w by chosen begins image p has own =
       let front = has.0 in
-      walk_begins o.front.now image xs (choice_view c) t p w own (chosen_for xs image told files c listed chosen (by.told image has)) (enough_shows _ law o.front.now image (inr (front.1, sound))) (start_same image front) (state_same image front) begins
+      walk_begins o.front.now image xs (choice_view c) t p w own (chosen_for xs image told c chosen (by.told image has)) (enough_shows _ law o.front.now image (inr (front.1, sound))) (start_same image front) (state_same image front) begins
 
   -- a thread that is not there
   pub missing_in : (image : List ℕ) → IsFrontOf o.front.now o.size image → thread_state o.front.now t ≡ None → thread_state image t ≡ None

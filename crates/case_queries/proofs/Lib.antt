@@ -17,3 +17,4 @@ pub mod FactLemmas
 pub mod ToldLemmas
 pub mod GatherLemmas
 pub mod SymbolLemmas
+pub mod ExecutableLemmas

@@ -18,3 +18,6 @@ pub mod Facts
 pub mod ToldWords
 pub mod Finding
 pub mod Stored
+pub mod Preparing
+pub mod Executables
+pub mod ExecutableWords

@@ -7,11 +7,14 @@ ghost use Rattle.memory_replies.specs.FileNameWords.{AreNamesOf};
 ghost use Rattle.memory_replies.specs.Memory.{attached_view};
 ghost use Rattle.build_replies.specs.Builds.{told_or_none};
 ghost use Rattle.build_replies.specs.BuildsWords.{numbered_view};
+ghost use Rattle.build_replies.specs.Choosing.{choice_of};
+ghost use Rattle.build_replies.specs.ChoosingWords.{choice_view};
 ghost use Rattle.build_replies.specs.Mapped.{id_view, told_view};
 ghost use Rattle.build_replies.specs.NameWords.{names_in};
 ghost use Rattle.case_queries.specs.Collecting.{Collects, CollectsAll, Wanted, debugs_by, is_named_by, is_wanted, named_by, own_debugs, wanted_by, wanted_of};
 ghost use Rattle.case_queries.specs.CollectingWords.{executable_view, collected_view, read_as, wanted_view};
 ghost use Rattle.case_queries.specs.Keeping.{StayCollected};
+ghost use Rattle.case_queries.specs.ToldWords.{files_told};
 
 use crate::kept_image::see_image;
 use crate::told::ToldFiles;
@@ -233,7 +236,7 @@ fn is_read(executable: &StoredExecutable, case: &WantedCase) -> bool
 }
 
 // Whether those that are kept are these cases.
-fn are_read(executables: &[StoredExecutable], wanted: &[WantedCase]) -> bool
+pub(crate) fn are_read(executables: &[StoredExecutable], wanted: &[WantedCase]) -> bool
     ensures { IsTrue result → map read_as executables.now ≡ map wanted_view wanted.now }
 {
     if executables.len() != wanted.len() {
@@ -296,7 +299,8 @@ pub fn stored_executables<D: Disk>(
     archive: &mut Archive<D>,
 ) -> Result<Vec<StoredExecutable>, ArchiveFault>
     requires { archive.old.stopped ≡ false }
-    ensures { CollectsAll D.Disk archive.old (wanted_by (told_or_none (told_view told.now.files)) (state_of archive.old).cases) (collected_view result) archive.new }
+    ensures collects { CollectsAll D.Disk archive.old (wanted_by (told_or_none (told_view told.now.files)) (state_of archive.old).cases) (collected_view result) archive.new }
+    ensures are { IfOk result (λ v. map read_as v.items ≡ wanted_by (told_or_none (told_view told.now.files)) (state_of archive.old).cases) }
 {
     let wanted = wanted_by_build(alloc, listed(&told.files), archive);
     collect(alloc, wanted, None, archive)
@@ -315,7 +319,8 @@ pub fn stored_debug_files<D: Disk>(
     archive: &mut Archive<D>,
 ) -> Result<Vec<StoredExecutable>, ArchiveFault>
     requires { archive.old.stopped ≡ false }
-    ensures { CollectsAll D.Disk archive.old (debugs_by (told_or_none (told_view told.now.files)) (map executable_view executables.now) (state_of archive.old).cases) (collected_view result) archive.new }
+    ensures collects { CollectsAll D.Disk archive.old (debugs_by (told_or_none (told_view told.now.files)) (map executable_view executables.now) (state_of archive.old).cases) (collected_view result) archive.new }
+    ensures are { IfOk result (λ v. map read_as v.items ≡ debugs_by (told_or_none (told_view told.now.files)) (map executable_view executables.now) (state_of archive.old).cases) }
 {
     let wanted = wanted_debugs(alloc, listed(&told.files), executables, archive);
     collect(alloc, wanted, None, archive)
@@ -386,6 +391,25 @@ pub(crate) fn lent<'a>(
         })?;
     }
     Ok(LentExecutables { attached, cases })
+}
+
+/// Of the executables that are stored for the mapped files of a core, and of their debug files, those that are used, each under the name of
+/// its mapped file.
+///
+/// # Errors
+///
+/// There is no memory for the lists of them.
+pub fn chosen_executables<'a>(
+    alloc: Global,
+    told: &ToldFiles<'a>,
+    executables: &'a [StoredExecutable],
+    debug_files: &'a [StoredExecutable],
+) -> Result<ChosenExecutables<'a>, AllocError>
+    ensures are { IfOk result (λ chosen. choice_view chosen ≡ choice_of (files_told told.now) (map executable_view executables.now ++ map executable_view debug_files.now)) }
+{
+    let lent = lent_with(alloc, executables, debug_files)?;
+    let chosen = ChosenExecutables::of(alloc, listed(&told.files), &lent.attached)?;
+    Ok(chosen)
 }
 
 // Executables and debug files, lent.

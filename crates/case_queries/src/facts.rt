@@ -3,26 +3,28 @@ ghost use Rattle.std.specs.Prelude.{◌≡◌, ◌≤◌, ◌++◌, ℕ, List, I
 ghost use Rattle.address_space.specs.Source.{ExecutableView};
 ghost use Rattle.address_space.specs.SpaceWords.{core_of};
 ghost use Rattle.build_replies.specs.Builds.{NamedId, told_of};
+ghost use Rattle.build_replies.specs.Choosing.{choice_of};
+ghost use Rattle.build_replies.specs.ChoosingWords.{choice_view};
 ghost use Rattle.build_replies.specs.Mapped.{told_view};
 ghost use Rattle.elf_view.specs.declared.faults.Want.TheVariants.{Core};
 ghost use Rattle.frame_replies.specs.FrameValues.{frames_of, frames_view};
 ghost use Rattle.image_replies.specs.CoreWords.{core_bytes};
 ghost use Rattle.intake.specs.Parts.{Parts, state_of};
-ghost use Rattle.memory_replies.specs.Memory.{attached_view};
 ghost use Rattle.std.specs.Option.{option_map};
 ghost use Rattle.case_queries.specs.CollectingWords.{executable_view};
 ghost use Rattle.case_queries.specs.Facts.{AreFramesOf, AreOfThread, SaysFacts};
 ghost use Rattle.case_queries.specs.Fronts.{HasSize, IsSoundFront};
 ghost use Rattle.case_queries.specs.Pieces.{BeginsWith, SeesPieces};
-ghost use Rattle.case_queries.specs.ToldWords.{IsToldBy};
+ghost use Rattle.case_queries.specs.Preparing.{AreChosenFor, prepared_views};
+ghost use Rattle.case_queries.specs.ToldWords.{IsToldBy, files_told};
 ghost use Rattle.case_queries.specs.Unwound.{BeginsWalks};
 
-use crate::collect_executables::{StoredExecutable, lent_with};
+use crate::collect_executables::StoredExecutable;
 use crate::frames::{UnwoundCore, process_in_core, walk_thread};
+use crate::prepared::PreparedExecutables;
 use crate::told::ToldFiles;
 use crate::walk::{CaseImage, WalkFault};
-use address_space::Attached;
-use build_replies::{BuildAnswer, build_answers};
+use build_replies::{BuildAnswer, ChosenExecutables, build_answers, listed};
 use disk_model::Disk;
 use elf_view::a_sound_front_is_enough;
 use frame_replies::{FramesAnswer, Walk};
@@ -40,14 +42,14 @@ pub struct CoreFacts<'a> {
 }
 
 // The frames of a thread, as values. `None` where the core has no thread of that number.
-fn thread_frames<'a, D: Disk>(
+fn thread_frames<'e, D: Disk>(
     alloc: Global,
     image: CaseImage<'_>,
-    core: &CoreImage<'a>,
-    found: &mut UnwoundCore<'a>,
+    core: &CoreImage<'_>,
+    found: &mut UnwoundCore<'_, '_, 'e>,
     thread: u64,
     archive: &mut Archive<D>,
-) -> Result<Option<FramesAnswer<'a>>, WalkFault>
+) -> Result<Option<FramesAnswer<'e>>, WalkFault>
     requires has { HasSize (state_of archive.old) image.seq image.size }
     requires short { length image.front.now ≤ image.size }
     requires front { core_bytes core.now ≡ image.front.now }
@@ -75,28 +77,31 @@ fn thread_frames<'a, D: Disk>(
     }
 }
 
-// The frames of this many threads. What all of them stand on is made once.
-fn unwind_threads<'a, D: Disk>(
+// The frames of this many threads, with executables that are prepared, of which these are chosen. What all threads stand on is made once.
+fn unwind_threads<'a, 'e, D: Disk>(
     alloc: Global,
     image: CaseImage<'_>,
     core: &CoreImage<'a>,
     told: ToldFiles<'a>,
-    attached: &[Attached<'a>],
+    chosen: ChosenExecutables<'a>,
+    prepared: &PreparedExecutables<'e>,
     threads: u64,
     archive: &mut Archive<D>,
-) -> Result<Vec<Option<FramesAnswer<'a>>>, WalkFault>
+) -> Result<Vec<Option<FramesAnswer<'e>>>, WalkFault>
+    requires chosen { choice_view chosen ≡ choice_of (files_told told) (prepared_views prepared.now) }
+    requires serve { AreChosenFor prepared.now (files_told told) }
     requires has { HasSize (state_of archive.old) image.seq image.size }
     requires short { length image.front.now ≤ image.size }
     requires front { core_bytes core.now ≡ image.front.now }
     requires sound { IsSoundFront Core image.front.now }
     requires told { IsToldBy image told }
     ensures told { IfOk result (λ all. (before : Parts D) → SeesPieces D.Disk before image.entry told.entry.pieces.items archive.old
-        → AreFramesOf D.Disk before image.entry.seq image.entry.front.now image.entry.size (told_view told.entry.files) (map attached_view attached.now) 0 all.items) }
+        → AreFramesOf D.Disk before image.entry.seq image.entry.front.now image.entry.size (told_view told.entry.files) (prepared_views prepared.now) 0 all.items) }
     ensures sees { IfOk result (λ all. (before : Parts D) → SeesPieces D.Disk before image.entry told.entry.pieces.items archive.old
         → SeesPieces D.Disk before image.entry told.entry.pieces.items archive.new) }
     ensures count { IfOk result (λ all. length all.items ≡ threads) }
 {
-    let Ok(found) = process_in_core(alloc, core, told, attached) else {
+    let Ok(found) = process_in_core(alloc, core, told, chosen, &prepared.unwound) else {
         return Err(WalkFault::OutOfMemory);
     };
     let mut found = found;
@@ -134,13 +139,42 @@ pub fn core_facts<'a, D: Disk>(
     ensures { IfOk result (λ facts. (before : Parts D) → SeesPieces D.Disk before image.entry told.entry.pieces.items archive.old
         → SaysFacts D.Disk before image.entry.seq image.entry.front.now image.entry.size (told_view told.entry.files) (map executable_view executables.now ++ map executable_view debug_files.now) threads facts archive.new) }
 {
-    let Ok(lent) = lent_with(alloc, executables, debug_files) else {
+    let Ok(prepared) = PreparedExecutables::of(alloc, &told, executables, debug_files) else {
         return Err(WalkFault::OutOfMemory);
     };
-    let Ok(builds) = build_answers(alloc, &told.files, &lent.attached) else {
+    Ok(core_facts_with(alloc, image, core, told, &prepared, threads, archive)?)
+}
+
+/// Finds the same with executables and debug files that are prepared, which serve this core.
+///
+/// # Errors
+///
+/// Those of [`core_facts`].
+pub fn core_facts_with<'a, 'e: 'a, D: Disk>(
+    alloc: Global,
+    image: CaseImage<'_>,
+    core: &CoreImage<'a>,
+    told: ToldFiles<'a>,
+    prepared: &PreparedExecutables<'e>,
+    threads: u64,
+    archive: &mut Archive<D>,
+) -> Result<CoreFacts<'a>, WalkFault>
+    requires serve { AreChosenFor prepared.now (files_told told) }
+    requires has { HasSize (state_of archive.old) image.seq image.size }
+    requires short { length image.front.now ≤ image.size }
+    requires front { core_bytes core.now ≡ image.front.now }
+    requires sound { IsSoundFront Core image.front.now }
+    requires told { IsToldBy image told }
+    ensures { IfOk result (λ facts. (before : Parts D) → SeesPieces D.Disk before image.entry told.entry.pieces.items archive.old
+        → SaysFacts D.Disk before image.entry.seq image.entry.front.now image.entry.size (told_view told.entry.files) (prepared_views prepared.now) threads facts archive.new) }
+{
+    let Ok(chosen) = ChosenExecutables::of(alloc, listed(&told.files), &prepared.attached) else {
         return Err(WalkFault::OutOfMemory);
     };
-    match unwind_threads(alloc, image, core, told, &lent.attached, threads, archive) {
+    let Ok(builds) = build_answers(alloc, &told.files, &prepared.attached) else {
+        return Err(WalkFault::OutOfMemory);
+    };
+    match unwind_threads(alloc, image, core, told, chosen, prepared, threads, archive) {
         Ok(unwound) => Ok(CoreFacts { unwound, builds }),
         Err(fault) => Err(fault),
     }

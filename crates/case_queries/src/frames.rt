@@ -3,7 +3,9 @@ ghost use Rattle.std.specs.Prelude.{◌≡◌, ◌≤◌, ◌++◌, ℕ, List, l
 ghost use Rattle.address_space.specs.Source.{ExecutableView};
 ghost use Rattle.address_space.specs.SpaceWords.{core_of};
 ghost use Rattle.elf_view.specs.declared.faults.Want.TheVariants.{Core};
-ghost use Rattle.frame_replies.specs.Walking.{IsWalkOf, WalksOn, process_by};
+ghost use Rattle.build_replies.specs.Choosing.{choice_of};
+ghost use Rattle.build_replies.specs.ChoosingWords.{choice_view};
+ghost use Rattle.frame_replies.specs.Walking.{AreExecutablesOf, IsWalkOf, WalksOn, process_by};
 ghost use Rattle.image_replies.specs.CoreWords.{core_bytes};
 ghost use Rattle.intake.specs.Parts.{Parts, state_of};
 ghost use Rattle.memory_replies.specs.Answers.{AnswersWith, is_done};
@@ -12,7 +14,7 @@ ghost use Rattle.script_streams.specs.Replies.{TellsOutcome, TellsReply, telling
 ghost use Rattle.case_queries.specs.Asking.{for_frames, frames_answer};
 ghost use Rattle.case_queries.specs.Fronts.{HasSize, IsSoundFront};
 ghost use Rattle.case_queries.specs.Pieces.{BeginsWith, FindsFrames, SeesPieces, WalkedTo};
-ghost use Rattle.case_queries.specs.ToldWords.{IsToldBy, ShowsTold};
+ghost use Rattle.case_queries.specs.ToldWords.{IsToldBy, ShowsTold, files_told};
 ghost use Rattle.case_queries.specs.Unwound.{BeginsWalks, FindsThread, IsUnwound};
 ghost use Rattle.case_queries.specs.declared.walk.CaseImage as images;
 ghost use Rattle.case_queries.specs.declared.window.Part as windows;
@@ -27,7 +29,7 @@ use address_space::Attached;
 use build_replies::{ChosenExecutables, listed};
 use disk_model::Disk;
 use elf_view::a_sound_front_is_enough;
-use frame_replies::{UnwoundProcess, Walk, tell_walked, tell_walked_frame};
+use frame_replies::{UnwoundExecutables, UnwoundProcess, Walk, tell_walked, tell_walked_frame};
 use image_replies::CoreImage;
 use intake::Archive;
 use memory_replies::{Outcome, a_sound_front_names_the_files};
@@ -37,8 +39,8 @@ use unwind::Stop;
 
 // What the frames of each thread of a core are found with: its process, and the pieces of its image by which the executables were chosen.
 #[derive(Drop)]
-pub(crate) struct UnwoundCore<'a> {
-    pub(crate) process: UnwoundProcess<'a>,
+pub(crate) struct UnwoundCore<'p, 'a, 'e> {
+    pub(crate) process: UnwoundProcess<'p, 'a, 'e>,
     pub(crate) pieces: Vec<Part>,
 }
 
@@ -53,7 +55,7 @@ pub(crate) struct UnwoundThread {
 fn go_on(
     alloc: Global,
     image: CaseImage<'_>,
-    process: &UnwoundProcess<'_>,
+    process: &UnwoundProcess<'_, '_, '_>,
     pieces: &[Part],
     walk: &mut Walk,
 ) -> Result<Stop, frame_replies::WalkFault>
@@ -70,7 +72,7 @@ fn go_on(
 fn walk_frames<D: Disk>(
     alloc: Global,
     image: CaseImage<'_>,
-    process: &UnwoundProcess<'_>,
+    process: &UnwoundProcess<'_, '_, '_>,
     walk: &mut Walk,
     pieces: &mut Vec<Part>,
     archive: &mut Archive<D>,
@@ -98,22 +100,23 @@ fn walk_frames<D: Disk>(
     Err(WalkFault::OutOfMemory)
 }
 
-// What the frames of the threads of a core are found with. The first bytes of its image are at hand, and the pieces that tell its mapped
-// files. The error is that there is no memory.
-pub(crate) fn process_in_core<'a>(
+// What the frames of the threads of a core are found with, with these executables, which are chosen for its mapped files. The first bytes of
+// its image are at hand, and the pieces that tell those files. The error is that there is no memory.
+pub(crate) fn process_in_core<'p, 'a, 'e>(
     alloc: Global,
     core: &CoreImage<'a>,
     told: ToldFiles<'a>,
-    attached: &[Attached<'a>],
-) -> Result<UnwoundCore<'a>, AllocError>
-    ensures walks { IfOk result (λ u. (o : images.CaseImage) → core_bytes core.now ≡ o.front.now → IsSoundFront Core o.front.now → IsToldBy o told.entry
-        → BeginsWalks o (map attached_view attached.now) u) }
+    chosen: ChosenExecutables<'a>,
+    executables: &'p UnwoundExecutables<'e>,
+) -> Result<UnwoundCore<'p, 'a, 'e>, AllocError>
+    requires { AreExecutablesOf (choice_view chosen) executables.now }
+    ensures walks { IfOk result (λ u. (o : images.CaseImage) (stored : List ExecutableView) → core_bytes core.now ≡ o.front.now → IsSoundFront Core o.front.now → IsToldBy o told.entry
+        → choice_view chosen.entry ≡ choice_of (files_told told.entry) stored → BeginsWalks o stored u) }
     ensures pieces { IfOk result (λ u. u.pieces ≡ told.entry.pieces) }
 {
     a_sound_front_names_the_files();
     a_sound_front_is_enough();
-    let chosen = ChosenExecutables::of(alloc, listed(&told.files), attached)?;
-    let process = UnwoundProcess::of(alloc, core, chosen)?;
+    let process = UnwoundProcess::of(alloc, core, chosen, executables)?;
     Ok(UnwoundCore {
         process,
         pieces: told.pieces,
@@ -124,7 +127,7 @@ pub(crate) fn process_in_core<'a>(
 pub(crate) fn walk_thread<D: Disk>(
     alloc: Global,
     image: CaseImage<'_>,
-    core: &mut UnwoundCore<'_>,
+    core: &mut UnwoundCore<'_, '_, '_>,
     begun: Walk,
     archive: &mut Archive<D>,
 ) -> Result<UnwoundThread, WalkFault>
@@ -156,7 +159,7 @@ pub(crate) fn walk_thread<D: Disk>(
 // Tells the frames of a thread, or the registers of the one of that number.
 fn tell_frames<O: Output>(
     reply: &mut Reply<'_, O>,
-    process: &UnwoundProcess<'_>,
+    process: &UnwoundProcess<'_, '_, '_>,
     unwound: &UnwoundThread,
     frame: Option<u64>,
 ) -> Outcome
@@ -173,7 +176,7 @@ fn tell_frames<O: Output>(
 fn frames_of_walk<O: Output, D: Disk>(
     alloc: Global,
     image: CaseImage<'_>,
-    found: UnwoundCore<'_>,
+    found: UnwoundCore<'_, '_, '_>,
     begun: Walk,
     frame: Option<u64>,
     reply: &mut Reply<'_, O>,
@@ -218,7 +221,13 @@ pub(crate) fn frames_in_core<'a, O: Output, D: Disk>(
         tell_no(reply, b"NoThread");
         return Outcome::Refused;
     };
-    match process_in_core(alloc, core, told, attached) {
+    let Ok(chosen) = ChosenExecutables::of(alloc, listed(&told.files), attached) else {
+        return tell_no_memory(reply);
+    };
+    let Ok(executables) = UnwoundExecutables::of(alloc, &chosen) else {
+        return tell_no_memory(reply);
+    };
+    match process_in_core(alloc, core, told, chosen, &executables) {
         Ok(found) => frames_of_walk(alloc, image, found, begun, frame, reply, archive),
         Err(_) => tell_no_memory(reply),
     }

@@ -6,6 +6,7 @@ mod builds;
 mod by_build;
 mod by_front;
 mod collect_executables;
+mod executable_cases;
 mod facts;
 mod find;
 mod found;
@@ -16,6 +17,7 @@ mod kept_image;
 mod laws;
 mod memory;
 mod pieces;
+mod prepared;
 mod stack;
 mod symbol_by_build;
 mod told;
@@ -24,11 +26,15 @@ mod wanted;
 mod window;
 mod with_builds;
 
-pub use collect_executables::{StoredExecutable, stored_debug_files, stored_executables};
-pub use facts::{CoreFacts, core_facts};
+pub use collect_executables::{
+    StoredExecutable, chosen_executables, stored_debug_files, stored_executables,
+};
+pub use executable_cases::ExecutableCases;
+pub use facts::{CoreFacts, core_facts, core_facts_with};
 pub use front::read_front;
 pub use inspect::answer_query;
 pub use kept_image::{Images, KeptImage};
 pub use laws::answers_are_of_the_case;
+pub use prepared::PreparedExecutables;
 pub use told::{ToldFiles, told_files};
 pub use walk::{CaseImage, WalkFault};

@@ -10,5 +10,3 @@ pub mod Frames
 pub mod Files
 pub mod Quotes
 pub mod Screen
-pub mod Archive
-pub mod Tally

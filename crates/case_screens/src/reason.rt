@@ -52,8 +52,8 @@ pub fn missing() -> Reason<'static>
     }
 }
 
-// It has no such thread.
-pub(crate) fn no_thread() -> Reason<'static>
+/// It has no such thread.
+pub fn no_thread() -> Reason<'static>
     ensures { reason_view result ≡ reasons.no_thread }
 {
     Reason {

@@ -161,8 +161,8 @@ fn is_of_another_machine(name: &[u8]) -> bool
         || name == b"EI_DATA".as_slice()
 }
 
-// Prints a reason as a script does.
-fn tell_named<O: Output>(reply: &mut Reply<'_, O>, reason: &Reason<'_>)
+/// Prints a reason as a script does.
+pub fn tell_named<O: Output>(reply: &mut Reply<'_, O>, reason: &Reason<'_>)
     ensures { TellsText (telling O.Output reply.old reply.new) (named reason.now.name.now reason.now.index) }
 {
     reply.tell(reason.name);

@@ -1,7 +1,7 @@
 // The command.
 use crate::having::numbers_with;
 use archive_files::{ArchivePath, Failure, Refusal, take_look, unasked};
-use case_listing::{ListWords, list_over};
+use case_listing::{ListWords, list_lines_over, list_over};
 use case_tables::Wanted;
 use script_streams::Output;
 use shared_disk::{Looked, SharedDisk};
@@ -60,6 +60,9 @@ fn search_looked<S: SharedDisk + Drop, O: Output>(
         ..*wanted
     };
     let disk = again.unlocked(Vec::new(alloc));
+    if words.list.by_lines {
+        return list_lines_over(alloc, disk, &found, output);
+    }
     list_over(alloc, disk, &found, words.list.is_json, output)
 }
 

@@ -4,3 +4,4 @@ pub mod NamedLemmas
 pub mod JsonLemmas
 pub mod SignalLemmas
 pub mod OrderLemmas
+pub mod LineLemmas

@@ -9,3 +9,4 @@ pub mod Order
 pub mod Wanted
 pub mod Named
 pub mod Json
+pub mod Lines

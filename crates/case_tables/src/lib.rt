@@ -4,6 +4,7 @@
 mod columns;
 mod days;
 mod json;
+mod lines;
 mod list;
 mod moments;
 mod name_parts;
@@ -17,7 +18,7 @@ mod times;
 mod wanted;
 
 pub use json::{case_value, json_of};
-pub use list::{list_json, tell_list};
+pub use list::{list_json, tell_list, tell_list_lines};
 pub use moments::read_time;
 pub use name_parts::{host_in, program_in, user_in};
 pub use named::{case_of_name, number_named};

@@ -1,14 +1,17 @@
 // A list of the cases that are wanted.
 ghost use Rattle.std.specs.Prelude.{◌≡◌, ◌==◌, IfOk, List, Some, length, map, not, string_bytes};
+ghost use Rattle.std.specs.List.{flat_map};
 ghost use Rattle.serde_json.specs.Read.{read};
 ghost use Rattle.journal_layout.specs.Case.{Case, case_of};
 ghost use Rattle.script_streams.specs.Replies.{TellsText, telling};
 ghost use Rattle.case_tables.specs.Json.{cases_json};
+ghost use Rattle.case_tables.specs.Lines.{case_line};
 ghost use Rattle.case_tables.specs.Order.{IsShown};
 ghost use Rattle.case_tables.specs.Table.{list_table};
 ghost use Rattle.case_tables.specs.Wanted.{chosen};
 
 use crate::json::json_of;
+use crate::lines::tell_case_lines;
 use crate::table::tell_table;
 use crate::wanted::{Wanted, shown_of};
 use journal_layout::Entry;
@@ -32,6 +35,26 @@ pub fn tell_list<O: Output>(
 {
     let shown = shown_of(alloc, cases, wanted)?;
     tell_table(reply, &shown);
+    Ok(!shown.is_empty())
+}
+
+/// Tells a line of JSON for each case that is wanted: its object, and nothing else. Says whether there are any.
+///
+/// # Errors
+///
+/// There is no memory: the lines of some cases may be told.
+pub fn tell_list_lines<O: Output>(
+    alloc: Global,
+    reply: &mut Reply<'_, O>,
+    cases: &[Entry],
+    wanted: &Wanted<'_>,
+) -> Result<bool, AllocError>
+    ensures are_lines { IfOk result (λ some. (shown : List Case) × IsShown wanted.now.order (chosen wanted.now (map case_of cases.now)) shown
+        × TellsText (telling O.Output reply.old reply.new) (flat_map case_line shown)) }
+    ensures some { IfOk result (λ some. some ≡ not (length (chosen wanted.now (map case_of cases.now)) == 0)) }
+{
+    let shown = shown_of(alloc, cases, wanted)?;
+    tell_case_lines(alloc, reply, &shown)?;
     Ok(!shown.is_empty())
 }
 

@@ -1,5 +1,5 @@
 -- The requests that the words of a command make, except those of `store` and `handle`.
-use Rattle.std.specs.Prelude.{◌≡◌, ℕ, ◌<◌, ◌==◌, Bool, false, not, List, [], ◌∷◌, ◌++◌, length, map, Ok, Option, None, Some, String, codes, option_map, string_bytes, unwrap_or, if◌then◌else◌}
+use Rattle.std.specs.Prelude.{◌≡◌, ℕ, ◌<◌, ◌==◌, Bool, true, false, not, List, [], ◌∷◌, ◌++◌, length, map, Ok, Option, None, Some, String, codes, option_map, string_bytes, unwrap_or, if◌then◌else◌}
 use Rattle.std.specs.Option.{option_copied, option_map_or}
 use Rattle.archive_files.specs.declared.archive_path.ArchivePath.{ArchivePath}
 use Rattle.archive_files.specs.declared.archives.NewArchive.{NewArchive}
@@ -28,7 +28,7 @@ use Rattle.stream_names.specs.declared.naming.Naming.{Naming}
 use Rattle.command_line.specs.Requesting.{AsksOfStore, Handles, IsGiven, IsGivenToHandle, IsUnspelled, number_said}
 use Rattle.command_line.specs.declared.ask_words.AskedLine.{AskedLine}
 use Rattle.command_line.specs.declared.ask_words.Form.{Form}
-use Rattle.command_line.specs.declared.ask_words.Form.TheVariants.{Plain, Reply, Rows}
+use Rattle.command_line.specs.declared.ask_words.Form.TheVariants.{Plain, Reply, Rows, Words}
 use Rattle.command_line.specs.declared.asked.Asked.{Asked}
 use Rattle.command_line.specs.declared.asked.Asked.TheVariants as asked
 use Rattle.command_line.specs.declared.asked.SessionWords.{SessionWords}
@@ -105,7 +105,7 @@ abbrev pub words_of : AskedLine → List (List ℕ)
 words_of line = map (λ word. word.now) line.words.items ++ digits_behind line.digits
 
 -- The question of a line is the one that the script has for its words with a space between them; with `--builds` executables are chosen by build. If its
--- words make no question, its second word names a case.
+-- words make no question, its second word names a case, or its third one a register.
 abbrev pub IsAsked : Bool → List ℕ → Option Question → Type 0
 IsAsked by_build line None = is_question (said line) ≡ false
 IsAsked by_build line (Some question) = question_said question ≡ said_choosing by_build (said line)
@@ -116,9 +116,9 @@ IsNoQuestion line LineTooLong = 1024 < length line
 IsNoQuestion line (NoLine words) = is_question (said line) ≡ false
 IsNoQuestion line why = IsUnspelled why
 
--- `--json` goes before `--plain`
+-- `--json` goes before `--words`, and that before `--plain`
 abbrev pub form_said : Given → Form
-form_said given = if flag_in given (codes "json") then Rows else if flag_in given (codes "plain") then Plain else Reply
+form_said given = if flag_in given (codes "json") then Rows else if flag_in given (codes "words") then Words else if flag_in given (codes "plain") then Plain else Reply
 
 -- the digits of the bytes of a text
 abbrev pub digits_meant : Option (List ℕ) → List (List ℕ)
@@ -170,6 +170,7 @@ pub record IsListed (given : Given) (words : ListWords) : Type 0 where
   pub since : option_copied words.since ≡ text_in given (codes "since")
   pub until : option_copied words.until ≡ text_in given (codes "until")
   pub json : words.is_json ≡ flag_in given (codes "json")
+  pub lines : words.by_lines ≡ flag_in given (codes "json-lines")
 
 -- ---- What `prune` is to drop.
 
@@ -196,7 +197,7 @@ IsAsk given archive _ = ⊥
 -- the commands over the archive in a file
 abbrev pub names_over : List (List ℕ)
 names_over =
-    codes "run" ∷ codes "store" ∷ codes "extract" ∷ codes "unpack" ∷ codes "list" ∷ codes "ask" ∷ codes "info" ∷ codes "wants" ∷ codes "groups" ∷ codes "report" ∷ codes "search" ∷ codes "prune" ∷ codes "look" ∷ codes "check" ∷ codes "copy" ∷ codes "resize" ∷ codes "salvage" ∷ []
+    codes "run" ∷ codes "store" ∷ codes "extract" ∷ codes "digest" ∷ codes "unpack" ∷ codes "list" ∷ codes "ask" ∷ codes "info" ∷ codes "wants" ∷ codes "groups" ∷ codes "report" ∷ codes "search" ∷ codes "prune" ∷ codes "look" ∷ codes "check" ∷ codes "copy" ∷ codes "resize" ∷ codes "salvage" ∷ []
 
 -- a command that has none of these names
 abbrev pub IsNoneOf : List ℕ → List (List ℕ) → Type 0
@@ -212,21 +213,24 @@ IsOver given archive (asked.StoreBuild place file build log) =
     (given.command.now ≡ codes "store") × (store : GivenStore) × IsGiven found_under given store × (store.pairs.now ≡ given.words.items) × AsksOfStore store archive (asked.StoreBuild place file build log)
 IsOver given archive (asked.Extract place case file) =
     (given.command.now ≡ codes "extract") × (place ≡ archive) × (case.now ≡ text_said given (codes "case")) × (option_copied file ≡ text_in given (codes "file"))
+IsOver given archive (asked.Digest place cases) = (given.command.now ≡ codes "digest") × (place ≡ archive) × (map (λ case. case.now) cases.items ≡ words_in given)
 IsOver given archive (asked.Unpack place case folder) =
     (given.command.now ≡ codes "unpack") × (place ≡ archive) × (case.now ≡ text_said given (codes "case")) × (folder.now ≡ text_said given (codes "dir"))
 IsOver given archive (asked.List place wanted) = (given.command.now ≡ codes "list") × (place ≡ archive) × IsListed given wanted
 IsOver given archive (asked.Ask place line question) = (given.command.now ≡ codes "ask") × IsAsk given archive (asked.Ask place line question)
 IsOver given archive (asked.WouldRetire place policy) = (given.command.now ≡ codes "ask") × IsAsk given archive (asked.WouldRetire place policy)
+IsOver given archive (asked.Metrics path) =
+    (given.command.now ≡ codes "info") × (path ≡ archive.path) × (flag_in given (codes "metrics") ≡ true) × (text_in given (codes "case") ≡ None)
 IsOver given archive (asked.Info place case wanted) =
-    (given.command.now ≡ codes "info") × (place ≡ archive) × (option_copied case ≡ text_in given (codes "case"))
+    (given.command.now ≡ codes "info") × (place ≡ archive) × (option_copied case ≡ text_in given (codes "case")) × (flag_in given (codes "metrics") ≡ false)
     × (wanted.all_threads ≡ flag_in given (codes "threads")) × (wanted.is_json ≡ flag_in given (codes "json"))
 IsOver given archive (asked.Wants place case wanted) =
     (given.command.now ≡ codes "wants") × (place ≡ archive) × (option_copied case ≡ text_in given (codes "case"))
     × (wanted.ids_alone ≡ flag_in given (codes "ids")) × (wanted.is_json ≡ flag_in given (codes "json"))
 IsOver given archive (asked.Groups place wanted) =
     (given.command.now ≡ codes "groups") × (place ≡ archive) × (option_copied wanted.case ≡ text_in given (codes "case")) × IsListed given wanted.list
-IsOver given archive (asked.Report place case) =
-    (given.command.now ≡ codes "report") × (place ≡ archive) × (option_copied case ≡ text_in given (codes "case"))
+IsOver given archive (asked.Report place cases) =
+    (given.command.now ≡ codes "report") × (place ≡ archive) × (map (λ case. case.now) cases.items ≡ words_in given)
 IsOver given archive (asked.Search place wanted) =
     (given.command.now ≡ codes "search") × (place ≡ archive) × (wanted.text.now ≡ text_said given (codes "text")) × IsListed given wanted.list
 IsOver given archive (asked.Prune place wanted) = (given.command.now ≡ codes "prune") × (place ≡ archive) × IsPruned given wanted

@@ -1,5 +1,5 @@
 -- The requests that the words of `store` and of `handle` make.
-use Rattle.std.specs.Prelude.{◌≡◌, ◌⊎◌, ℕ, ◌==◌, ◌||◌, not, nat_lt, Bool, true, false, List, [], ◌∷◌, ◌++◌, length, map, Option, None, Some, is_some, Result, Ok, Err, codes, if◌then◌else◌}
+use Rattle.std.specs.Prelude.{◌≡◌, ◌⊎◌, ℕ, ◌==◌, ◌||◌, ◌&&◌, not, nat_lt, Bool, true, false, List, [], ◌∷◌, ◌++◌, length, map, Option, None, Some, is_some, Result, Ok, Err, codes, if◌then◌else◌}
 use Rattle.std.specs.List.{after_first, before_first, flat_map, position_or_len}
 use Rattle.std.specs.Borrow.{Bor}
 use Rattle.std.specs.Option.{option_copied, option_map, unwrap_or}
@@ -9,6 +9,7 @@ use Rattle.archive_files.specs.declared.build_store.BuildRequest.{BuildRequest}
 use Rattle.archive_files.specs.declared.failures.Refusal.{Refusal}
 use Rattle.archive_files.specs.declared.failures.WordPart.{WordPart}
 use Rattle.archive_files.specs.declared.failures.Refusal.TheVariants.{BadLine, NotUtf8, OutOfMemory}
+use Rattle.archive_files.specs.OverDisks.{named_as}
 use Rattle.archive_files.specs.declared.storing.StoreRequest.{StoreRequest}
 use Rattle.archive_files.specs.declared.storing.StoreWords.{StoreWords}
 use Rattle.build_ids.specs.BuildName.{has_name}
@@ -18,6 +19,7 @@ use Rattle.core_handler.specs.Requesting.{order_of, policy_within}
 use Rattle.core_handler.specs.declared.handling.HandleWords.{HandleWords}
 use Rattle.core_handler.specs.declared.spool_store.SpoolWords.{SpoolWords}
 use Rattle.inspector_cli.specs.Storing.{line_stream}
+use Rattle.intake.specs.State.{StreamFacts}
 use Rattle.name_template.specs.Template.{template_fault}
 use Rattle.name_template.specs.declared.template.TemplateFault.{TemplateFault}
 use Rattle.retention.specs.declared.Policy.{Policy}
@@ -27,6 +29,7 @@ use Rattle.script_words.specs.Hex.{needle_of}
 use Rattle.script_words.specs.Number.{number_of}
 use Rattle.script_words.specs.Printing.{shown_byte}
 use Rattle.stream_names.specs.Commands.{stream_found}
+use Rattle.stream_names.specs.declared.naming.Naming.{Naming}
 use Rattle.command_line.specs.declared.store_words.GivenStore.{GivenStore}
 use Rattle.command_line.specs.declared.handle_words.GivenHandle.{GivenHandle}
 use Rattle.command_line.specs.declared.asked.Asked.{Asked}
@@ -126,17 +129,42 @@ pub record AsksFor (given : GivenStore) (words : StoreWords) : Type 0 where
   -- no core is too much
   pub burst : words.options.burst ≡ None
 
+-- how a core is named, unless it has a name of its own
+abbrev pub template_said : GivenStore → List ℕ
+template_said given = if is_some given.name then codes "core" else given.settings.template.now
+
+abbrev pub pid_said : GivenStore → Bool
+pid_said given = if is_some given.name then false else given.settings.uses_pid
+
+-- the line of a script that begins an executable of a name, if there is one
+abbrev pub IsNamed : Bool → Option (List ℕ) → Option (List ℕ) → Type 0
+IsNamed escapes None line = line ≡ None
+IsNamed escapes (Some name) None = ⊥
+IsNamed escapes (Some name) (Some line) = (text : List ℕ) × (line ≡ codes "begin exec 0 " ++ text) × IsSpelled escapes name text
+
+-- a stream as it was found, or under the name of the one that a line begins
+abbrev pub found_under : Naming → Option (List ℕ) → Result StreamFacts (List ℕ) → Result StreamFacts (List ℕ)
+found_under naming None found = found
+found_under naming (Some line) found = named_as found (line_stream naming (said line))
+
+-- A core's name is given, and another word names the case, or it goes by way of a spool, which keeps no name.
+abbrev pub is_named_twice : GivenStore → Bool
+is_named_twice given = is_some given.name && (is_some given.exec || is_some given.spool)
+
 -- What `store` asks for.
 pub record Asks (given : GivenStore) (request : StoreRequest) : Type 0 where
   pub words : StoreWords
   pub asked : AsksFor given words
   pub policy : request.policy ≡ words.policy
   -- the stream that the line begins, named by the template, or why it begins none
-  pub found : stream_found request.found ≡ line_stream (named_by given.settings.template.now given.settings.uses_pid) (said words.begin.items)
+  pub name : Option (List ℕ)
+  pub named : IsNamed given.escapes (option_copied given.name) name
+  pub alone : is_named_twice given ≡ false
+  pub found : stream_found request.found ≡ found_under (named_by (template_said given) (pid_said given)) name (line_stream (named_by (template_said given) (pid_said given)) (said words.begin.items))
   pub options : request.options ≡ words.options
   -- the most bytes of an image
   pub limit : request.limit ≡ given.settings.limit
-  pub template : template_fault given.settings.template.now ≡ None
+  pub template : template_fault (template_said given) ≡ None
 
 -- ---- Which of the words is refused.
 
@@ -159,7 +187,8 @@ IsAtFault given =
     ⊎ (HasBoth (option_copied given.exec) (pairs_of given)
     ⊎ (IsNoLabel given.escapes (option_copied given.label)
     ⊎ ((number_said (option_copied given.length) ≡ Err BadLine)
-    ⊎ (number_said (option_copied given.stall) ≡ Err BadLine))))
+    ⊎ ((number_said (option_copied given.stall) ≡ Err BadLine)
+    ⊎ (is_named_twice given ≡ true)))))
 
 -- Why words are refused: one is invalid, or not UTF-8, or there is no memory.
 abbrev pub AreRefused : GivenStore → Refusal → Type 0
@@ -169,7 +198,7 @@ AreRefused given why = ((why ≡ BadLine) × IsAtFault given) ⊎ IsUnspelled wh
 abbrev pub IsRefused : GivenStore → Refusal → Type 0
 IsRefused given why =
     AreRefused given why
-    ⊎ ((words : StoreWords) × AsksFor given words × (fault : TemplateFault) × (template_fault given.settings.template.now ≡ Some fault))
+    ⊎ ((words : StoreWords) × AsksFor given words × (fault : TemplateFault) × (template_fault (template_said given) ≡ Some fault))
 
 -- ---- Under which name each word is given.
 
@@ -180,6 +209,7 @@ pub record IsGiven {W : Type 0} (g : named.Ghosts W) (words : W) (given : GivenS
   pub bytes : g.stands words (codes "bytes") (option_copied given.bytes)
   pub before : g.stands words (codes "before") (option_copied given.before)
   pub exec : g.stands words (codes "exec") (option_copied given.exec)
+  pub name : g.stands words (codes "name") (option_copied given.name)
   pub label : g.stands words (codes "label") (option_copied given.label)
   pub length : g.stands words (codes "length") (option_copied given.length)
   pub stall : g.stands words (codes "stall") (option_copied given.stall)
@@ -221,7 +251,7 @@ id_said (Some word) = id_within (needle_of word)
 
 -- A word says what FILE is, or that it may be cut, though its build says so.
 abbrev pub is_said_twice : GivenStore → Bool
-is_said_twice given = is_some given.exec || (not (length given.pairs.now == 0) || given.cut)
+is_said_twice given = is_some given.exec || (is_some given.name || (not (length given.pairs.now == 0) || given.cut))
 
 -- What `store --build` asks for: what `store` does without the name of an executable, pairs and a cut.
 pub record AsksForBuild (given : GivenStore) (build : BuildRequest) : Type 0 where

@@ -9,6 +9,7 @@ ghost use Rattle.command_line.specs.Requesting.{IsUnspelled};
 
 use crate::asked::{Asked, checked};
 use archive_files::{ArchivePath, Refusal};
+use case_info::{dumped_words, question_with, register_in};
 use case_listing::{foreseen_by, named_question};
 use command_words::{Given, digits_of, line_of, usage_told};
 use line_help::rows_of;
@@ -20,6 +21,9 @@ const LONGEST_LINE: usize = 1024;
 
 // The words of a line whose rows may be told as JSON.
 const ROWS: &str = "--json LINE, a line that asks an image; corekeep list --json tells the cases";
+
+// The words of a line whose memory may be told as words.
+const DUMP: &str = "dump N ADDR LEN --words";
 
 // The words of a line that takes a text.
 const TEXT: &str = "find N --text TEXT";
@@ -33,6 +37,8 @@ pub(crate) enum Form {
     Plain,
     // Its rows as JSON.
     Rows,
+    // Its memory as words, for people.
+    Words,
 }
 
 // One line of a script, as the words have it.
@@ -91,7 +97,7 @@ impl AskedLine<'_> {
         }
     }
 
-    // No question, if the second word names a case.
+    // No question, if the second word names a case, or the third one a register.
     fn named_case(&self, alloc: Global) -> Result<Option<Question>, Refusal>
         ensures none { IfOk result (λ question. question ≡ None) }
         ensures refused { IfErr result (λ why. ((words : Bor (List ℕ)) × (why ≡ NoLine words)) ⊎ IsUnspelled why) }
@@ -99,7 +105,11 @@ impl AskedLine<'_> {
         let Ok(words) = self.words(alloc) else {
             return Err(Refusal::OutOfMemory);
         };
-        match named_question(alloc, &words) {
+        let found = match register_in(&words) {
+            Some(_) => question_with(alloc, &words, 1, 0),
+            None => named_question(alloc, &words),
+        };
+        match found {
             Ok(Some(_)) => Ok(None),
             Ok(None) => Err(Refusal::NoLine(usage_told(first_of(&self.words)))),
             Err(_) => Err(Refusal::OutOfMemory),
@@ -108,7 +118,7 @@ impl AskedLine<'_> {
 }
 
 // Each of them has to be text.
-fn check_all(words: &[&str]) -> Result<(), Refusal>
+pub(crate) fn check_all(words: &[&str]) -> Result<(), Refusal>
     ensures refused { IfErr result IsUnspelled }
 {
     for word in words {
@@ -136,6 +146,9 @@ pub(crate) fn ask_words<'a>(
     if form == Form::Rows && rows_of(first_of(words)).is_empty() {
         return Err(Refusal::NoLine(ROWS));
     }
+    if form == Form::Words && dumped_words(words).is_none() {
+        return Err(Refusal::NoLine(DUMP));
+    }
     Ok(Asked::Ask {
         archive,
         line,
@@ -160,6 +173,9 @@ fn refuse_forms(given: &Given<'_>, form: Form) -> Result<(), Refusal> {
     if form == Form::Rows {
         return Err(Refusal::NoLine(ROWS));
     }
+    if form == Form::Words {
+        return Err(Refusal::NoLine(DUMP));
+    }
     match given.text("text") {
         Some(_) => Err(Refusal::NoLine(TEXT)),
         None => Ok(()),
@@ -171,6 +187,8 @@ fn form_of(given: &Given<'_>) -> Form
 {
     if given.flag("json") {
         Form::Rows
+    } else if given.flag("words") {
+        Form::Words
     } else if given.flag("plain") {
         Form::Plain
     } else {

@@ -1,14 +1,15 @@
 // The request that the words make.
-ghost use Rattle.std.specs.Prelude.{◌≡◌, None, Some, IfOk, IfErr, OnOk, map, string_bytes};
+ghost use Rattle.std.specs.Prelude.{◌≡◌, ◌⊎◌, None, Some, IfOk, IfErr, OnOk, codes, map, string_bytes};
+ghost use Rattle.archive_files.specs.declared.failures.Refusal.TheVariants.{BadLine};
 ghost use Rattle.core_handler.specs.Fronts.{named_by};
 ghost use Rattle.name_template.specs.Template.{template_fault};
 ghost use Rattle.name_template.specs.declared.template.TemplateFault.{TemplateFault};
 ghost use Rattle.std.specs.Option.{option_copied};
-ghost use Rattle.command_words.specs.Words.{text_in};
+ghost use Rattle.command_words.specs.Words.{text_in, words_in};
 ghost use Rattle.command_line.specs.Asking as asking;
 ghost use Rattle.command_line.specs.Requesting.{IsUnspelled};
 
-use crate::ask_words::{AskedLine, ask_words};
+use crate::ask_words::{AskedLine, ask_words, check_all};
 use crate::endings::Ending;
 use crate::handle_words::{GivenHandle, handle_words};
 use crate::list_words::list_words;
@@ -77,6 +78,11 @@ pub(crate) enum Asked<'a> {
         case: &'a str,
         file: Option<&'a str>,
     },
+    // The digests of cases.
+    Digest {
+        archive: ArchivePath<'a>,
+        cases: Vec<&'a str>,
+    },
     // A case, its executables and the commands of a debugger, in a new folder.
     Unpack {
         archive: ArchivePath<'a>,
@@ -96,6 +102,8 @@ pub(crate) enum Asked<'a> {
         case: Option<&'a str>,
         wanted: InfoWords,
     },
+    // The archive at this path as metrics.
+    Metrics(&'a str),
     // The builds that a core wants, or all cores.
     Wants {
         archive: ArchivePath<'a>,
@@ -117,10 +125,10 @@ pub(crate) enum Asked<'a> {
         archive: ArchivePath<'a>,
         wanted: GroupsWords<'a>,
     },
-    // A page of a case, or of the archive.
+    // A page of cases, or of the archive if there are none.
     Report {
         archive: ArchivePath<'a>,
-        case: Option<&'a str>,
+        cases: Vec<&'a str>,
     },
     // What one line of a script asks, and its reply. Without a question its second word names a case.
     Ask {
@@ -240,6 +248,10 @@ fn over_archive<'a>(
             case: text_of(given, "case")?,
             file: text_if(given, "file")?,
         }),
+        "digest" => Ok(Asked::Digest {
+            archive,
+            cases: cases_of(alloc, given)?,
+        }),
         "unpack" => Ok(Asked::Unpack {
             archive,
             case: text_of(given, "case")?,
@@ -250,14 +262,7 @@ fn over_archive<'a>(
             wanted: list_words(given)?,
         }),
         "ask" => ask_words(alloc, given, archive),
-        "info" => Ok(Asked::Info {
-            archive,
-            case: text_if(given, "case")?,
-            wanted: InfoWords {
-                all_threads: given.flag("threads"),
-                is_json: given.flag("json"),
-            },
-        }),
+        "info" => info_words(given, archive),
         "wants" => Ok(Asked::Wants {
             archive,
             case: text_if(given, "case")?,
@@ -268,7 +273,7 @@ fn over_archive<'a>(
         }),
         "report" => Ok(Asked::Report {
             archive,
-            case: text_if(given, "case")?,
+            cases: cases_of(alloc, given)?,
         }),
         "groups" => Ok(Asked::Groups {
             archive,
@@ -313,6 +318,28 @@ fn over_archive<'a>(
             },
         }),
         _ => Ok(Asked::Nothing),
+    }
+}
+
+// A case, or the archive: for people, as JSON, or the archive as metrics.
+fn info_words<'a>(given: &Given<'a>, archive: ArchivePath<'a>) -> Result<Asked<'a>, Refusal>
+    ensures asked { IfOk result (λ asked. given.now.command.now ≡ codes "info" → asking.IsOver given.now archive.entry asked) }
+    ensures refused { IfErr result (λ why. (why ≡ BadLine) ⊎ IsUnspelled why) }
+{
+    let case = text_if(given, "case")?;
+    if !given.flag("metrics") {
+        return Ok(Asked::Info {
+            archive,
+            case,
+            wanted: InfoWords {
+                all_threads: given.flag("threads"),
+                is_json: given.flag("json"),
+            },
+        });
+    }
+    match case {
+        Some(_) => Err(Refusal::BadLine),
+        None => Ok(Asked::Metrics(archive.path)),
     }
 }
 
@@ -378,6 +405,18 @@ pub(crate) fn text_if<'a>(given: &Given<'a>, name: &str) -> Result<Option<&'a st
     match given.text(name) {
         Some(word) => Ok(Some(checked(word)?)),
         None => Ok(None),
+    }
+}
+
+// The words that may be there several times, each of which has to be text.
+fn cases_of<'a>(alloc: Global, given: &Given<'a>) -> Result<Vec<&'a str>, Refusal>
+    ensures same { IfOk result (λ cases. map (λ case. case.now) cases.items ≡ words_in given.now) }
+    ensures refused { IfErr result IsUnspelled }
+{
+    check_all(&given.words)?;
+    match given.words.to_vec(alloc) {
+        Ok(cases) => Ok(cases),
+        Err(_) => Err(Refusal::OutOfMemory),
     }
 }
 

@@ -34,6 +34,7 @@ pub(crate) fn list_words<'a>(given: &Given<'a>) -> Result<ListWords<'a>, Refusal
         since: given.text("since"),
         until: given.text("until"),
         is_json: given.flag("json"),
+        by_lines: given.flag("json-lines"),
     })
 }
 

@@ -1,5 +1,5 @@
 // The request that the words of `store` make.
-ghost use Rattle.std.specs.Prelude.{◌≡◌, ◌⊎◌, true, false, None, Some, Ok, Err, IfOk, IfErr, if◌then◌else◌};
+ghost use Rattle.std.specs.Prelude.{◌≡◌, ◌⊎◌, true, false, None, Some, is_some, Ok, Err, IfOk, IfErr, if◌then◌else◌};
 ghost use Rattle.std.specs.Option.{option_copied, option_map};
 ghost use Rattle.archive_files.specs.declared.failures.Refusal.TheVariants.{BadLine};
 ghost use Rattle.command_line.specs.Requesting as spec;
@@ -27,6 +27,8 @@ pub(crate) struct GivenStore<'g, 'a> {
     before: Option<&'a str>,
     // The name of an executable.
     exec: Option<&'a str>,
+    // The name of a core, instead of the one that the template gives.
+    name: Option<&'a str>,
     // The known facts of a core.
     pairs: &'g [&'a str],
     label: Option<&'a str>,
@@ -61,6 +63,7 @@ impl<'g, 'a> GivenStore<'g, 'a> {
             bytes: words.word("bytes"),
             before: words.word("before"),
             exec: words.word("exec"),
+            name: words.word("name"),
             pairs,
             label: words.word("label"),
             length: words.word("length"),
@@ -148,7 +151,7 @@ fn build_of(alloc: Global, given: &GivenStore<'_, '_>) -> Result<BuildRequest, R
 fn is_said_twice(given: &GivenStore<'_, '_>) -> bool
     ensures { result ≡ spec.is_said_twice given.now }
 {
-    given.exec.is_some() || !given.pairs.is_empty() || given.cut
+    given.exec.is_some() || given.name.is_some() || !given.pairs.is_empty() || given.cut
 }
 
 // The build ID of a word, if it is there: 2 to 55 bytes, each as two hexadecimal digits.
@@ -190,12 +193,56 @@ fn request_of(alloc: Global, given: &GivenStore<'_, '_>) -> Result<StoreRequest,
     ensures limits { spec.policy_said given.now ≡ Err BadLine → result ≡ Err BadLine }
 {
     let words = wanted_of(alloc, given)?;
+    let name = name_line(alloc, given)?;
     checked(given.settings.template)?;
     if let Some(log) = given.log {
         checked(log)?;
     }
-    let naming = naming_of(given.settings, false)?;
-    Ok(StoreRequest::of(words, &naming, given.settings.limit))
+    let naming = naming_of(settings_of(given), false)?;
+    let request = StoreRequest::of(words, &naming, given.settings.limit);
+    match name {
+        Some(line) => Ok(request.named(&line, &naming)),
+        None => Ok(request),
+    }
+}
+
+// How the case is named before it gets its own name, if it has one: by a template that gives every core a name.
+fn settings_of<'a>(given: &GivenStore<'_, 'a>) -> SessionWords<'a>
+    ensures template { result.template.now ≡ spec.template_said given.now }
+    ensures process { result.uses_pid ≡ spec.pid_said given.now }
+{
+    if given.name.is_some() {
+        SessionWords {
+            template: "core",
+            uses_pid: false,
+            limit: given.settings.limit,
+        }
+    } else {
+        given.settings
+    }
+}
+
+// The line of a script that begins an executable of the name that a core is to have, if it has one. It goes with no other name, and a spool
+// keeps none.
+fn name_line(alloc: Global, given: &GivenStore<'_, '_>) -> Result<Option<Vec<u8>>, Refusal>
+    ensures named { IfOk result (λ line. spec.IsNamed given.now.escapes (option_copied given.now.name) (option_map (λ l. l.items) line)) }
+    ensures alone { IfOk result (λ line. spec.is_named_twice given.now ≡ false) }
+    ensures refused { IfErr result (λ why. ((why ≡ BadLine) × (spec.is_named_twice given.now ≡ true)) ⊎ spec.IsUnspelled why) }
+{
+    if is_named_twice(given) {
+        return Err(Refusal::BadLine);
+    }
+    match given.name {
+        Some(name) => Ok(Some(valued_line(alloc, b"begin exec 0 ", name, given.escapes)?)),
+        None => Ok(None),
+    }
+}
+
+// Whether a core's name is given, and another word names the case, or stores the core by way of a spool.
+fn is_named_twice(given: &GivenStore<'_, '_>) -> bool
+    ensures { result ≡ spec.is_named_twice given.now }
+{
+    given.name.is_some() && (given.exec.is_some() || given.spool.is_some())
 }
 
 // The file to store, and the cases that go for it.

@@ -10,9 +10,11 @@ use archive_files::{
     look, make_archive, names_output, note_file_system, note_gap, note_shared, resize_archive_file,
     run_over, salvage, take_disk, tell_trouble,
 };
+use archive_metrics::info_metrics;
+use case_digests::digest;
 use case_info::{
-    PruneWords, ask_rows, group_archive, info_archive, info_case, prune_archive, report_archive,
-    tell_wants,
+    CoreLine, PruneWords, ask_core, ask_rows, dumped_words, group_archive, info_archive, info_case,
+    prune_archive, question_at, register_in, report_archive, tell_wants, thread_words,
 };
 use case_listing::{
     NamedLine, ask_case, ask_plain, extract_case, list, named_question, would_retire,
@@ -93,7 +95,8 @@ pub fn run_program<
 /// - `ask ARCHIVE WORD..` carries out one line of a script, with `--plain` so that people read its reply, and `find N --text TEXT` looks
 /// for these bytes. `extract ARCHIVE N [FILE]` writes the image of a case. A line that changes no case, and `extract`, need no right to
 /// write the archive's file, and hold its lock only while they read its journal.
-/// - `report ARCHIVE` prints a page in HTML of the crashes in the archive, and `report ARCHIVE CASE` one of a case.
+/// - `digest ARCHIVE CASE..` prints the SHA-256 of the images of cases, each with its length and its number.
+/// - `report ARCHIVE` prints a page in HTML of the crashes in the archive, and `report ARCHIVE CASE..` one of these cases.
 /// - `unpack ARCHIVE CASE DIR` writes the image of a case, its executables, and the commands of debuggers into a new folder.
 /// - `prune ARCHIVE` prints which executables and debug files are of builds that no core needs, and with `--cores K`, `--bytes B` or
 /// `--before T` which cores go first; with `--yes` it deletes them.
@@ -124,7 +127,7 @@ pub fn run_words<
     run_watched(rt, words, input, output, errors, &mut Nobody)
 }
 
-/// The same as `run_words`. An onlooker is shown the progress of `format`, `store`, `extract`, `unpack`, `copy`, `resize` and `salvage`,
+/// The same as `run_words`. An onlooker is shown the progress of `format`, `store`, `extract`, `digest`, `unpack`, `copy`, `resize` and `salvage`,
 /// unless `--quiet` is there.
 pub fn run_watched<
     R: AllocGlobal + Files<File = File> + Clock + Clone + Drop,
@@ -259,6 +262,7 @@ fn answer_asked<
             case,
             file,
         } => extract_case(rt, archive, case, file, output, onlooker),
+        Asked::Digest { archive, cases } => digest(rt, archive, &cases, output, onlooker),
         Asked::Unpack {
             archive,
             case,
@@ -289,6 +293,7 @@ fn answer_asked<
             case: None,
             wanted,
         } => info_archive(rt, archive, wanted.is_json, output),
+        Asked::Metrics(path) => info_metrics(rt, path, output),
         Asked::Wants {
             archive,
             case,
@@ -296,7 +301,7 @@ fn answer_asked<
         } => tell_wants(rt, archive, case, wanted, output, onlooker),
         Asked::Prune { archive, wanted } => prune(rt, archive, wanted, output, onlooker),
         Asked::Groups { archive, wanted } => group_archive(rt, archive, wanted, output),
-        Asked::Report { archive, case } => report_archive(rt, archive, case, output),
+        Asked::Report { archive, cases } => report_archive(rt, archive, &cases, output),
         Asked::Search { archive, wanted } => search(rt, archive, wanted, output),
         Asked::WouldRetire { archive, policy } => would_retire(rt, archive, &policy, output),
         Asked::Look { archive, by_build } => {
@@ -393,7 +398,7 @@ fn check_noting<R: AllocGlobal + Files<File = File> + Clock, O: Output, W: Onloo
     checked
 }
 
-// Answers one line. Without a question its second word names a case.
+// Answers one line. Without a question its second word names a case, or its third one a register.
 fn answer_line<R: AllocGlobal + Files<File = File> + Clock, O: Output, W: Onlooker>(
     rt: &R,
     place: ArchivePath<'_>,
@@ -410,11 +415,43 @@ fn answer_line<R: AllocGlobal + Files<File = File> + Clock, O: Output, W: Onlook
         words: &words,
         by_build: line.by_build,
     };
-    match (line.form, question) {
+    if let Some(asked) = core_line(line, &words) {
+        return ask_core(rt, place, asked, output);
+    }
+    let question = match (question, register_in(&words)) {
+        (None, Some(at)) => {
+            let is_json = line.form == Form::Rows;
+            Some(question_at(rt, place, named, at, is_json, output)?)
+        }
+        (question, _) => question,
+    };
+    answer_named(rt, place, named, line.form, question, output, onlooker)
+}
+
+// Answers one line in a form. Without a question its second word names a case.
+fn answer_named<R: AllocGlobal + Files<File = File> + Clock, O: Output, W: Onlooker>(
+    rt: &R,
+    place: ArchivePath<'_>,
+    named: NamedLine<'_>,
+    form: Form,
+    question: Option<Question>,
+    output: &mut O,
+    onlooker: &mut W,
+) -> Result<(), Failure> {
+    match (form, question) {
         (Form::Rows, question) => ask_rows(rt, place, named, question, output, onlooker),
         (Form::Plain, question) => ask_plain(rt, place, named, question, output, onlooker),
-        (Form::Reply, Some(question)) => ask(rt, place, question, output, onlooker),
-        (Form::Reply, None) => ask_case(rt, place, named, output, onlooker),
+        (_, Some(question)) => ask(rt, place, question, output, onlooker),
+        (_, None) => ask_case(rt, place, named, output, onlooker),
+    }
+}
+
+// What a line asks of a core, if its answer is printed from values.
+fn core_line<'w>(line: &AskedLine<'_>, words: &[&'w str]) -> Option<CoreLine<'w>> {
+    match (line.form, line.by_build) {
+        (Form::Words, _) => dumped_words(words),
+        (Form::Plain, false) => thread_words(words),
+        _ => None,
     }
 }
 
@@ -456,7 +493,8 @@ fn refuse_unwritten<R: AllocGlobal + Files<File = File>, W: Onlooker>(
     Err(Failure::Refused(Refusal::Disk))
 }
 
-// Refusals of `extract` go to another stream than its output, which is an image, even if its words could not be read.
+// Refusals of `extract` and `digest` go to another stream than their output, which is an image, or one line for each case, even if their words
+// could not be read.
 fn aside_of_an_image(words: &[String], ending: Ending) -> Ending {
     match ending {
         Ending::Failed(Failure::Refused(refusal)) if asks_for_an_image(words) => {
@@ -468,7 +506,7 @@ fn aside_of_an_image(words: &[String], ending: Ending) -> Ending {
 
 fn asks_for_an_image(words: &[String]) -> bool {
     match words.first() {
-        Some(word) => word.as_str() == "extract",
+        Some(word) => word.as_str() == "extract" || word.as_str() == "digest",
         None => false,
     }
 }

@@ -51,18 +51,18 @@ found_in m = unwrap_or (subcommand_rows_of m) ([], rows_of (found_of m))
 -- the given values are those that clap found
 pub record IsFoundBy (m : ArgMatches) (given : Given) : Type 0 where
   pub said : said_in given ≡ found_in m
-  pub several : words_in given ≡ unwrap_or (all_of (codes "words") (rows_in given)) []
+  pub several : words_in given ≡ unwrap_or (all_of (codes "word") (rows_in given)) []
 
 -- The given values are those of these words by a grammar: of the command that they name, or of the program if they name none.
 pub record IsSaidBy (app : App) (words : List (List ℕ)) (given : Given) : Type 0 where
   pub said : is_simple app ≡ true → said_in given ≡ unwrap_or (subcommand_of app words) ([], matches_of app words)
-  pub several : words_in given ≡ unwrap_or (all_of (codes "words") (rows_in given)) []
+  pub several : words_in given ≡ unwrap_or (all_of (codes "word") (rows_in given)) []
 
 -- The same for the grammar of these tables, which is simple: for such a grammar clap's clauses say which values the words have.
 pub record IsReadBy (tables : List CommandWords) (words : List (List ℕ)) (given : Given) : Type 0 where
   pub simple : is_simple (grammar tables) ≡ true
   pub said : said_in given ≡ unwrap_or (subcommand_of (grammar tables) words) ([], matches_of (grammar tables) words)
-  pub several : words_in given ≡ unwrap_or (all_of (codes "words") (rows_in given)) []
+  pub several : words_in given ≡ unwrap_or (all_of (codes "word") (rows_in given)) []
 
 -- what words give by the grammar of some tables
 abbrev pub IsRead : List (List ℕ) → Given → Type 0

@@ -28,4 +28,5 @@ pub(crate) const ASK_HELP: &str = "Lines (corekeep help LINE says more):\n\
 \x20\x20unwind N T                           the frames of thread T by call frame information\n\
 \x20\x20frame N T I                          the registers of frame I of `unwind N T`\n\
 \x20\x20builds N                             whether the stored executables are those that were mapped, by build ID\n\
-\x20\x20symbol N ADDR                        the function at an address of an executable";
+\x20\x20symbol N ADDR                        the function at an address of an executable\n\
+ADDR of dump and at may also be a register of the thread that dumped, or so far past it: sp, a0, sp+0x10";

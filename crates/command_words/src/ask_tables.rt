@@ -7,12 +7,12 @@ pub(crate) static ASK: CommandWords = CommandWords {
     name: "ask",
     about: "Carry out one line of a script over an archive, and print its reply; the status is 1 if it is refused",
     after_help: Some(ASK_HELP),
-    words: &[ARCHIVE, LINE, JSON, NO_WAIT, TEXT, PLAIN, BUILDS],
+    words: &[ARCHIVE, LINE, JSON, NO_WAIT, TEXT, PLAIN, WORDS, BUILDS],
 };
 
 // The words of a line.
 const LINE: Word = Word {
-    id: "words",
+    id: "word",
     shown: "WORD",
     takes: Takes::Words(1),
     default: None,
@@ -35,4 +35,13 @@ const PLAIN: Word = Word {
     takes: Takes::FlagWithoutJson,
     default: None,
     help: "Print the reply for people: each \\xHH as the byte itself, if that is a space or prints",
+};
+
+// Whether memory is printed as words.
+const WORDS: Word = Word {
+    id: "words",
+    shown: "",
+    takes: Takes::FlagWithoutJson,
+    default: None,
+    help: "For `dump`: print the memory as words of 8 bytes, each with what it points to",
 };

@@ -5,6 +5,7 @@ ghost use Rattle.command_words.specs.Grammar.{grammar};
 
 use crate::ask_tables::ASK;
 use crate::care_tables::{CHECK, COPY, RESIZE, SALVAGE};
+use crate::digest_tables::DIGEST;
 use crate::groups_tables::GROUPS;
 use crate::info_tables::{INFO, WANTS};
 use crate::list_tables::LIST;
@@ -15,11 +16,11 @@ use crate::tables::{CommandWords, EXTRACT, FORMAT, HANDLE, LOOK, MEMORY, RUN, ST
 use crate::unpack_tables::UNPACK;
 
 // All of them, in the order in which help shows them. What names a table is dear to prove: only this function does.
-pub(crate) fn commands() -> [&'static CommandWords; 20]
+pub(crate) fn commands() -> [&'static CommandWords; 21]
     ensures { is_simple (grammar (map (λ command. command.now) result)) ≡ true }
 {
     [
         &FORMAT, &STORE, &LIST, &INFO, &GROUPS, &REPORT, &ASK, &SEARCH, &WANTS, &PRUNE, &EXTRACT,
-        &UNPACK, &LOOK, &RUN, &CHECK, &COPY, &RESIZE, &SALVAGE, &HANDLE, &MEMORY,
+        &DIGEST, &UNPACK, &LOOK, &RUN, &CHECK, &COPY, &RESIZE, &SALVAGE, &HANDLE, &MEMORY,
     ]
 }

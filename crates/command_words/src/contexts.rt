@@ -55,7 +55,7 @@ static NAME_MEANINGS: [Meaning; 2] = [
     },
     Meaning {
         reason: b"BadLine",
-        words: b"a pair, a limit, the length or the label can't be read, or --exec has pairs: KEY is comm, exe, host, pid, tid, sig, uid, gid, mode, time or limit, the VALUE of all but comm, exe and host is a number, and --escape takes one that has spaces",
+        words: b"a pair, a limit, the length or the label can't be read, or --exec has pairs: KEY is comm, exe, host, pid, tid, sig, uid, gid, mode, time or limit, the VALUE of all but comm, exe and host is a number, and --escape takes one that has spaces; --name goes without --exec, --build and --spool",
     },
 ];
 
@@ -136,7 +136,8 @@ pub fn context_of(words: &[String], line: &LastLine) -> Context {
         "store" => Context::Storing,
         "list" | "search" => Context::Listing,
         "groups" => Context::Grouping,
-        "info" | "report" | "wants" | "look" | "extract" | "unpack" | "check" => Context::Looking,
+        "info" | "report" | "wants" | "look" | "extract" | "digest" | "unpack" | "check" =>
+            Context::Looking,
         "prune" => Context::Pruning,
         "copy" | "resize" => Context::Copying,
         _ => Context::Other,

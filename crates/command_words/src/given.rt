@@ -119,7 +119,7 @@ fn given_in<'a>(alloc: Global, matches: ArgMatches<'a>) -> Result<Given<'a>, All
     ensures { IfOk result (λ given. IsFoundBy matches.entry given) }
 {
     let (command, found) = named_in(matches);
-    let words = found.get_strs("words").unwrap_or(&[]).to_vec(alloc)?;
+    let words = found.get_strs("word").unwrap_or(&[]).to_vec(alloc)?;
     Ok(Given {
         command,
         words,

@@ -43,7 +43,7 @@ fn subcommands_of<'a>(
 // What help shows after the commands.
 const STATUSES: &str = "Statuses:\n\
      \x20\x200  it is done\n\
-     \x20\x201  it is refused (`no REASON` on standard output, and its meaning on standard error; `extract` prints both on standard error),\n\
+     \x20\x201  it is refused (`no REASON` on standard output, and its meaning on standard error; `extract` and `digest` print both on standard error),\n\
      \x20\x20   or a session ended before its script (`fault NAME` on standard error)\n\
      \x20\x202  the words of the command line are refused";
 
@@ -110,6 +110,7 @@ fn argument<'a>(alloc: Global, word: &Word) -> Result<Arg<'a>, AllocError>
         ),
         Takes::Text => Ok(named(argument, word)),
         Takes::TextWithBuild => Ok(named(argument, word).requires_arg("build")?),
+        Takes::TextWithoutTemplate => Ok(named(argument, word).conflicts_with("template")?),
         Takes::Blocks => Ok(
             named(argument, word)
                 .value_parser(ValueParser::signed(0, 4_294_967_295))

@@ -1,6 +1,7 @@
 // The words of `groups`.
 use crate::list_tables::{
-    JSON, LABEL_PART, LAST, NAME_PART, PID, PINNED, PROGRAM_PART, SIGNAL, SINCE, UNTIL, USER,
+    JSON, JSON_LINES, LABEL_PART, LAST, NAME_PART, PID, PINNED, PROGRAM_PART, SIGNAL, SINCE, UNTIL,
+    USER,
 };
 use crate::tables::{ARCHIVE, CommandWords, NO_WAIT, Takes, Word};
 
@@ -12,6 +13,7 @@ pub(crate) static GROUPS: CommandWords = CommandWords {
         ARCHIVE,
         GROUPS_CASE,
         JSON,
+        JSON_LINES,
         NAME_PART,
         USER,
         PROGRAM_PART,

@@ -6,7 +6,7 @@ pub(crate) static INFO: CommandWords = CommandWords {
     name: "info",
     about: "Show a crash on one screen, or the state of an archive",
     after_help: None,
-    words: &[ARCHIVE, INFO_CASE, THREADS, JSON, NO_WAIT],
+    words: &[ARCHIVE, INFO_CASE, THREADS, JSON, METRICS, NO_WAIT],
 };
 
 pub(crate) static WANTS: CommandWords = CommandWords {
@@ -47,6 +47,15 @@ const INFO_CASE: Word = Word {
     takes: Takes::NewPlace,
     default: None,
     help: "A case: its number, its name, last or latest; without it, the archive is shown",
+};
+
+// Whether the archive is shown as metrics.
+const METRICS: Word = Word {
+    id: "metrics",
+    shown: "",
+    takes: Takes::FlagWithoutJson,
+    default: None,
+    help: "Print the state of the archive as metrics, for Prometheus and OpenMetrics; it waits for no other process",
 };
 
 // Whether all threads are shown.

@@ -6,6 +6,7 @@ mod ask_tables;
 mod care_tables;
 mod commands;
 mod contexts;
+mod digest_tables;
 mod given;
 mod grammar;
 mod groups_tables;

@@ -9,6 +9,7 @@ pub(crate) static LIST: CommandWords = CommandWords {
         ARCHIVE,
         NO_WAIT,
         JSON,
+        JSON_LINES,
         SORT,
         KIND,
         NAME_PART,
@@ -31,6 +32,15 @@ pub(crate) const JSON: Word = Word {
     takes: Takes::Flag,
     default: None,
     help: "Print JSON, for programs",
+};
+
+// Whether JSON is printed by lines.
+pub(crate) const JSON_LINES: Word = Word {
+    id: "json-lines",
+    shown: "",
+    takes: Takes::FlagWithoutJson,
+    default: None,
+    help: "Print JSON, an object on each line and nothing else",
 };
 
 // In which order cases are shown.

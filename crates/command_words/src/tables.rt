@@ -20,6 +20,8 @@ pub(crate) enum Takes {
     Text,
     // The same, and only beside `--build`.
     TextWithBuild,
+    // The same, and not beside `--template`.
+    TextWithoutTemplate,
     // A number below 2^32 after its name, which has to be there.
     Blocks,
     // A number after its name, from one to another.
@@ -68,8 +70,9 @@ pub(crate) static STORE: CommandWords = CommandWords {
     about: "Store a core file as a case of an archive, named by the template, or an executable",
     after_help: None,
     words: &[
-        ARCHIVE, FILE, PAIRS, EXEC, PIN, LABEL, ESCAPE, KEEP, BYTES, BEFORE, FIT, FAIR, CUT,
-        NO_WAIT, TEMPLATE, USES_PID, LIMIT, LOG, QUIET, LENGTH, STALL, SPOOL, BUILD, ID, DEBUG,
+        ARCHIVE, FILE, PAIRS, EXEC, CORE_NAME, PIN, LABEL, ESCAPE, KEEP, BYTES, BEFORE, FIT, FAIR,
+        CUT, NO_WAIT, TEMPLATE, USES_PID, LIMIT, LOG, QUIET, LENGTH, STALL, SPOOL, BUILD, ID,
+        DEBUG,
     ],
 };
 
@@ -213,7 +216,7 @@ const FILE: Word = Word {
 
 // The facts of a core.
 const PAIRS: Word = Word {
-    id: "words",
+    id: "word",
     shown: "KEY=VALUE",
     takes: Takes::Words(0),
     default: None,
@@ -231,7 +234,7 @@ const LOG: Word = Word {
 
 // The configuration of a handler, and the facts of a core.
 const HANDLER_PAIRS: Word = Word {
-    id: "words",
+    id: "word",
     shown: "WORD",
     takes: Takes::Words(0),
     default: None,
@@ -272,6 +275,15 @@ const EXEC: Word = Word {
     takes: Takes::Text,
     default: None,
     help: "Store an executable of this name instead of a core; a byte of the name outside 0x21 to 0x7e and a backslash are written \\xHH, unless --escape is given",
+};
+
+// The name of a core.
+const CORE_NAME: Word = Word {
+    id: "name",
+    shown: "NAME",
+    takes: Takes::TextWithoutTemplate,
+    default: None,
+    help: "Store the core under this name, and not as the template names it; its bytes are written as those of --exec",
 };
 
 // Whether the case is kept from retirement.

@@ -3,7 +3,6 @@ ghost use Rattle.std.specs.Prelude.{◌≡◌, IfOk, map};
 ghost use Rattle.std.specs.Option.{option_copied};
 ghost use Rattle.case_tables.specs.Cells.{known_number, signal_text};
 ghost use Rattle.frame_replies.specs.FrameValues.{frame_view, frames_view};
-ghost use Rattle.seen_memory.specs.Seen.{ForEach};
 ghost use Rattle.thread_regs.specs.SignalNames.{numbered_name};
 ghost use Rattle.core_crashes.specs.Handled as spec;
 
@@ -11,7 +10,6 @@ use crate::frames::first_frames;
 use arrayvec::ArrayVec;
 use frame_replies::{FrameAnswer, FramesAnswer};
 use script_words::print_decimal;
-use seen_memory::{SeenMemory, Unread};
 use std::alloc::{AllocError, Global};
 use thread_regs::signal_name;
 
@@ -39,22 +37,8 @@ fn stack_among(frames: &[FrameAnswer<'_>]) -> Option<u64>
     None
 }
 
-/// The number of the signal whose frame begins at this stack pointer. It is none if the memory does not have it, or it is 0.
-///
-/// # Errors
-///
-/// A byte of the core's image that would tell it.
-pub fn handled_signal(memory: SeenMemory<'_, '_>, stack: u64) -> Result<Option<u32>, Unread>
-    ensures { ForEach memory.entry (λ space. spec.handled_at space stack) result }
-{
-    match memory.word(stack)? {
-        Some(word) => Ok(number_in(word)),
-        None => Ok(None),
-    }
-}
-
 // The number in the first four bytes of a word, unless it is 0.
-fn number_in(word: u64) -> Option<u32>
+pub(crate) fn number_in(word: u64) -> Option<u32>
     ensures { result ≡ spec.number_in word }
 {
     let number = (word % 4_294_967_296) as u32;

@@ -11,5 +11,5 @@ mod program;
 mod reading;
 
 pub use crash::{crash_of, crash_without_thread, refused_crash};
-pub use handled::{handled_signal, signal_stack};
+pub use handled::signal_stack;
 pub use reading::handled_in_case;

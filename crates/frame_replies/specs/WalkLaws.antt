@@ -60,13 +60,13 @@ all_found p desc w stop walked ended = walked.frames ∙ ap (λ (fs : List Frame
 
 module _ (image : List ℕ) (xs : List ExecutableView) (t : ℕ) (p : UnwoundProcess) (w : Walk) (stop : Stop) (is : IsWalkOf image xs t p w) (ended : HasFound w stop) where
   -- the values of the frames that were found are those of the thread
-  pub walk_values : made (map (walked_value (space_of p.space).files (named_in p.images)) w.frames.items) stop ≡ frames_of image xs t
+  pub walk_values : made (map (walked_value (space_of p.space).files (named_in p.executables.now.images)) w.frames.items) stop ≡ frames_of image xs t
   unfolding frames_of
   walk_values =
       let choice = choice_for image xs in
       let q = process_in image choice in
       let files : (space_of p.space).files ≡ q.space.files = ap (λ (r : ProcessView). r.space.files) is.process in
-      ap (λ (fs : List FileView). made (map (walked_value fs (named_in p.images)) w.frames.items) stop) files
+      ap (λ (fs : List FileView). made (map (walked_value fs (named_in p.executables.now.images)) w.frames.items) stop) files
       ∙ ap (λ (named : List NamedFile). made (map (walked_value q.space.files named) w.frames.items) stop) is.named
       ∙ ap (λ (vs : List FrameValue). made vs stop) (values_same q (named_among choice) w.frames.items is.walked.marked)
       ∙ ap (λ (fs : List Frame). made (map (frame_value q.space (named_among choice)) fs) stop) (sym (all_found q is.desc w stop is.walked ended))
@@ -74,9 +74,9 @@ module _ (image : List ℕ) (xs : List ExecutableView) (t : ℕ) (p : UnwoundPro
       ∙ sym (ap (option_map (thread_frames q (named_among choice))) is.state)
 
   -- and their lines are those of the answer
-  pub unwind_told : Ok (numbered_lines (walked_line (space_of p.space).files (named_in p.images)) 0 w.frames.items ++ stop_line stop) ≡ unwind_answer image xs t
+  pub unwind_told : Ok (numbered_lines (walked_line (space_of p.space).files (named_in p.executables.now.images)) 0 w.frames.items ++ stop_line stop) ≡ unwind_answer image xs t
   unwind_told =
-      ap (λ (ls : List ℕ). Ok (ls ++ stop_line stop)) (numbered_map value_line (walked_value (space_of p.space).files (named_in p.images)) 0 w.frames.items)
+      ap (λ (ls : List ℕ). Ok (ls ++ stop_line stop)) (numbered_map value_line (walked_value (space_of p.space).files (named_in p.executables.now.images)) 0 w.frames.items)
       ∙ ap printed walk_values
       ∙ sym (unwind_printed image xs t)
 
@@ -109,9 +109,9 @@ unfolding process_in memory_of process_made process_of_space
 process_is front image choice p is files starts =
     let attached = filter is_attached choice.used in
     let codes = map (with_code choice.debugs) attached in
-    ap (λ (s : Space). process_of_space s image (map described_view p.described.items) (map attached_view p.others.items) p.start) is.memory
-    ∙ ap (λ (fs : List FileView). process_made (segments_of image) fs attached (map described_view p.described.items) (map attached_view p.others.items) p.start) files
-    ∙ ap (λ (xs : List CodeFile). process_made (segments_of image) (mapped_files image) attached xs (map attached_view p.others.items) p.start) is.described
+    ap (λ (s : Space). process_of_space s image (map described_view p.executables.now.described.items) (map attached_view p.others.items) p.start) is.memory
+    ∙ ap (λ (fs : List FileView). process_made (segments_of image) fs attached (map described_view p.executables.now.described.items) (map attached_view p.others.items) p.start) files
+    ∙ ap (λ (xs : List CodeFile). process_made (segments_of image) (mapped_files image) attached xs (map attached_view p.others.items) p.start) is.executables.described
     ∙ ap (λ (xs : List ExecutableView). process_made (segments_of image) (mapped_files image) attached codes xs p.start) is.others
     ∙ ap (process_made (segments_of image) (mapped_files image) attached codes choice.others) (is.start ∙ starts)
 
@@ -119,7 +119,7 @@ process_is front image choice p is files starts =
 pub walk_begins : (front image : List ℕ) (xs : List ExecutableView) (choice : Choice) (t : ℕ) (p : UnwoundProcess) (w : Walk) → IsProcessOf front choice p → choice ≡ choice_for image xs → mapped_files front ≡ mapped_files image → start_of front ≡ start_of image → state_of front t ≡ state_of image t → BeginsAt (state_of front t) w → IsWalkOf image xs t p w
 walk_begins front image xs choice t p w is own files starts states begins = record {
   process = process_is front image choice p is files starts ∙ ap (process_in image) own;
-  named = is.named ∙ ap (λ (c : Choice). named_among c) own;
+  named = is.executables.named ∙ ap (λ (c : Choice). named_among c) own;
   desc = begins.0;
   state = sym states ∙ begins.1;
   walked = begins.2 (process_in image (choice_for image xs));

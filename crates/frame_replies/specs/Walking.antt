@@ -20,18 +20,23 @@ use Rattle.frame_replies.specs.FrameLines.{value_line}
 use Rattle.frame_replies.specs.FrameValues.{FrameValue, value_with}
 use Rattle.frame_replies.specs.ProcessWords.{described_view, named_in}
 use Rattle.frame_replies.specs.Processes.{named_among, process_in, start_of, state_of, with_code}
+use Rattle.frame_replies.specs.declared.process.UnwoundExecutables.{UnwoundExecutables}
 use Rattle.frame_replies.specs.declared.process.UnwoundProcess.{UnwoundProcess}
 use Rattle.frame_replies.specs.declared.walk.Walk.{Walk}
 use Rattle.frame_replies.specs.declared.walk.WalkedFrame.{WalkedFrame}
 use Rattle.frame_replies.specs.declared.walk.WalkFault.{WalkFault}
 use Rattle.frame_replies.specs.declared.walk.WalkFault.TheVariants.{Unread, OutOfMemory}
 
+-- They are those that are chosen, each with its debug file.
+pub record AreExecutablesOf (choice : Choice) (x : UnwoundExecutables) : Type 0 where
+  pub named : named_in x.images ≡ named_among choice
+  pub described : map described_view x.described.items ≡ map (with_code choice.debugs) (filter is_attached choice.used)
+
 -- It is the process of a core that has these bytes, with what is chosen of the executables that are stored.
 pub record IsProcessOf (b : List ℕ) (choice : Choice) (p : UnwoundProcess) : Type 0 where
   pub memory : space_of p.space ≡ memory_of b choice.used
   pub core : core_of p.space ≡ b
-  pub named : named_in p.images ≡ named_among choice
-  pub described : map described_view p.described.items ≡ map (with_code choice.debugs) (filter is_attached choice.used)
+  pub executables : AreExecutablesOf choice p.executables.now
   pub others : map attached_view p.others.items ≡ choice.others
   pub start : p.start ≡ start_of b
 
@@ -39,7 +44,7 @@ pub record IsProcessOf (b : List ℕ) (choice : Choice) (p : UnwoundProcess) : T
 abbrev pub process_by : UnwoundProcess → List ℕ → ProcessView
 process_by p image = record {
   space = space_in image (space_of p.space);
-  executables = map described_view p.described.items;
+  executables = map described_view p.executables.now.described.items;
   others = map attached_view p.others.items;
   start = p.start;
 }
@@ -66,7 +71,7 @@ WalksOn p old new = (desc : List ℕ) → IsWalked p desc old → IsWalked p des
 -- executables that are stored.
 pub record IsWalkOf (image : List ℕ) (stored : List ExecutableView) (t : ℕ) (p : UnwoundProcess) (w : Walk) : Type 0 where
   pub process : process_by p image ≡ process_in image (choice_for image stored)
-  pub named : named_in p.images ≡ named_among (choice_for image stored)
+  pub named : named_in p.executables.now.images ≡ named_among (choice_for image stored)
   pub desc : List ℕ
   pub state : state_of image t ≡ Some desc
   pub walked : IsWalked (process_in image (choice_for image stored)) desc w

@@ -18,7 +18,7 @@ mod walk;
 
 pub use laws::{by_path_where_unknown, each_frame_shown_stands_on_a_rule, never_another};
 pub use lines::{tell_frame_place, tell_unwind, tell_walked};
-pub use process::UnwoundProcess;
+pub use process::{UnwoundExecutables, UnwoundProcess};
 pub use registers::{tell_frame, tell_walked_frame};
 pub use stops::{stop_fault, stop_name, tell_stop};
 pub use values::{FrameAnswer, FramesAnswer};

@@ -13,7 +13,7 @@ ghost use Rattle.frame_replies.specs.ProcessWords.{named_in};
 ghost use Rattle.frame_replies.specs.Walking as walks;
 
 use crate::known::tell_known;
-use crate::process::UnwoundProcess;
+use crate::process::{UnwoundExecutables, UnwoundProcess, chosen_for};
 use crate::refused::tell_no_memory;
 use crate::stops::tell_stop;
 use crate::values::FrameAnswer;
@@ -65,11 +65,11 @@ fn tell_line<O: Output>(reply: &mut Reply<'_, O>, index: u64, frame: &FrameAnswe
 /// Tells a line for each frame, the first being number 0.
 fn tell_lines<O: Output>(
     reply: &mut Reply<'_, O>,
-    process: &UnwoundProcess<'_>,
+    process: &UnwoundProcess<'_, '_, '_>,
     frames: &[WalkedFrame],
 )
     ensures { TellsText (telling O.Output reply.old reply.new)
-        (numbered_lines (walks.walked_line (space_of process.now.space).files (named_in process.now.images)) 0 frames.now) }
+        (numbered_lines (walks.walked_line (space_of process.now.space).files (named_in process.now.executables.now.images)) 0 frames.now) }
 {
     for (index, walked) in frames.iter().enumerate() {
         tell_line(reply, index as u64, &process.frame(walked));
@@ -83,7 +83,7 @@ fn tell_lines<O: Output>(
 /// The address that is looked up for a frame is its pc if execution was there, else the one before it.
 pub fn tell_walked<O: Output>(
     reply: &mut Reply<'_, O>,
-    process: &UnwoundProcess<'_>,
+    process: &UnwoundProcess<'_, '_, '_>,
     walk: &Walk,
     stop: Stop,
 ) -> Outcome
@@ -108,7 +108,13 @@ pub fn tell_unwind<O: Output>(
     ensures { TellsReply (telling O.Output reply.old reply.new)
         (AnswersWith result (spec.unwind_answer (core_bytes core.now) (map attached_view attached.now) thread)) }
 {
-    let Ok(process) = UnwoundProcess::of_whole(alloc, core, attached) else {
+    let Ok(chosen) = chosen_for(alloc, core, attached) else {
+        return tell_no_memory(reply);
+    };
+    let Ok(executables) = UnwoundExecutables::of(alloc, &chosen) else {
+        return tell_no_memory(reply);
+    };
+    let Ok(process) = UnwoundProcess::of(alloc, core, chosen, &executables) else {
         return tell_no_memory(reply);
     };
     let Some(begun) = Walk::begin(alloc, core, thread) else {

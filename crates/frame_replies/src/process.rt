@@ -40,19 +40,42 @@ fn start_of(core: &CoreImage<'_>) -> Option<u64>
     start_among(vector.pairs())
 }
 
-/// The process of a core: its memory, the executables that are attached, with their call frame information and their symbols and those of
-/// their debug files, those that are not, since they are of another build, and where the program begins.
+/// Executables that are used for mapped files, with their call frame information and their symbols and those of their debug files. They
+/// serve each core for whose mapped files the same ones are chosen.
 #[derive(Drop)]
-pub struct UnwoundProcess<'a> {
+pub struct UnwoundExecutables<'e> {
+    pub(crate) images: Vec<NamedExecutable<'e>>,
+    pub(crate) described: Vec<Described<'e>>,
+}
+
+impl<'e> UnwoundExecutables<'e> {
+    ghost use Rattle.frame_replies.specs.Walking.{AreExecutablesOf};
+
+    /// Those that are chosen. The error is that there is no memory.
+    pub fn of(
+        alloc: Global,
+        chosen: &ChosenExecutables<'e>,
+    ) -> Result<UnwoundExecutables<'e>, AllocError>
+        ensures { IfOk result (AreExecutablesOf (choice_view chosen.now)) }
+    {
+        let images = named_executables(alloc, &chosen.used, &chosen.debugs)?;
+        let described = all_described(alloc, &chosen.used, &chosen.debugs)?;
+        Ok(UnwoundExecutables { images, described })
+    }
+}
+
+/// The process of a core: its memory, the executables that are attached, those that are not, since they are of another build, and where the
+/// program begins.
+#[derive(Drop)]
+pub struct UnwoundProcess<'p, 'a, 'e> {
     pub(crate) space: AddressSpace<'a>,
-    pub(crate) images: Vec<NamedExecutable<'a>>,
-    pub(crate) described: Vec<Described<'a>>,
+    pub(crate) executables: &'p UnwoundExecutables<'e>,
     pub(crate) others: Vec<Attached<'a>>,
     pub(crate) start: Option<u64>,
 }
 
-impl<'a> UnwoundProcess<'a> {
-    ghost use Rattle.frame_replies.specs.Walking.{IsProcessOf};
+impl<'p, 'a, 'e> UnwoundProcess<'p, 'a, 'e> {
+    ghost use Rattle.frame_replies.specs.Walking.{AreExecutablesOf, IsProcessOf};
 
     /// The process of a core, for whose mapped files these executables are chosen. The core may be the first bytes alone of an image. The
     /// error is that there is no memory.
@@ -60,32 +83,30 @@ impl<'a> UnwoundProcess<'a> {
         alloc: Global,
         core: &CoreImage<'a>,
         chosen: ChosenExecutables<'a>,
-    ) -> Result<UnwoundProcess<'a>, AllocError>
+        executables: &'p UnwoundExecutables<'e>,
+    ) -> Result<UnwoundProcess<'p, 'a, 'e>, AllocError>
+        requires { AreExecutablesOf (choice_view chosen) executables.now }
         ensures { IfOk result (IsProcessOf (core_bytes core.now) (choice_view chosen.entry)) }
     {
         let space = space_with(alloc, core, &chosen.used)?;
-        let images = named_executables(alloc, &chosen.used, &chosen.debugs)?;
-        let described = all_described(alloc, &chosen.used, &chosen.debugs)?;
         Ok(UnwoundProcess {
             space,
-            images,
-            described,
+            executables,
             others: chosen.others,
             start: start_of(core),
         })
     }
+}
 
-    /// The process of a core of which all bytes are at hand, for whose mapped files these executables are stored. The error is that there
-    /// is no memory.
-    pub(crate) fn of_whole(
-        alloc: Global,
-        core: &CoreImage<'a>,
-        stored: &[Attached<'a>],
-    ) -> Result<UnwoundProcess<'a>, AllocError>
-        ensures { IfOk result (IsProcessOf (core_bytes core.now) (choice_for (core_bytes core.now) (map attached_view stored.now))) }
-    {
-        let files = told_ids(alloc, core)?;
-        let chosen = ChosenExecutables::of(alloc, listed(&files), stored)?;
-        UnwoundProcess::of(alloc, core, chosen)
-    }
+/// What is chosen for a core of which all bytes are at hand, for whose mapped files these executables are stored. The error is that there is
+/// no memory.
+pub(crate) fn chosen_for<'a>(
+    alloc: Global,
+    core: &CoreImage<'a>,
+    stored: &[Attached<'a>],
+) -> Result<ChosenExecutables<'a>, AllocError>
+    ensures { IfOk result (λ chosen. choice_view chosen ≡ choice_for (core_bytes core.now) (map attached_view stored.now)) }
+{
+    let files = told_ids(alloc, core)?;
+    Ok(ChosenExecutables::of(alloc, listed(&files), stored)?)
 }

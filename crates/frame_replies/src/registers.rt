@@ -12,7 +12,7 @@ ghost use Rattle.frame_replies.specs.Walking as walks;
 ghost use Rattle.frame_replies.specs.declared.process.UnwoundProcess as processes;
 
 use crate::known::tell_known;
-use crate::process::UnwoundProcess;
+use crate::process::{UnwoundExecutables, UnwoundProcess, chosen_for};
 use crate::refused::tell_no_memory;
 use crate::walk::Walk;
 use address_space::Attached;
@@ -109,7 +109,13 @@ pub fn tell_frame<O: Output>(
     ensures { TellsReply (telling O.Output reply.old reply.new)
         (AnswersWith result (spec.frame_answer (core_bytes core.now) (map attached_view attached.now) thread frame)) }
 {
-    let Ok(process) = UnwoundProcess::of_whole(alloc, core, attached) else {
+    let Ok(chosen) = chosen_for(alloc, core, attached) else {
+        return tell_no_memory(reply);
+    };
+    let Ok(executables) = UnwoundExecutables::of(alloc, &chosen) else {
+        return tell_no_memory(reply);
+    };
+    let Ok(process) = UnwoundProcess::of(alloc, core, chosen, &executables) else {
         return tell_no_memory(reply);
     };
     let Some(begun) = Walk::begin(alloc, core, thread) else {

@@ -51,10 +51,10 @@ fn looked_up(frame: &Frame) -> Option<u64>
     }
 }
 
-impl<'a> UnwoundProcess<'a> {
+impl<'p, 'a, 'e> UnwoundProcess<'p, 'a, 'e> {
     /// A frame that a walk has found.
-    pub(crate) fn frame(&self, walked: &WalkedFrame) -> FrameAnswer<'a>
-        ensures { frame_view result ≡ walked_value (space_of self.now.space).files (named_in self.now.images) walked.now }
+    pub(crate) fn frame(&self, walked: &WalkedFrame) -> FrameAnswer<'e>
+        ensures { frame_view result ≡ walked_value (space_of self.now.space).files (named_in self.now.executables.now.images) walked.now }
     {
         let frame = walked.frame;
         let looked_up = looked_up(&frame);
@@ -62,7 +62,7 @@ impl<'a> UnwoundProcess<'a> {
             pc: frame.pc,
             looked_up,
             signal: walked.signal,
-            function: function_of(&self.space, &self.images, frame.pc, looked_up),
+            function: function_of(&self.space, &self.executables.images, frame.pc, looked_up),
             stack: frame.register(SP),
             returns: frame.register(RA),
         }
@@ -74,7 +74,7 @@ impl<'a> UnwoundProcess<'a> {
         alloc: Global,
         walk: &Walk,
         stop: Stop,
-    ) -> Result<FramesAnswer<'a>, AllocError>
+    ) -> Result<FramesAnswer<'e>, AllocError>
         ensures { IfOk result (λ a. (image : List ℕ) (executables : List ExecutableView) (thread : ℕ) → IsWalkOf image executables thread self.now walk.now → HasFound walk.now stop
             → frames_of image executables thread ≡ Some (frames_view a)) }
     {

@@ -119,7 +119,7 @@ impl Walk {
     pub fn go_on(
         &mut self,
         alloc: Global,
-        process: &UnwoundProcess<'_>,
+        process: &UnwoundProcess<'_, '_, '_>,
         front: &[u8],
         size: u64,
         parts: &[Part<'_>],
@@ -128,7 +128,7 @@ impl Walk {
         ensures walks { (image : List ℕ) → IsImageBy front.now size parts.now image → WalksOn (process_by process.now image) self.old self.new }
         ensures told { GoesOn front.now size parts.now result self.new }
     {
-        let executables = lent(alloc, &process.described)?;
+        let executables = lent(alloc, &process.executables.described)?;
         let memory = SeenMemory {
             space: &process.space,
             front,

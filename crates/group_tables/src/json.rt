@@ -7,11 +7,14 @@ use crate::summary::{first_time, last_time};
 use crate::words::tell_word;
 use case_tables::case_value;
 use crash_signatures::Word;
-use script_streams::Reply;
+use script_streams::{Output, Reply};
 use serde_json::{Value, json};
 use std::alloc::{AllocError, Global};
 use std::str;
 use thread_regs::signal_name;
+
+// The first number that a JSON number may not be told as.
+const FIRST_LARGE: u64 = 1 << 53;
 
 /// Groups as a JSON array of objects, in their order. If a text of an object can't be told as it is, all its texts are as a table prints
 /// them, and `escaped` says so.
@@ -29,6 +32,25 @@ pub fn groups_json(
         values.push(group_value(alloc, latest, row)?)?;
     }
     Value::Array(values).to_string(alloc)
+}
+
+/// Tells a line of JSON for each group: its object, and nothing else.
+///
+/// # Errors
+///
+/// There is no memory: some lines may be told.
+pub fn tell_group_lines<O: Output>(
+    alloc: Global,
+    reply: &mut Reply<'_, O>,
+    latest: u64,
+    rows: &[GroupRow<'_>],
+) -> Result<(), AllocError> {
+    for row in rows {
+        let text = group_value(alloc, latest, row)?.to_string(alloc)?;
+        reply.tell(text.as_bytes());
+        reply.tell(b"\n");
+    }
+    Ok(())
 }
 
 /// A group as a JSON object: `group` is its row, and `cases` are its cores, each as a list of cases has it.
@@ -57,11 +79,11 @@ fn group_value(alloc: Global, latest: u64, row: &GroupRow<'_>) -> Result<Value, 
         "program": text_value(alloc, &row.crash.program, escaped)?,
         "perhaps": numbers_value(alloc, &row.members, true)?,
         "missing": row.crash.signature.is_missing,
-        "last": time_value(last_time(latest, &row.members)),
+        "last": time_value(alloc, last_time(latest, &row.members))?,
         "labels": labels_value(alloc, &row.members, &labels, escaped)?,
         "group": string_value(alloc, group_name(alloc, row.crash)?.as_slice())?,
         "frames": words_value(alloc, row.crash.signature.words.as_slice(), escaped)?,
-        "first": time_value(first_time(latest, &row.members)),
+        "first": time_value(alloc, first_time(latest, &row.members))?,
         "escaped": escaped,
         "cases": numbers_value(alloc, &row.members, false)?,
     })
@@ -169,13 +191,15 @@ fn numbers_value(
     Ok(Value::Array(values))
 }
 
-// A time that is known, or null.
-fn time_value(time: u64) -> Value {
+// A time that is known, or null. From 2^53 on many readers of JSON round a number, so it is a string of its digits.
+fn time_value(alloc: Global, time: u64) -> Result<Value, AllocError> {
     if time == 0 {
-        Value::Null
-    } else {
-        Value::from(time)
+        return Ok(Value::Null);
     }
+    if time < FIRST_LARGE {
+        return Ok(Value::from(time));
+    }
+    Ok(Value::String(format!(in alloc; "{time}")?))
 }
 
 // A signal's name; or its number, if it has none; or null.

@@ -15,7 +15,7 @@ mod wanted;
 mod words;
 
 pub use identity::group_name;
-pub use json::{group_json, groups_json};
+pub use json::{group_json, groups_json, tell_group_lines};
 pub use labels::labels_of;
 pub use numbers::{CrashPlace, CrashedCore, numbered};
 pub use rows::{Crash, GroupMember, GroupRow, rows_of};

@@ -52,6 +52,7 @@ tag_is_name elements.Figcaption = refl
 tag_is_name elements.Svg = refl
 tag_is_name elements.Rect = refl
 tag_is_name elements.Line = refl
+tag_is_name elements.Path = refl
 tag_is_name elements.Text = refl
 
 name_is_value : (n : AttributeName) → list_all is_value_byte (attribute_name n) ≡ true
@@ -76,6 +77,7 @@ name_is_value names.Y1 = refl
 name_is_value names.Y2 = refl
 name_is_value names.Width = refl
 name_is_value names.Height = refl
+name_is_value names.D = refl
 
 -- the elements that are open behind a start tag
 pub start_nests : (t : Tag) (outer : List (List ℕ)) (a : List ℕ) → nest (Some outer) (tag (tag_name t) a) ≡ Some (cond (is_void (tag_name t)) outer (tag_name t ∷ outer))
@@ -116,6 +118,7 @@ start_nests elements.Figcaption outer a = refl
 start_nests elements.Svg outer a = refl
 start_nests elements.Rect outer a = refl
 start_nests elements.Line outer a = refl
+start_nests elements.Path outer a = refl
 start_nests elements.Text outer a = refl
 
 -- and behind the end tag of the innermost
@@ -157,6 +160,7 @@ end_nests elements.Figcaption outer a = refl
 end_nests elements.Svg outer a = refl
 end_nests elements.Rect outer a = refl
 end_nests elements.Line outer a = refl
+end_nests elements.Path outer a = refl
 end_nests elements.Text outer a = refl
 
 -- an attribute without the space before it

@@ -44,6 +44,7 @@ tag_name tags.Figcaption = codes "figcaption"
 tag_name tags.Svg = codes "svg"
 tag_name tags.Rect = codes "rect"
 tag_name tags.Line = codes "line"
+tag_name tags.Path = codes "path"
 tag_name tags.Text = codes "text"
 
 -- the name of an attribute
@@ -69,3 +70,4 @@ attribute_name names.Y1 = codes "y1"
 attribute_name names.Y2 = codes "y2"
 attribute_name names.Width = codes "width"
 attribute_name names.Height = codes "height"
+attribute_name names.D = codes "d"

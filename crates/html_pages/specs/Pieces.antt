@@ -1,11 +1,11 @@
 -- The pieces of a page.
-use Rattle.std.specs.Prelude.{ℕ, List, ◌++◌, codes, decimal}
+use Rattle.std.specs.Prelude.{ℕ, ◌/◌, ◌%◌, List, ◌++◌, codes, decimal}
 use Rattle.std.specs.List.{flat_map}
 use Rattle.html_pages.specs.Escaping.{escape}
 use Rattle.html_pages.specs.Names.{attribute_name, tag_name}
 use Rattle.html_pages.specs.declared.attributes.Attribute.{Attribute}
 use Rattle.html_pages.specs.declared.attributes.Value.{Value}
-use Rattle.html_pages.specs.declared.attributes.Value.TheVariants.{Box, Case, Constant, LinkToCase, Number}
+use Rattle.html_pages.specs.declared.attributes.Value.TheVariants.{Box, Case, Constant, LinkToCase, Number, Tenths, Triangle}
 use Rattle.html_pages.specs.declared.tags.Tag.{Tag}
 
 abbrev pub digits : ℕ → List ℕ
@@ -15,6 +15,14 @@ digits n = decimal n
 abbrev pub box_bytes : ℕ → ℕ → List ℕ
 box_bytes width height = codes "0 0 " ++ (digits width ++ (codes " " ++ digits height))
 
+-- a number of tenths
+abbrev pub tenths_bytes : ℕ → List ℕ
+tenths_bytes n = digits (n / 10) ++ (codes "." ++ digits (n % 10))
+
+-- a triangle that points down to a place: its point, and from there the two other corners
+abbrev pub triangle_bytes : ℕ → ℕ → List ℕ
+triangle_bytes right down = codes "M" ++ (tenths_bytes right ++ (codes " " ++ (tenths_bytes down ++ codes "l-5 -7 h10 z")))
+
 -- what the value of an attribute is
 abbrev pub value_bytes : Value → List ℕ
 value_bytes (Constant text) = text.now
@@ -22,6 +30,8 @@ value_bytes (Number n) = digits n
 value_bytes (Case n) = codes "case-" ++ digits n
 value_bytes (LinkToCase n) = codes "#case-" ++ digits n
 value_bytes (Box width height) = box_bytes width height
+value_bytes (Tenths n) = tenths_bytes n
+value_bytes (Triangle right down) = triangle_bytes right down
 
 -- an attribute behind the name of its tag, or behind another
 abbrev pub attribute_text : Attribute → List ℕ

@@ -26,6 +26,7 @@ pub enum AttributeName {
     Y2,
     Width,
     Height,
+    D,
 }
 
 /// The value of an attribute. It is a constant of the program or a number, and no text that comes from elsewhere.
@@ -35,12 +36,16 @@ pub enum Value {
     Constant(&'static str),
     /// A number.
     Number(u64),
+    /// A number of tenths, with its decimal: 123 is `12.3`.
+    Tenths(u64),
     /// The place of a case on the page, `case-N`.
     Case(u32),
     /// A link to the place of a case on the page, `#case-N`.
     LinkToCase(u32),
     /// A box from 0 0 on, by its width and its height.
     Box(u64, u64),
+    /// The path of a small triangle that points down to a place: by tenths to the right and down.
+    Triangle(u64, u64),
 }
 
 /// An attribute of an element.
@@ -77,6 +82,7 @@ impl AttributeName {
             AttributeName::Y2 => b"y2",
             AttributeName::Width => b"width",
             AttributeName::Height => b"height",
+            AttributeName::D => b"d",
         }
     }
 }

@@ -57,9 +57,11 @@ fn push_value(page: &mut Vec<u8>, value: Value) -> Result<(), AllocError>
     match value {
         Value::Constant(text) => push_text(page, text.as_bytes()),
         Value::Number(number) => push_number(page, b"", number),
+        Value::Tenths(tenths) => push_tenths(page, b"", tenths),
         Value::Case(number) => push_number(page, b"case-", u64::from(number)),
         Value::LinkToCase(number) => push_number(page, b"#case-", u64::from(number)),
         Value::Box(width, height) => push_box(page, width, height),
+        Value::Triangle(right, down) => push_triangle(page, right, down),
     }
 }
 
@@ -76,4 +78,20 @@ fn push_box(page: &mut Vec<u8>, width: u64, height: u64) -> Result<(), AllocErro
 {
     push_number(page, b"0 0 ", width)?;
     push_number(page, b" ", height)
+}
+
+// Puts a number of tenths at the end, behind a text.
+fn push_tenths(page: &mut Vec<u8>, front: &[u8], tenths: u64) -> Result<(), AllocError>
+    ensures { OnOk result (page.new.items ≡ page.old.items ++ escape (front.now ++ spec.tenths_bytes tenths)) }
+{
+    push_number(page, front, tenths / 10)?;
+    push_number(page, b".", tenths % 10)
+}
+
+fn push_triangle(page: &mut Vec<u8>, right: u64, down: u64) -> Result<(), AllocError>
+    ensures { OnOk result (page.new.items ≡ page.old.items ++ escape (spec.triangle_bytes right down)) }
+{
+    push_tenths(page, b"M", right)?;
+    push_tenths(page, b" ", down)?;
+    push_text(page, b"l-5 -7 h10 z")
 }

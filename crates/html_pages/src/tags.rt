@@ -43,6 +43,7 @@ pub enum Tag {
     Svg,
     Rect,
     Line,
+    Path,
     Text,
 }
 
@@ -99,6 +100,7 @@ impl Tag {
             Tag::Svg => b"svg",
             Tag::Rect => b"rect",
             Tag::Line => b"line",
+            Tag::Path => b"path",
             Tag::Text => b"text",
         }
     }

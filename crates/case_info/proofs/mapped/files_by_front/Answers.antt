@@ -30,7 +30,7 @@ executables_of-requires g c = c.in_ok-told.ensures.has.1.0
 
 pub builds_of-requires-clause-has : goal.builds_of-requires-clause-has
 builds_of-requires-clause-has g c =
-    still_sized g.D.Disk g.met.D.Disk.only_now c.told_of.new.archive c.executables_of.new.archive c.args.image.seq c.args.image.size _ _ c.in_ok-told.ensures.has c.in_ok-executables.ensures
+    still_sized g.D.Disk g.met.D.Disk.only_now c.told_of.new.archive c.executables_of.new.archive c.args.image.seq c.args.image.size _ _ c.in_ok-told.ensures.has c.in_ok-executables.ensures.collects
 
 pub builds_of-requires-clause-short : goal.builds_of-requires-clause-short
 builds_of-requires-clause-short g c =
@@ -88,7 +88,7 @@ returns-clause-sees g c = λ old has seen.
     let says = c.core_in.ensures.says image (subst (λ b. IsFront Core b image) own is) in
     let xs = map executable_view c.in_ok-executables.executables.items in
     let facts = c.in_ok-facts.facts in
-    let found = c.in_ok-facts.ensures old (still_pieces g.D.Disk g.met.D.Disk.only_now old mid read o told.pieces.items _ xs sees c.in_ok-executables.ensures) in
+    let found = c.in_ok-facts.ensures old (still_pieces g.D.Disk g.met.D.Disk.only_now old mid read o told.pieces.items _ xs sees c.in_ok-executables.ensures.collects) in
     let views = ap (map executable_view) c.deref.ensures.value in (
       builds_of found.image xs,
       (
@@ -101,7 +101,7 @@ returns-clause-sees g c = λ old has seen.
               tells = c.in_ok-told.ensures.told.told image sees.2;
               executables = xs;
               read = read;
-              collects = c.in_ok-executables.ensures;
+              collects = c.in_ok-executables.ensures.collects;
               again = found.image;
               seen = found.seen;
               still = found.tells;

@@ -5,10 +5,13 @@ use Rattle.case_info.specs.Fronts.{IsFront}
 use Rattle.case_info.proofs.ScreenLemmas.{bytes_in, front_short, has_still, sound_core}
 use Rattle.case_info.proofs.report.page_core.Goals as goal
 
-pub told_of-requires-clause-has : goal.told_of-requires-clause-has
-told_of-requires-clause-has g c =
+pub read_stack-requires : goal.read_stack-requires
+read_stack-requires g c =
     let seen = c.in_ok-front.ensures in
     has_still g.D.Disk c.args.archive.now c.front_of.new.archive c.args.seq c.in_ok-size.size seen.0 c.in_ok-size.ensures seen.1
+
+pub told_of-requires-clause-has : goal.told_of-requires-clause-has
+told_of-requires-clause-has g c = c.in_ok-stack.ensures.has
 
 pub told_of-requires-clause-short : goal.told_of-requires-clause-short
 told_of-requires-clause-short g c =
@@ -31,12 +34,12 @@ executables_of-requires g c = c.in_ok-told.ensures.has.1.0
 
 pub debug_files_of-requires : goal.debug_files_of-requires
 debug_files_of-requires g c =
-    (still_sized g.D.Disk g.met.D.Disk.only_now c.told_of.new.archive c.executables_of.new.archive c.args.seq c.in_ok-size.size _ _ c.in_ok-told.ensures.has c.in_ok-executables.ensures).1.0
+    (still_sized g.D.Disk g.met.D.Disk.only_now c.told_of.new.archive c.executables_of.new.archive c.args.seq c.in_ok-size.size _ _ c.in_ok-told.ensures.has c.in_ok-executables.ensures.collects).1.0
 
 pub facts_of-requires-clause-has : goal.facts_of-requires-clause-has
 facts_of-requires-clause-has g c =
-    let has = still_sized g.D.Disk g.met.D.Disk.only_now c.told_of.new.archive c.executables_of.new.archive c.args.seq c.in_ok-size.size _ _ c.in_ok-told.ensures.has c.in_ok-executables.ensures in
-    still_sized g.D.Disk g.met.D.Disk.only_now c.executables_of.new.archive c.debug_files_of.new.archive c.args.seq c.in_ok-size.size _ _ has c.in_ok-debug_files.ensures
+    let has = still_sized g.D.Disk g.met.D.Disk.only_now c.told_of.new.archive c.executables_of.new.archive c.args.seq c.in_ok-size.size _ _ c.in_ok-told.ensures.has c.in_ok-executables.ensures.collects in
+    still_sized g.D.Disk g.met.D.Disk.only_now c.executables_of.new.archive c.debug_files_of.new.archive c.args.seq c.in_ok-size.size _ _ has c.in_ok-debug_files.ensures.collects
 
 pub facts_of-requires-clause-short : goal.facts_of-requires-clause-short
 facts_of-requires-clause-short g c =

@@ -33,13 +33,13 @@ executables_of-requires g c = c.in_ok-told.ensures.has.1.0
 
 pub debug_files_of-requires : goal.debug_files_of-requires
 debug_files_of-requires g c =
-    (still_sized g.D.Disk g.met.D.Disk.only_now c.told_of.new.archive c.executables_of.new.archive c.args.image.seq c.args.image.size _ _ c.in_ok-told.ensures.has c.in_ok-executables.ensures).1.0
+    (still_sized g.D.Disk g.met.D.Disk.only_now c.told_of.new.archive c.executables_of.new.archive c.args.image.seq c.args.image.size _ _ c.in_ok-told.ensures.has c.in_ok-executables.ensures.collects).1.0
 
 pub stored_facts-requires-clause-has : goal.stored_facts-requires-clause-has
 stored_facts-requires-clause-has g c =
     let o = c.args.image in
-    let has = still_sized g.D.Disk g.met.D.Disk.only_now c.told_of.new.archive c.executables_of.new.archive o.seq o.size _ _ c.in_ok-told.ensures.has c.in_ok-executables.ensures in
-    still_sized g.D.Disk g.met.D.Disk.only_now c.executables_of.new.archive c.debug_files_of.new.archive o.seq o.size _ _ has c.in_ok-debug_files.ensures
+    let has = still_sized g.D.Disk g.met.D.Disk.only_now c.told_of.new.archive c.executables_of.new.archive o.seq o.size _ _ c.in_ok-told.ensures.has c.in_ok-executables.ensures.collects in
+    still_sized g.D.Disk g.met.D.Disk.only_now c.executables_of.new.archive c.debug_files_of.new.archive o.seq o.size _ _ has c.in_ok-debug_files.ensures.collects
 
 pub stored_facts-requires-clause-short : goal.stored_facts-requires-clause-short
 stored_facts-requires-clause-short g c =
@@ -79,9 +79,9 @@ returns g c = λ old has seen.
     let is = front_again Core o.front.now seen.0 image size (sized g.D.Disk old first seq size seen.0 has seen.1) sees.2.0 begins in
     let says = c.core_in.ensures.says image (subst (λ b. IsFront Core b image) own is) in
     let xs = map executable_view c.in_ok-executables.executables.items in
-    let collects = c.in_ok-executables.ensures in
+    let collects = c.in_ok-executables.ensures.collects in
     let ds = map executable_view c.in_ok-debug_files.debug_files.items in
-    let debugs = c.in_ok-debug_files.ensures in
+    let debugs = c.in_ok-debug_files.ensures.collects in
     let facts = c.in_ok-facts.facts in
     let still = still_pieces g.D.Disk g.met.D.Disk.only_now old mid read o told.pieces.items _ xs sees collects in
     let found = c.in_ok-facts.ensures old (still_pieces g.D.Disk g.met.D.Disk.only_now old read last o told.pieces.items _ ds still debugs) in

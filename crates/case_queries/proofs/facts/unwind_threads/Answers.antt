@@ -1,14 +1,21 @@
-use Rattle.std.proofs.Common.{List, Option, Vec, Global, map, sym, subst, ap, ◌∙◌, arith, rules}
+use Rattle.build_replies.specs.Choosing.{Choice}
+use Rattle.frame_replies.specs.Walking.{AreExecutablesOf}
+use Rattle.std.proofs.Common.{List, Option, Vec, Global, sym, subst, ap, ◌∙◌, arith, rules}
 use Rattle.frame_replies.specs.declared.values.FramesAnswer.{FramesAnswer}
 use Rattle.build_replies.specs.Mapped.{told_view}
 use Rattle.intake.specs.Parts.{Parts}
-use Rattle.memory_replies.specs.Memory.{attached_view}
 use Rattle.case_queries.specs.Facts.{AreFramesOf}
 use Rattle.case_queries.specs.Pieces.{BeginsWith, SeesPieces}
+use Rattle.case_queries.specs.Preparing.{prepared_views}
 use Rattle.case_queries.specs.declared.window.Part.{Part}
 use Rattle.case_queries.proofs.FactLemmas.{frames_more}
 use Rattle.case_queries.proofs.FramesLemmas.{walks_same}
 use Rattle.case_queries.proofs.facts.unwind_threads.Goals as goal
+
+pub process_in_core-requires : goal.process_in_core-requires
+process_in_core-requires g c =
+    let p = c.args.prepared.now in
+    subst (λ (k : Choice). AreExecutablesOf k p.unwound) (sym (c.requires.chosen ∙ c.requires.serve)) p.are
 
 pub loop-thread-init : goal.loop-thread-init
 loop-thread-init g c =
@@ -16,10 +23,10 @@ loop-thread-init g c =
     let found = c.in-Ok.ensures in
     record {
       has = c.requires.has;
-      walks = found.walks o c.requires.front c.requires.sound c.requires.told;
+      walks = found.walks o (prepared_views c.args.prepared.now) c.requires.front c.requires.sound c.requires.told c.requires.chosen;
       pieces = ap (λ (v : Vec Part Global). v.items) found.pieces;
       sees = λ before seen. seen;
-      told = λ before seen. subst (λ (us : List (Option FramesAnswer)). AreFramesOf g.D.Disk before o.seq o.front.now o.size (told_view c.args.told.files) (map attached_view c.args.attached.now) 0 us) (sym c.new-all.ensures.items) tt;
+      told = λ before seen. subst (λ (us : List (Option FramesAnswer)). AreFramesOf g.D.Disk before o.seq o.front.now o.size (told_view c.args.told.files) (prepared_views c.args.prepared.now) 0 us) (sym c.new-all.ensures.items) tt;
       count = search (rules, c.new-all.ensures.items);
     }
 
@@ -32,7 +39,7 @@ thread_frames-requires-clause-some g c = c.loop-thread.invariant.walks.some
 pub loop-thread-preserved : goal.loop-thread-preserved
 loop-thread-preserved g c =
     let o = c.args.image in
-    let xs = map attached_view c.args.attached.now in
+    let xs = prepared_views c.args.prepared.now in
     let told = c.args.told in
     let so_far = c.loop-thread.invariant in
     let thread = c.loop-thread.thread in

@@ -1,9 +1,9 @@
-use Rattle.std.proofs.Common.{List, [], ◌++◌, Ok, Err, map, refl, subst, sym}
+use Rattle.std.proofs.Common.{List, [], Ok, Err, map, refl, subst, sym}
 use Rattle.std.proofs.lemmas.List.{append-nil}
 use Rattle.address_space.specs.Source.{ExecutableView}
 use Rattle.archive_replies.specs.Reasons.{reason_of}
 use Rattle.intake.specs.Parts.{state_of}
-use Rattle.memory_replies.specs.Answers.{Answers, AnswersWith}
+use Rattle.memory_replies.specs.Answers.{Answers}
 use Rattle.memory_replies.specs.SymbolDebug.{symbol_with_debug}
 use Rattle.script_lines.specs.Queries.{ask_symbol_by_build}
 use Rattle.script_streams.specs.Replies.{no_reply}

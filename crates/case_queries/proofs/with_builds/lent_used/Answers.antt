@@ -1,4 +1,4 @@
-use Rattle.std.proofs.Common.{◌≡◌, ◌++◌, List, map, ap, sym, ◌∙◌}
+use Rattle.std.proofs.Common.{◌++◌, List, map, ap, sym, ◌∙◌}
 use Rattle.build_replies.specs.Builds.{NamedId, told_or_none}
 use Rattle.build_replies.specs.Choosing.{Choice, debugs_of, used_of}
 use Rattle.build_replies.specs.ToldLaws.{told_all}

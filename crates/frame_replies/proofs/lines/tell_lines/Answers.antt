@@ -13,8 +13,8 @@ loop-index-init g c = up_to_start
 
 pub loop-index-preserved : goal.loop-index-preserved
 loop-index-preserved g c =
-    up_to_then (line_left (walked_line (space_of c.args.process.now.space).files (named_in c.args.process.now.images)) c.args.frames.now c.loop-index.index _ (omega arith)) c.loop-index.invariant (tells_as (ap (value_line c.loop-index.index) c.frame.ensures) c.tell_line.ensures)
+    up_to_then (line_left (walked_line (space_of c.args.process.now.space).files (named_in c.args.process.now.executables.now.images)) c.args.frames.now c.loop-index.index _ (omega arith)) c.loop-index.invariant (tells_as (ap (value_line c.loop-index.index) c.frame.ensures) c.tell_line.ensures)
 
 pub returns : goal.returns
 returns g c =
-    up_to_end (none_left (walked_line (space_of c.args.process.now.space).files (named_in c.args.process.now.images)) c.args.frames.now c.loop-index.index (omega arith)) c.loop-index.invariant
+    up_to_end (none_left (walked_line (space_of c.args.process.now.space).files (named_in c.args.process.now.executables.now.images)) c.args.frames.now c.loop-index.index (omega arith)) c.loop-index.invariant

@@ -11,7 +11,7 @@ use Rattle.frame_replies.proofs.lines.tell_walked.Goals as goal
 pub returns : goal.returns
 returns g c image executables thread is ended =
     let p = c.args.process.now in
-    let lines = tells_as (ap (numbered_lines (walked_line (space_of p.space).files (named_in p.images)) 0) c.deref.ensures.value) c.tell_lines.ensures in (
+    let lines = tells_as (ap (numbered_lines (walked_line (space_of p.space).files (named_in p.executables.now.images)) 0) c.deref.ensures.value) c.tell_lines.ensures in (
       _,
       shown _ _ (unwind_told image executables thread p c.args.walk.now c.args.stop is ended),
       tells_then (tells_then lines c.tell_stop.ensures) c.tell_ok.ensures,

@@ -1,5 +1,5 @@
 use Rattle.std.proofs.Common.{map, refl, ◌∙◌}
-use Rattle.build_replies.specs.Choosing.{choice_for}
+use Rattle.build_replies.specs.ChoosingWords.{choice_view}
 use Rattle.image_replies.specs.CoreWords.{core_bytes}
 use Rattle.memory_replies.specs.Memory.{attached_view}
 use Rattle.frame_replies.specs.WalkLaws.{frame_missing, walk_begins, walk_goes_on}
@@ -8,6 +8,12 @@ use Rattle.frame_replies.proofs.registers.tell_frame.Goals as goal
 
 pub returns-in_default : goal.returns-in_default
 returns-in_default g c = (_, no_memory _ _ c.tell_no_memory.ensures.outcome, c.tell_no_memory.ensures.tells)
+
+pub returns-in_default-of : goal.returns-in_default-of
+returns-in_default-of g c = (_, no_memory _ _ c.tell_no_memory-in_default-of.ensures.outcome, c.tell_no_memory-in_default-of.ensures.tells)
+
+pub returns-in_default-of-2 : goal.returns-in_default-of-2
+returns-in_default-of-2 g c = (_, no_memory _ _ c.tell_no_memory-in_default-of-2.ensures.outcome, c.tell_no_memory-in_default-of-2.ensures.tells)
 
 pub returns-in_default-begin : goal.returns-in_default-begin
 returns-in_default-begin g c =
@@ -19,9 +25,9 @@ pub returns-in-Ok-go_on : goal.returns-in-Ok-go_on
 returns-in-Ok-go_on g c =
     let b = core_bytes c.args.core.now in
     let xs = map attached_view c.args.attached.now in
-    let p = c.in-Ok.process in
+    let p = c.in-Ok-of-2.process in
     let whole = whole_image b c.image-image.result.now _ (c.image-image.ensures ∙ c.elf.ensures.image) refl in
-    let begun = walk_begins b b xs (choice_for b xs) c.args.thread p c.in-Some.begun c.in-Ok.ensures refl refl refl refl c.in-Some.ensures in
+    let begun = walk_begins b b xs (choice_view c.in-Ok.chosen) c.args.thread p c.in-Some.begun c.in-Ok-of-2.ensures c.in-Ok.ensures refl refl refl c.in-Some.ensures in
     let now = walk_goes_on b xs c.args.thread p c.in-Some.begun c.go_on.new.self begun (c.in-Ok-go_on.ensures.walks b whole) in
     c.tell_walked_frame.ensures b xs c.args.thread p c.in-Ok-go_on.field-0 now c.in-Ok-go_on.ensures.told
 

@@ -7,4 +7,4 @@ use Rattle.frame_replies.proofs.process.UnwoundProcess.frames.Given as goal
 
 -- the values of those that went by
 abbrev pub invariant-loop-walked : goal.invariant-loop-walked
-invariant-loop-walked l = map frame_view l.frames.items ≡ map (walked_value (space_of l.self.space).files (named_in l.self.images)) (take l.walked-index l.walk.frames.items)
+invariant-loop-walked l = map frame_view l.frames.items ≡ map (walked_value (space_of l.self.space).files (named_in l.self.executables.now.images)) (take l.walked-index l.walk.frames.items)

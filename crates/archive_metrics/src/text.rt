@@ -1,0 +1,141 @@
+// The text.
+ghost use Rattle.std.specs.Prelude.{◌≡◌};
+ghost use Rattle.std.specs.List.{flat_map};
+ghost use Rattle.script_streams.specs.Replies.{TellsText, telling};
+ghost use Rattle.archive_metrics.specs.Metrics.{label_byte, metric_text, metrics_text, newest_text, sample_text};
+
+use archive_screens::ArchiveFacts;
+use script_streams::{Output, Reply};
+
+// A metric: its name, its type, and what it is.
+#[derive(Clone, Copy)]
+struct Metric {
+    name: &'static [u8],
+    kind: &'static [u8],
+    help: &'static [u8],
+}
+
+const CORES: Metric = Metric {
+    name: b"corekeep_cores",
+    kind: b"gauge",
+    help: b"Cores in the archive.",
+};
+
+const EXECUTABLES: Metric = Metric {
+    name: b"corekeep_executables",
+    kind: b"gauge",
+    help: b"Executables in the archive.",
+};
+
+const PINNED: Metric = Metric {
+    name: b"corekeep_pinned",
+    kind: b"gauge",
+    help: b"Cases that are pinned.",
+};
+
+const DATA_BLOCKS: Metric = Metric {
+    name: b"corekeep_data_blocks",
+    kind: b"gauge",
+    help: b"Data blocks of 4096 bytes.",
+};
+
+const FREE_BLOCKS: Metric = Metric {
+    name: b"corekeep_free_blocks",
+    kind: b"gauge",
+    help: b"Data blocks that no case has.",
+};
+
+const HALF_BYTES: Metric = Metric {
+    name: b"corekeep_half_bytes",
+    kind: b"gauge",
+    help: b"Bytes of a half of the journal.",
+};
+
+const USED_BYTES: Metric = Metric {
+    name: b"corekeep_used_bytes",
+    kind: b"gauge",
+    help: b"Bytes in use of the half of the journal that counts.",
+};
+
+const STORED: Metric = Metric {
+    name: b"corekeep_cases_stored_total",
+    kind: b"counter",
+    help: b"Cases that were ever stored: the highest number that was given.",
+};
+
+const NEWEST: Metric = Metric {
+    name: b"corekeep_newest_core_timestamp_seconds",
+    kind: b"gauge",
+    help: b"The time of the newest core.",
+};
+
+/// Tells the facts of the archive in a file of this path, as the text of Prometheus and of OpenMetrics: for each metric its help, its type,
+/// and one sample with the path as the label `archive`; and then `# EOF`. The time of the newest core is left out if no core has one.
+pub fn tell_metrics<O: Output>(reply: &mut Reply<'_, O>, path: &[u8], facts: &ArchiveFacts)
+    ensures { TellsText (telling O.Output reply.old reply.new) (metrics_text path.now facts.now) }
+{
+    tell_metric(reply, CORES, path, facts.cores);
+    tell_metric(reply, EXECUTABLES, path, facts.executables);
+    tell_metric(reply, PINNED, path, facts.pinned);
+    tell_metric(reply, DATA_BLOCKS, path, u64::from(facts.data_blocks));
+    tell_metric(reply, FREE_BLOCKS, path, facts.free_blocks);
+    tell_metric(reply, HALF_BYTES, path, facts.half);
+    tell_metric(reply, USED_BYTES, path, facts.used);
+    tell_metric(reply, STORED, path, facts.last_number);
+    tell_newest(reply, path, facts.newest);
+    reply.tell(b"# EOF\n");
+}
+
+fn tell_newest<O: Output>(reply: &mut Reply<'_, O>, path: &[u8], newest: u64)
+    ensures { TellsText (telling O.Output reply.old reply.new) (newest_text path.now newest) }
+{
+    if newest != 0 {
+        tell_metric(reply, NEWEST, path, newest);
+    }
+}
+
+fn tell_metric<O: Output>(reply: &mut Reply<'_, O>, metric: Metric, path: &[u8], value: u64)
+    ensures { TellsText (telling O.Output reply.old reply.new) (metric_text metric.name.now metric.kind.now metric.help.now path.now value) }
+{
+    reply.tell(b"# HELP ");
+    reply.tell(metric.name);
+    reply.tell(b" ");
+    reply.tell(metric.help);
+    reply.tell(b"\n# TYPE ");
+    reply.tell(metric.name);
+    reply.tell(b" ");
+    reply.tell(metric.kind);
+    reply.tell(b"\n");
+    tell_sample(reply, metric.name, path, value);
+}
+
+fn tell_sample<O: Output>(reply: &mut Reply<'_, O>, name: &[u8], path: &[u8], value: u64)
+    ensures { TellsText (telling O.Output reply.old reply.new) (sample_text name.now path.now value) }
+{
+    reply.tell(name);
+    reply.tell(b"{archive=\"");
+    tell_label(reply, path);
+    reply.tell(b"\"} ");
+    reply.tell_decimal(u128::from(value));
+    reply.tell(b"\n");
+}
+
+// Tells a text as the value of a label.
+fn tell_label<O: Output>(reply: &mut Reply<'_, O>, text: &[u8])
+    ensures { TellsText (telling O.Output reply.old reply.new) (flat_map label_byte text.now) }
+{
+    for byte in text {
+        tell_label_byte(reply, *byte);
+    }
+}
+
+fn tell_label_byte<O: Output>(reply: &mut Reply<'_, O>, byte: u8)
+    ensures { TellsText (telling O.Output reply.old reply.new) (label_byte byte) }
+{
+    match byte {
+        b'\\' => reply.tell(b"\\\\"),
+        b'"' => reply.tell(b"\\\""),
+        b'\n' => reply.tell(b"\\n"),
+        _ => reply.tell(&[byte]),
+    }
+}

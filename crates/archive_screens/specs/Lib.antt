@@ -1,0 +1,3 @@
+pub mod Days
+pub mod Archive
+pub mod Tally

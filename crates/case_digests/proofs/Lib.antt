@@ -1,0 +1,2 @@
+pub mod HashLemmas
+pub mod DigestLemmas
