@@ -69,32 +69,45 @@ pub const NT_SIGINFO: u32 = 0x5349_4749;
 /// The place of the section headers of a made executable.
 const SECTIONS_AT: u64 = 0x1000;
 
+/// Little-endian fields at the end of `out`: of each its width, up to 8 bytes, and its value.
+fn push_fields(out: &mut Vec<u8>, fields: &[(usize, u64)]) -> Result<(), AllocError> {
+    for (width, value) in fields {
+        out.extend_from_slice(&value.to_le_bytes()[..(*width).min(8)])?;
+    }
+    Ok(())
+}
+
 /// What a file header tells.
 #[derive(Clone, Copy)]
 struct FileParts {
-    kind: u16,
-    header_size: u16,
-    segments: u16,
+    kind: u64,
+    header_size: u64,
+    segments: u64,
     sections_at: u64,
-    sections: u16,
+    sections: u64,
+}
+
+/// The first fields of a file header, up to e_version: of RISC-V 64.
+fn push_identity(out: &mut Vec<u8>, kind: u64) -> Result<(), AllocError> {
+    out.extend_from_slice(b"\x7fELF\x02\x01\x01\0\0\0\0\0\0\0\0\0")?;
+    push_fields(out, &[(2, kind), (2, 243), (4, 1)])
 }
 
 /// A file header; the program headers follow it.
-fn file_header(parts: FileParts) -> [u8; 64] {
+fn push_file_header(out: &mut Vec<u8>, parts: FileParts) -> Result<(), AllocError> {
     let section_size = if parts.sections == 0 { 0 } else { 64 };
-    let mut header = [0u8; 64];
-    header[..7].copy_from_slice(b"\x7fELF\x02\x01\x01");
-    LittleEndian::write_u16(&mut header[16..], parts.kind);
-    LittleEndian::write_u16(&mut header[18..], 243);
-    LittleEndian::write_u32(&mut header[20..], 1);
-    LittleEndian::write_u64(&mut header[32..], 64);
-    LittleEndian::write_u64(&mut header[40..], parts.sections_at);
-    LittleEndian::write_u16(&mut header[52..], parts.header_size);
-    LittleEndian::write_u16(&mut header[54..], 56);
-    LittleEndian::write_u16(&mut header[56..], parts.segments);
-    LittleEndian::write_u16(&mut header[58..], section_size);
-    LittleEndian::write_u16(&mut header[60..], parts.sections);
-    header
+    push_identity(out, parts.kind)?;
+    let places = [(8, 0), (8, 64), (8, parts.sections_at), (4, 0)];
+    push_fields(out, &places)?;
+    let sizes = [
+        (2, parts.header_size),
+        (2, 56),
+        (2, parts.segments),
+        (2, section_size),
+        (2, parts.sections),
+        (2, 0),
+    ];
+    push_fields(out, &sizes)
 }
 
 /// The places and sizes of a segment.
@@ -115,25 +128,33 @@ const FIRST_PAGE: Extent = Extent {
 };
 
 /// A program header.
-fn program_header(kind: u32, flags: u32, extent: Extent) -> [u8; 56] {
-    let mut header = [0u8; 56];
-    LittleEndian::write_u32(&mut header, kind);
-    LittleEndian::write_u32(&mut header[4..], flags);
-    LittleEndian::write_u64(&mut header[8..], extent.offset);
-    LittleEndian::write_u64(&mut header[16..], extent.vaddr);
-    LittleEndian::write_u64(&mut header[32..], extent.filesz);
-    LittleEndian::write_u64(&mut header[40..], extent.memsz);
-    header
+fn push_program_header(
+    out: &mut Vec<u8>,
+    kind: u32,
+    flags: u32,
+    extent: Extent,
+) -> Result<(), AllocError> {
+    let fields = [
+        (4, u64::from(kind)),
+        (4, u64::from(flags)),
+        (8, extent.offset),
+        (8, extent.vaddr),
+        (8, 0),
+        (8, extent.filesz),
+        (8, extent.memsz),
+        (8, 0),
+    ];
+    push_fields(out, &fields)
 }
 
 /// The fields of a section header that are not zero.
 #[derive(Clone, Copy)]
 struct SectionParts {
-    kind: u32,
+    kind: u64,
     offset: u64,
     size: u64,
-    link: u32,
-    info: u32,
+    link: u64,
+    info: u64,
     entry: u64,
 }
 
@@ -148,23 +169,40 @@ const NO_SECTION: SectionParts = SectionParts {
 };
 
 /// A section header.
-fn section_header(parts: SectionParts) -> [u8; 64] {
-    let mut header = [0u8; 64];
-    LittleEndian::write_u32(&mut header[4..], parts.kind);
-    LittleEndian::write_u64(&mut header[24..], parts.offset);
-    LittleEndian::write_u64(&mut header[32..], parts.size);
-    LittleEndian::write_u32(&mut header[40..], parts.link);
-    LittleEndian::write_u32(&mut header[44..], parts.info);
-    LittleEndian::write_u64(&mut header[56..], parts.entry);
-    header
+fn push_section_header(out: &mut Vec<u8>, parts: SectionParts) -> Result<(), AllocError> {
+    let fields = [
+        (4, 0),
+        (4, parts.kind),
+        (8, 0),
+        (8, 0),
+        (8, parts.offset),
+        (8, parts.size),
+        (4, parts.link),
+        (4, parts.info),
+        (8, 0),
+        (8, parts.entry),
+    ];
+    push_fields(out, &fields)
 }
 
-/// Zeros up to a multiple of four bytes.
-fn push_padding(out: &mut Vec<u8>) -> Result<(), AllocError> {
-    for _ in 0..(4 - out.len() % 4) % 4 {
-        out.push(0)?;
-    }
-    Ok(())
+/// Bytes, and zeros up to a multiple of four bytes.
+fn push_padded(out: &mut Vec<u8>, bytes: &[u8]) -> Result<(), AllocError> {
+    out.extend_from_slice(bytes)?;
+    let padding = (4 - out.len() % 4) % 4;
+    out.extend_from_slice(&[0u8; 4][..padding])
+}
+
+/// A note, and its paddings.
+fn push_note(out: &mut Vec<u8>, note: &NotePart<'_>) -> Result<(), AllocError> {
+    let sizes = [
+        (4, (note.name.len() as u64).saturating_add(1)),
+        (4, note.desc.len() as u64),
+        (4, u64::from(note.kind)),
+    ];
+    push_fields(out, &sizes)?;
+    out.extend_from_slice(note.name)?;
+    push_padded(out, &[0])?;
+    push_padded(out, note.desc)
 }
 
 /// The bytes of notes, one after the other.
@@ -173,56 +211,21 @@ fn push_padding(out: &mut Vec<u8>) -> Result<(), AllocError> {
 pub fn note_bytes(alloc: Global, notes: &[NotePart<'_>]) -> Result<Vec<u8>, AllocError> {
     let mut out = Vec::new(alloc);
     for note in notes {
-        let mut sizes = [0u8; 12];
-        LittleEndian::write_u32(&mut sizes, length_of(note.name).saturating_add(1));
-        LittleEndian::write_u32(&mut sizes[4..], length_of(note.desc));
-        LittleEndian::write_u32(&mut sizes[8..], note.kind);
-        out.extend_from_slice(&sizes)?;
-        out.extend_from_slice(note.name)?;
-        out.push(0)?;
-        push_padding(&mut out)?;
-        out.extend_from_slice(note.desc)?;
-        push_padding(&mut out)?;
+        push_note(&mut out, note)?;
     }
     Ok(out)
 }
 
-/// The length of a part, as far as a u32 tells it.
-fn length_of(bytes: &[u8]) -> u32 {
-    bytes.len().min(u32::MAX as usize) as u32
-}
-
-/// The program headers of a core, whose data begins at `start`, and where it ends.
-fn core_headers(
-    alloc: Global,
-    start: u64,
-    notes: Option<u64>,
-    loads: &[LoadPart<'_>],
-) -> Result<(Vec<u8>, u64), AllocError> {
-    let mut out = Vec::new(alloc);
-    let mut offset = start;
-    if let Some(filesz) = notes {
-        let extent = Extent {
-            offset,
-            vaddr: 0,
-            filesz,
-            memsz: 0,
-        };
-        out.extend_from_slice(&program_header(4, 0, extent))?;
-        offset = offset.saturating_add(filesz);
+/// The file header of a core of so many segments. From 65,535 on a section header at `end` holds their number.
+fn core_parts(count: u64, end: u64) -> FileParts {
+    let is_many = count >= 0xffff;
+    FileParts {
+        kind: 4,
+        header_size: 64,
+        segments: count.min(0xffff),
+        sections_at: if is_many { end } else { 0 },
+        sections: u64::from(is_many),
     }
-    for load in loads {
-        let filesz = load.bytes.len() as u64;
-        let extent = Extent {
-            offset,
-            vaddr: load.vaddr,
-            filesz,
-            memsz: load.memsz,
-        };
-        out.extend_from_slice(&program_header(1, load.flags, extent))?;
-        offset = offset.saturating_add(filesz);
-    }
-    Ok((out, offset))
 }
 
 /// A core: its file header, its program headers, its notes in one PT_NOTE (none where there are no notes), and the bytes of
@@ -234,34 +237,86 @@ pub fn core_image(
     notes: &[NotePart<'_>],
     loads: &[LoadPart<'_>],
 ) -> Result<Vec<u8>, AllocError> {
-    let text = note_bytes(alloc, notes)?;
-    let filesz = if notes.is_empty() {
-        None
-    } else {
-        Some(text.len() as u64)
-    };
-    let count = (loads.len() as u64).saturating_add(u64::from(filesz.is_some()));
-    let start = count.saturating_mul(56).saturating_add(64);
-    let (headers, end) = core_headers(alloc, start, filesz, loads)?;
-    let is_many = count >= 0xffff;
     let mut out = Vec::new(alloc);
-    out.extend_from_slice(&file_header(FileParts {
-        kind: 4,
-        header_size: 64,
-        segments: count.min(0xffff) as u16,
-        sections_at: if is_many { end } else { 0 },
-        sections: u16::from(is_many),
-    }))?;
-    out.extend_from_slice(&headers)?;
-    out.extend_from_slice(&text)?;
+    push_core(&mut out, &note_bytes(alloc, notes)?, loads)?;
+    Ok(out)
+}
+
+/// A core of notes of these bytes.
+fn push_core(out: &mut Vec<u8>, notes: &[u8], loads: &[LoadPart<'_>]) -> Result<(), AllocError> {
+    let count = (loads.len() as u64).saturating_add(u64::from(!notes.is_empty()));
+    let start = count.saturating_mul(56).saturating_add(64);
+    let length = notes.len() as u64;
+    let first = start.saturating_add(length);
+    push_file_header(out, core_parts(count, end_of(first, loads)))?;
+    push_note_header(out, start, length)?;
+    push_load_headers(out, first, loads)?;
+    out.extend_from_slice(notes)?;
+    push_loads(out, loads)?;
+    push_count(out, count)
+}
+
+/// Where the bytes of PT_LOAD segments end that begin at `start`.
+fn end_of(start: u64, loads: &[LoadPart<'_>]) -> u64 {
+    let mut end = start;
+    for load in loads {
+        end = end.saturating_add(load.bytes.len() as u64);
+    }
+    end
+}
+
+/// The program header of notes, if there are any.
+fn push_note_header(out: &mut Vec<u8>, offset: u64, filesz: u64) -> Result<(), AllocError> {
+    if filesz == 0 {
+        return Ok(());
+    }
+    let extent = Extent {
+        offset,
+        vaddr: 0,
+        filesz,
+        memsz: 0,
+    };
+    push_program_header(out, 4, 0, extent)
+}
+
+/// The program headers of PT_LOAD segments, whose bytes begin at `start`.
+fn push_load_headers(
+    out: &mut Vec<u8>,
+    start: u64,
+    loads: &[LoadPart<'_>],
+) -> Result<(), AllocError> {
+    let mut offset = start;
+    for load in loads {
+        let filesz = load.bytes.len() as u64;
+        let extent = Extent {
+            offset,
+            vaddr: load.vaddr,
+            filesz,
+            memsz: load.memsz,
+        };
+        push_program_header(out, 1, load.flags, extent)?;
+        offset = offset.saturating_add(filesz);
+    }
+    Ok(())
+}
+
+fn push_loads(out: &mut Vec<u8>, loads: &[LoadPart<'_>]) -> Result<(), AllocError> {
     for load in loads {
         out.extend_from_slice(load.bytes)?;
     }
-    if is_many {
-        let info = count.min(u64::from(u32::MAX)) as u32;
-        out.extend_from_slice(&section_header(SectionParts { info, ..NO_SECTION }))?;
+    Ok(())
+}
+
+/// The section header that holds the number of segments, if the file header can't.
+fn push_count(out: &mut Vec<u8>, count: u64) -> Result<(), AllocError> {
+    if count < 0xffff {
+        return Ok(());
     }
-    Ok(out)
+    let parts = SectionParts {
+        info: count,
+        ..NO_SECTION
+    };
+    push_section_header(out, parts)
 }
 
 /// The descriptor of an NT_PRSTATUS; `registers` holds pc and then x1 to x31.
@@ -288,17 +343,12 @@ pub fn registers() -> [u64; 32] {
     words
 }
 
-/// The descriptor of the samples' NT_PRPSINFO.
+/// The descriptor of the samples' NT_PRPSINFO: state R, user and group 1000, process, group and session 4242, parent 1.
 pub fn process() -> [u8; 136] {
     let mut desc = [0u8; 136];
-    desc[1] = b'R';
-    LittleEndian::write_u32(&mut desc[16..], 1000);
-    LittleEndian::write_u32(&mut desc[20..], 1000);
-    LittleEndian::write_i32(&mut desc[24..], 4242);
-    LittleEndian::write_i32(&mut desc[28..], 1);
-    LittleEndian::write_i32(&mut desc[32..], 4242);
-    LittleEndian::write_i32(&mut desc[36..], 4242);
-    desc[40..44].copy_from_slice(b"demo");
+    let front =
+        b"\0R\0\0\0\0\0\0\0\0\0\0\0\0\0\0\xe8\x03\0\0\xe8\x03\0\0\x92\x10\0\0\x01\0\0\0\x92\x10\0\0\x92\x10\0\0demo";
+    desc[..44].copy_from_slice(front);
     desc[56..63].copy_from_slice(b"demo -v");
     desc
 }
@@ -308,18 +358,27 @@ pub fn process() -> [u8; 136] {
 /// Refused only if there is no memory.
 pub fn files(alloc: Global, page: u64, parts: &[FilePart<'_>]) -> Result<Vec<u8>, AllocError> {
     let mut out = Vec::new(alloc);
-    out.extend_from_slice(&(parts.len() as u64).to_le_bytes())?;
-    out.extend_from_slice(&page.to_le_bytes())?;
+    push_entries(&mut out, page, parts)?;
+    push_file_names(&mut out, parts)?;
+    Ok(out)
+}
+
+/// The numbers of an NT_FILE.
+fn push_entries(out: &mut Vec<u8>, page: u64, parts: &[FilePart<'_>]) -> Result<(), AllocError> {
+    push_fields(out, &[(8, parts.len() as u64), (8, page)])?;
     for part in parts {
-        out.extend_from_slice(&part.start.to_le_bytes())?;
-        out.extend_from_slice(&part.end.to_le_bytes())?;
-        out.extend_from_slice(&part.offset.to_le_bytes())?;
+        push_fields(out, &[(8, part.start), (8, part.end), (8, part.offset)])?;
     }
+    Ok(())
+}
+
+/// The names of entries, each with a NUL after it.
+fn push_file_names(out: &mut Vec<u8>, parts: &[FilePart<'_>]) -> Result<(), AllocError> {
     for part in parts {
         out.extend_from_slice(part.name)?;
-        out.push(0)?;
+        out.extend_from_slice(b"\0")?;
     }
-    Ok(out)
+    Ok(())
 }
 
 /// The stack of the samples, from address 0x7000 on: two frame records, at 0x7f30 and 0x7f70.
@@ -331,35 +390,36 @@ pub fn stack() -> [u8; 4096] {
     bytes
 }
 
+/// A note of the name `CORE`.
+fn core_note(kind: u32, desc: &[u8]) -> NotePart<'_> {
+    NotePart {
+        name: b"CORE",
+        kind,
+        desc,
+    }
+}
+
+/// The segment of the samples' stack.
+fn stack_part(stack: &[u8]) -> LoadPart<'_> {
+    LoadPart {
+        flags: 6,
+        vaddr: 0x7000,
+        memsz: 4096,
+        bytes: stack,
+    }
+}
+
 /// A core of one thread with a stack: 4,824 bytes.
 ///
 /// Refused only if there is no memory.
 pub fn stack_core(alloc: Global) -> Result<Vec<u8>, AllocError> {
     let status = status(11, 4242, &registers());
     let process = process();
-    let stack = stack();
     let notes = [
-        NotePart {
-            name: b"CORE",
-            kind: NT_PRSTATUS,
-            desc: &status,
-        },
-        NotePart {
-            name: b"CORE",
-            kind: NT_PRPSINFO,
-            desc: &process,
-        },
+        core_note(NT_PRSTATUS, &status),
+        core_note(NT_PRPSINFO, &process),
     ];
-    core_image(
-        alloc,
-        &notes,
-        &[LoadPart {
-            flags: 6,
-            vaddr: 0x7000,
-            memsz: 4096,
-            bytes: &stack,
-        }],
-    )
+    core_image(alloc, &notes, &[stack_part(&stack())])
 }
 
 /// The same core with an NT_FILE of one entry, and more PT_LOAD segments after the stack.
@@ -368,9 +428,6 @@ fn core_with_file(
     end: u64,
     more: Option<LoadPart<'_>>,
 ) -> Result<Vec<u8>, AllocError> {
-    let status = status(11, 4242, &registers());
-    let process = process();
-    let stack = stack();
     let entry = FilePart {
         start: 0x10000,
         end,
@@ -378,29 +435,15 @@ fn core_with_file(
         name: b"/bin/cat",
     };
     let files = files(alloc, 4096, &[entry])?;
+    let status = status(11, 4242, &registers());
+    let process = process();
     let notes = [
-        NotePart {
-            name: b"CORE",
-            kind: NT_PRSTATUS,
-            desc: &status,
-        },
-        NotePart {
-            name: b"CORE",
-            kind: NT_PRPSINFO,
-            desc: &process,
-        },
-        NotePart {
-            name: b"CORE",
-            kind: NT_FILE,
-            desc: &files,
-        },
+        core_note(NT_PRSTATUS, &status),
+        core_note(NT_PRPSINFO, &process),
+        core_note(NT_FILE, &files),
     ];
-    let load = LoadPart {
-        flags: 6,
-        vaddr: 0x7000,
-        memsz: 4096,
-        bytes: &stack,
-    };
+    let stack = stack();
+    let load = stack_part(&stack);
     match more {
         None => core_image(alloc, &notes, &[load]),
         Some(other) => core_image(alloc, &notes, &[load, other]),
@@ -432,15 +475,48 @@ fn symbol_table(alloc: Global, symbols: &[SymbolPart]) -> Result<Vec<u8>, AllocE
     let mut out = Vec::new(alloc);
     out.extend_from_slice(&[0u8; 24])?;
     for symbol in symbols {
-        let mut entry = [0u8; 24];
-        LittleEndian::write_u32(&mut entry, symbol.name);
-        entry[4] = symbol.info;
-        LittleEndian::write_u16(&mut entry[6..], symbol.section);
-        LittleEndian::write_u64(&mut entry[8..], symbol.value);
-        LittleEndian::write_u64(&mut entry[16..], symbol.size);
-        out.extend_from_slice(&entry)?;
+        push_symbol(&mut out, symbol)?;
     }
     Ok(out)
+}
+
+/// An entry of a symbol table.
+fn push_symbol(out: &mut Vec<u8>, symbol: &SymbolPart) -> Result<(), AllocError> {
+    let fields = [
+        (4, u64::from(symbol.name)),
+        (2, u64::from(symbol.info)),
+        (2, u64::from(symbol.section)),
+        (8, symbol.value),
+        (8, symbol.size),
+    ];
+    push_fields(out, &fields)
+}
+
+/// The section headers of an executable: an empty one, that of its symbol table of `size` bytes, which follows them, and that of its
+/// string table of `length` bytes.
+fn push_sections(out: &mut Vec<u8>, size: u64, length: u64) -> Result<(), AllocError> {
+    let table_at = SECTIONS_AT + 3 * 64;
+    push_section_header(out, NO_SECTION)?;
+    push_section_header(
+        out,
+        SectionParts {
+            kind: 2,
+            offset: table_at,
+            size,
+            link: 2,
+            info: 0,
+            entry: 24,
+        },
+    )?;
+    push_section_header(
+        out,
+        SectionParts {
+            kind: 3,
+            offset: table_at.saturating_add(size),
+            size: length,
+            ..NO_SECTION
+        },
+    )
 }
 
 /// An executable of one PT_LOAD, the first page of the file at 0x10000, with three sections after it: an empty one, a
@@ -453,39 +529,26 @@ pub fn executable_image(
     names: &[u8],
 ) -> Result<Vec<u8>, AllocError> {
     let table = symbol_table(alloc, symbols)?;
-    let size = table.len() as u64;
-    let table_at = SECTIONS_AT + 3 * 64;
-    let names_at = table_at.saturating_add(size);
-    let symbol_part = SectionParts {
-        kind: 2,
-        offset: table_at,
-        size,
-        link: 2,
-        entry: 24,
-        ..NO_SECTION
-    };
-    let name_part = SectionParts {
-        kind: 3,
-        offset: names_at,
-        size: names.len() as u64,
-        ..NO_SECTION
-    };
     let mut out = Vec::new(alloc);
-    out.extend_from_slice(&file_header(FileParts {
+    push_executable(&mut out, &table, names)?;
+    Ok(out)
+}
+
+/// An executable of a symbol table of these bytes.
+fn push_executable(out: &mut Vec<u8>, table: &[u8], names: &[u8]) -> Result<(), AllocError> {
+    let parts = FileParts {
         kind: 2,
         header_size: 0,
         segments: 1,
         sections_at: SECTIONS_AT,
         sections: 3,
-    }))?;
-    out.extend_from_slice(&program_header(1, 5, FIRST_PAGE))?;
+    };
+    push_file_header(out, parts)?;
+    push_program_header(out, 1, 5, FIRST_PAGE)?;
     out.resize(SECTIONS_AT as usize, 0)?;
-    out.extend_from_slice(&section_header(NO_SECTION))?;
-    out.extend_from_slice(&section_header(symbol_part))?;
-    out.extend_from_slice(&section_header(name_part))?;
-    out.extend_from_slice(&table)?;
-    out.extend_from_slice(names)?;
-    Ok(out)
+    push_sections(out, table.len() as u64, names.len() as u64)?;
+    out.extend_from_slice(table)?;
+    out.extend_from_slice(names)
 }
 
 /// An executable with the functions `main` and `big`: 4,370 bytes.
