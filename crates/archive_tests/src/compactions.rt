@@ -4,6 +4,7 @@ use crate::courses::Course;
 use crate::stops::{CUT, Ending, FILLED, check_crashes, check_disk, run};
 use case_journal::{Journal, JournalFault};
 use disk_model::{Disk, Fuse, MemDisk, Pick};
+use intake::Archive;
 use journal_layout::OpenFault;
 use std::alloc::Global;
 use std::process::Abort;
@@ -23,13 +24,19 @@ pub fn is_written_anew<D: Disk>(alloc: Global, disk: &mut D) -> Result<bool, Fai
     }
 }
 
+// Makes all calls of a script.
+fn take_course<D: Disk>(archive: &mut Archive<D>, course: Course) -> Result<(), Fail> {
+    match run(archive, course)? {
+        Ending::Whole => Ok(()),
+        Ending::Failed { .. } => Err(Fail::from("the disk failed")),
+    }
+}
+
 // The disk that a script leaves.
 fn left_by(alloc: Global, course: Course) -> Result<MemDisk, Fail> {
     let mut archive = opened(alloc, course.begins(alloc)?)?;
-    match run(&mut archive, course)? {
-        Ending::Whole => Ok(archive.close()),
-        Ending::Failed { .. } => Err(Fail::from("the disk failed")),
-    }
+    take_course(&mut archive, course)?;
+    Ok(archive.close())
 }
 
 // Stops the disk after `limit` calls, those of the opening too, while the journal is written anew. Answers whether it was stopped.
@@ -87,10 +94,15 @@ fn calls_of(alloc: Global, disk: &mut Fuse<MemDisk>) -> Result<u64, Fail> {
 // Stores two cases without bytes.
 fn with_two_cases(alloc: Global, disk: Fuse<MemDisk>) -> Result<Fuse<MemDisk>, Fail> {
     let mut archive = opened(alloc, disk)?;
-    if store(&mut archive, b"a", 1, 0)? != Ok(1) || store(&mut archive, b"b", 2, 0)? != Ok(2) {
+    store_two(&mut archive)?;
+    Ok(archive.close())
+}
+
+fn store_two<D: Disk>(archive: &mut Archive<D>) -> Result<(), Fail> {
+    if store(archive, b"a", 1, 0)? != Ok(1) || store(archive, b"b", 2, 0)? != Ok(2) {
         return Err(Fail::from("a case was not stored"));
     }
-    Ok(archive.close())
+    Ok(())
 }
 
 // The other half's gate is read, and where it is open it is closed and synced; the header and the record of the next number
@@ -99,9 +111,10 @@ fn with_two_cases(alloc: Global, disk: Fuse<MemDisk>) -> Result<Fuse<MemDisk>, F
 fn the_calls_of_a_compaction_are_few(rt: HostRuntime) -> Result<(), Fail> {
     let alloc = rt.alloc();
     let mut disk = Fuse::new(formatted(alloc, SHAPE)?, u64::MAX);
-    assert_eq!(rt; calls_of(alloc, &mut disk)?, 6, "no case, a closed gate");
-    assert_eq!(rt; calls_of(alloc, &mut disk)?, 8, "no case, an open gate");
+    // No case and a closed gate; no case and an open gate.
+    let first = [calls_of(alloc, &mut disk)?, calls_of(alloc, &mut disk)?];
+    assert_eq!(rt; first, [6, 8]);
     let mut disk = with_two_cases(alloc, disk)?;
-    assert_eq!(rt; calls_of(alloc, &mut disk)?, 10, "two cases, an open gate");
+    assert_eq!(rt; calls_of(alloc, &mut disk)?, 10);
     Ok(())
 }

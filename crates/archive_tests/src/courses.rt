@@ -1,33 +1,10 @@
 // Five scripts of calls, the disks that they begin on, and the states before them and after each change.
 use crate::bench::{begin, formatted, opened};
-use crate::script::{Image, SHAPE, State, Step, script, states};
+use crate::script::{CORE, LONG, SHAPE, State, Step, image_of, script, states};
 use disk_model::{Disk, MemDisk};
 use intake::Archive;
-use journal_layout::Kind;
 use std::alloc::Global;
 use std::test::Fail;
-
-// An executable of no bytes, whose name is as long as it may be.
-const LONG: Image = Image {
-    kind: Kind::Exec,
-    name: &[b'l'; 128],
-    pid: 0,
-    signal: 0,
-    time: 0,
-    length: 0,
-    seed: 0,
-};
-
-// A core of two blocks.
-const CORE: Image = Image {
-    kind: Kind::Core,
-    name: b"core.c.7",
-    pid: 7,
-    signal: 6,
-    time: 300,
-    length: 5000,
-    seed: 3,
-};
 
 // How often a case with a long name was stored and deleted before the script: the records leave no room for another.
 const TURNS: u32 = 21;
@@ -213,7 +190,7 @@ static LABEL_STATES: [State; 8] = [
 fn turn<D: Disk>(archive: &mut Archive<D>) -> Result<(), Fail> {
     for number in 0..TURNS {
         let seq = number.saturating_add(1);
-        let begun = begin(archive, 0, LONG.name)?;
+        let begun = begin(archive, 0, image_of(LONG).name)?;
         if begun != Ok(()) || archive.finish(0) != Ok(seq) || archive.delete(seq) != Ok(()) {
             return Err(Fail::from("a case was not stored or not deleted"));
         }
@@ -228,10 +205,9 @@ fn turned(alloc: Global) -> Result<MemDisk, Fail> {
     Ok(archive.close())
 }
 
-// The disk of a fresh archive of one case whose pin was set and taken back, over and over.
-fn flipped(alloc: Global) -> Result<MemDisk, Fail> {
-    let mut archive = opened(alloc, formatted(alloc, SHAPE)?)?;
-    let begun = begin(&mut archive, 0, LONG.name)?;
+// Stores a case, and sets and takes back its pin, over and over.
+fn flip<D: Disk>(archive: &mut Archive<D>) -> Result<(), Fail> {
+    let begun = begin(archive, 0, image_of(LONG).name)?;
     if begun != Ok(()) || archive.finish(0) != Ok(1) {
         return Err(Fail::from("the case was not stored"));
     }
@@ -240,6 +216,13 @@ fn flipped(alloc: Global) -> Result<MemDisk, Fail> {
             return Err(Fail::from("the case was not pinned or unpinned"));
         }
     }
+    Ok(())
+}
+
+// The disk of a fresh archive of one case whose pin was set and taken back, over and over.
+fn flipped(alloc: Global) -> Result<MemDisk, Fail> {
+    let mut archive = opened(alloc, formatted(alloc, SHAPE)?)?;
+    flip(&mut archive)?;
     Ok(archive.close())
 }
 

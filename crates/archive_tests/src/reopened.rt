@@ -40,20 +40,42 @@ static LATER: [u8; 3] = [31, 32, 33];
 // Loses the sync after so many, opens the archive anew, stores other cases, and stops the machine.
 fn lose_a_sync(alloc: Global, spared: u64) -> Result<(), Fail> {
     let disk = CachedDisk::new(formatted(alloc, SHAPE)?, spared);
-    let Ok(mut archive) = Archive::open(alloc, disk, SETTINGS) else {
-        return Ok(());
-    };
-    let first = store_each(&mut archive, &FIRST)?;
-    let mut archive = opened(alloc, archive.close().reopened()?)?;
-    if !is_there(&mut archive, first) {
-        return Err(Fail::from("a case that was acknowledged is not read again"));
+    match Archive::open(alloc, disk, SETTINGS) {
+        Ok(archive) => store_over(alloc, archive),
+        Err(_) => Ok(()),
     }
-    let later = store_each(&mut archive, &LATER)?;
-    let mut left = opened(alloc, archive.close().after_stop()?)?;
+}
+
+fn store_over(alloc: Global, archive: Archive<CachedDisk>) -> Result<(), Fail> {
+    let mut archive = archive;
+    let first = store_each(&mut archive, &FIRST)?;
+    let (later, disk) = store_anew(alloc, archive.close().reopened()?, first)?;
+    let mut left = opened(alloc, disk.after_stop()?)?;
     if later.is_none() || !is_there(&mut left, first) || !is_there(&mut left, later) {
         return Err(Fail::from("a case that was acknowledged is lost"));
     }
     Ok(())
+}
+
+// Stores the other cases. Answers the last of them, and the disk.
+fn store_anew(
+    alloc: Global,
+    disk: CachedDisk,
+    first: Acknowledged,
+) -> Result<(Acknowledged, CachedDisk), Fail> {
+    let mut archive = opened(alloc, disk)?;
+    let later = store_after(&mut archive, first)?;
+    Ok((later, archive.close()))
+}
+
+fn store_after<D: Disk>(
+    archive: &mut Archive<D>,
+    first: Acknowledged,
+) -> Result<Acknowledged, Fail> {
+    if !is_there(archive, first) {
+        return Err(Fail::from("a case that was acknowledged is not read again"));
+    }
+    store_each(archive, &LATER)
 }
 
 #[test]

@@ -20,107 +20,152 @@ pub struct Image {
     pub seed: u8,
 }
 
-const A: Image = Image {
-    kind: Kind::Core,
-    name: b"a",
-    pid: 4242,
-    signal: 11,
-    time: 500,
-    length: 4196,
-    seed: 0xa5,
-};
+// The images of the scripts, by their numbers.
+const A: u8 = 0;
 
-const B: Image = Image {
-    kind: Kind::Exec,
-    name: b"/bin/b",
-    pid: 0,
-    signal: 0,
-    time: 0,
-    length: 4096,
-    seed: 2,
-};
+const B: u8 = 1;
 
-const C: Image = Image {
-    kind: Kind::Core,
-    name: b"core.c.7",
-    pid: 7,
-    signal: 6,
-    time: 300,
-    length: 5,
-    seed: 3,
-};
+const C: u8 = 2;
 
-const D: Image = Image {
-    kind: Kind::Core,
-    name: b"core.d.4294967295",
-    pid: 4_294_967_295,
-    signal: 4_294_967_295,
-    time: 18_446_744_073_709_551_615,
-    length: 8199,
-    seed: 0x37,
-};
+const D: u8 = 3;
 
-const E: Image = Image {
-    kind: Kind::Exec,
-    name: b"/e",
-    pid: 0,
-    signal: 0,
-    time: 0,
-    length: 1,
-    seed: 5,
-};
+const E: u8 = 4;
 
-const F: Image = Image {
-    kind: Kind::Core,
-    name: b"f",
-    pid: 1,
-    signal: 9,
-    time: 200,
-    length: 0,
-    seed: 6,
-};
+const F: u8 = 5;
 
-const G: Image = Image {
-    kind: Kind::Core,
-    name: b"g",
-    pid: 2,
-    signal: 9,
-    time: 250,
-    length: 4097,
-    seed: 7,
-};
+const G: u8 = 6;
 
-const H: Image = Image {
-    kind: Kind::Core,
-    name: b"h",
-    pid: 8,
-    signal: 4,
-    time: 400,
-    length: 4500,
-    seed: 8,
-};
+const H: u8 = 7;
 
-const I: Image = Image {
-    kind: Kind::Exec,
-    name: b"/usr/bin/i",
-    pid: 0,
-    signal: 0,
-    time: 0,
-    length: 8192,
-    seed: 9,
-};
+const I: u8 = 8;
 
-/// A call.
+/// An executable of no bytes, whose name is as long as it may be.
+pub const LONG: u8 = 9;
+
+/// A core of two blocks.
+pub const CORE: u8 = 10;
+
+static IMAGES: [Image; 11] = [
+    Image {
+        kind: Kind::Core,
+        name: b"a",
+        pid: 4242,
+        signal: 11,
+        time: 500,
+        length: 4196,
+        seed: 0xa5,
+    },
+    Image {
+        kind: Kind::Exec,
+        name: b"/bin/b",
+        pid: 0,
+        signal: 0,
+        time: 0,
+        length: 4096,
+        seed: 2,
+    },
+    Image {
+        kind: Kind::Core,
+        name: b"core.c.7",
+        pid: 7,
+        signal: 6,
+        time: 300,
+        length: 5,
+        seed: 3,
+    },
+    Image {
+        kind: Kind::Core,
+        name: b"core.d.4294967295",
+        pid: 4_294_967_295,
+        signal: 4_294_967_295,
+        time: 18_446_744_073_709_551_615,
+        length: 8199,
+        seed: 0x37,
+    },
+    Image {
+        kind: Kind::Exec,
+        name: b"/e",
+        pid: 0,
+        signal: 0,
+        time: 0,
+        length: 1,
+        seed: 5,
+    },
+    Image {
+        kind: Kind::Core,
+        name: b"f",
+        pid: 1,
+        signal: 9,
+        time: 200,
+        length: 0,
+        seed: 6,
+    },
+    Image {
+        kind: Kind::Core,
+        name: b"g",
+        pid: 2,
+        signal: 9,
+        time: 250,
+        length: 4097,
+        seed: 7,
+    },
+    Image {
+        kind: Kind::Core,
+        name: b"h",
+        pid: 8,
+        signal: 4,
+        time: 400,
+        length: 4500,
+        seed: 8,
+    },
+    Image {
+        kind: Kind::Exec,
+        name: b"/usr/bin/i",
+        pid: 0,
+        signal: 0,
+        time: 0,
+        length: 8192,
+        seed: 9,
+    },
+    Image {
+        kind: Kind::Exec,
+        name: &[b'l'; 128],
+        pid: 0,
+        signal: 0,
+        time: 0,
+        length: 0,
+        seed: 0,
+    },
+    Image {
+        kind: Kind::Core,
+        name: b"core.c.7",
+        pid: 7,
+        signal: 6,
+        time: 300,
+        length: 5000,
+        seed: 3,
+    },
+];
+
+/// The image of a number.
+pub fn image_of(number: u8) -> &'static Image {
+    match IMAGES.get(usize::from(number)) {
+        Some(image) => image,
+        None => &IMAGES[0],
+    }
+}
+
+/// A call. An image is named by its number.
 #[derive(Clone, Copy)]
 pub enum Step {
     /// The stream of the image begins in the slot.
-    Begin(u8, Image),
+    Begin(u8, u8),
     /// The stream in the slot takes the image's bytes from the one place up to the other.
-    Put(u8, Image, u64, u64),
+    Put(u8, u8, u64, u64),
     /// The stream in the slot is dropped.
     Abandon(u8),
     /// The case of this number has the image.
-    Read(u32, Image),
+    Read(u32, u8),
     /// The stream in the slot becomes the case of this number.
     Finish(u8, u32),
     /// The case of this number is pinned or not.
@@ -228,10 +273,10 @@ pub fn script() -> &'static [Step] {
     &SCRIPT
 }
 
-/// The number, the image and the pin of each case, the number of the next one, the labels that are not empty, and the version of
+/// The number of each case, the number of its image, and its pin, the number of the next one, the labels that are not empty, and the version of
 /// the layout.
 pub struct State {
-    pub cases: &'static [(u32, Image, bool)],
+    pub cases: &'static [(u32, u8, bool)],
     pub next: u32,
     pub labels: &'static [(u32, &'static [u8])],
     pub version: u32,

@@ -4,7 +4,7 @@ use crate::bench::{
 };
 use crate::compactions::is_written_anew;
 use crate::courses::Course;
-use crate::script::{Image, SHAPE, State, Step};
+use crate::script::{Image, SHAPE, State, Step, image_of};
 use disk_model::{Disk, Fuse, MemDisk, OneFault, Pick};
 use intake::{Archive, ArchiveFault};
 use journal_layout::{Entry, OpenFault};
@@ -71,10 +71,12 @@ fn retire<D: Disk>(
 // Makes the call.
 fn take<D: Disk>(archive: &mut Archive<D>, step: &Step) -> Result<Result<(), ArchiveFault>, Fail> {
     match step {
-        Step::Begin(slot, image) => begin_image(archive, *slot, image),
-        Step::Put(slot, image, from, end) => Ok(put(archive, *slot, image.seed, *from, *end)),
+        Step::Begin(slot, image) => begin_image(archive, *slot, image_of(*image)),
+        Step::Put(slot, image, from, end) => {
+            Ok(put(archive, *slot, image_of(*image).seed, *from, *end))
+        }
         Step::Abandon(slot) => Ok(archive.abandon(*slot)),
-        Step::Read(seq, image) => read(archive, *seq, image),
+        Step::Read(seq, image) => read(archive, *seq, image_of(*image)),
         Step::Finish(slot, seq) => finish(archive, *slot, *seq),
         Step::Pin(seq, flag) => Ok(archive.pin(*seq, *flag)),
         Step::Delete(seq) => Ok(archive.delete(*seq)),
@@ -124,12 +126,12 @@ fn is_of(entry: &Entry, image: &Image) -> bool {
 }
 
 // Whether these are the cases.
-fn are_cases(entries: &[Entry], cases: &[(u32, Image, bool)]) -> bool {
+fn are_cases(entries: &[Entry], cases: &[(u32, u8, bool)]) -> bool {
     if entries.len() != cases.len() {
         return false;
     }
     for (entry, (seq, image, pinned)) in entries.iter().zip(cases) {
-        if entry.seq != *seq || entry.pinned != *pinned || !is_of(entry, image) {
+        if entry.seq != *seq || entry.pinned != *pinned || !is_of(entry, image_of(*image)) {
             return false;
         }
     }
@@ -157,8 +159,9 @@ fn have_labels(entries: &[Entry], labels: &[(u32, &'static [u8])]) -> bool {
 }
 
 // Whether the cases have their images.
-fn have_images<D: Disk>(archive: &mut Archive<D>, cases: &[(u32, Image, bool)]) -> bool {
-    for (seq, image, _) in cases {
+fn have_images<D: Disk>(archive: &mut Archive<D>, cases: &[(u32, u8, bool)]) -> bool {
+    for (seq, number, _) in cases {
+        let image = image_of(*number);
         if !has_image(archive, *seq, image.seed, image.length) {
             return false;
         }
@@ -167,10 +170,10 @@ fn have_images<D: Disk>(archive: &mut Archive<D>, cases: &[(u32, Image, bool)]) 
 }
 
 // The blocks that no case has, of all.
-fn free_without(cases: &[(u32, Image, bool)]) -> u64 {
+fn free_without(cases: &[(u32, u8, bool)]) -> u64 {
     let mut free = u64::from(SHAPE.data_blocks);
     for (_, image, _) in cases {
-        free = free.saturating_sub(image.length.div_ceil(4096));
+        free = free.saturating_sub(image_of(*image).length.div_ceil(4096));
     }
     free
 }
@@ -215,7 +218,17 @@ pub fn check_disk(
     after: usize,
 ) -> Result<(), Fail> {
     let mut archive = opened(alloc, disk)?;
-    if is_after(&mut archive, course, before)? || is_after(&mut archive, course, after)? {
+    check_archive(&mut archive, course, before, after)
+}
+
+// The archive shows the state after one of these numbers of changes.
+fn check_archive<D: Disk>(
+    archive: &mut Archive<D>,
+    course: Course,
+    before: usize,
+    after: usize,
+) -> Result<(), Fail> {
+    if is_after(archive, course, before)? || is_after(archive, course, after)? {
         return Ok(());
     }
     Err(Fail::from("the archive shows neither state"))

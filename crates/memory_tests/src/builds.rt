@@ -26,12 +26,23 @@ static ID: [u8; 65] = [0xab; 65];
 
 /// Whether a library with an ID of that many bytes is a debug file, and how long its name is; 0, if it has none.
 fn told(
-    rt: &HostRuntime,
+    rt: &impl AllocGlobal,
     count: u8,
     debug: bool,
     changes: &[(usize, u8)],
 ) -> Result<(bool, usize), Fail> {
-    let mut image = Vec::from_array(rt.alloc(), LIBRARY)?;
+    let mut image = Vec::from_array(rt.alloc(), changed(count, changes))?;
+    image.extend_from_slice(&ID[..usize::from(count).min(ID.len())])?;
+    let long = match told_name(debug, &image) {
+        Some(name) => name.len(),
+        None => 0,
+    };
+    Ok((is_debug(&image), long))
+}
+
+/// The library before its ID.
+fn changed(count: u8, changes: &[(usize, u8)]) -> [u8; 328] {
+    let mut image = LIBRARY;
     let size = count.saturating_add(16);
     image[SEGMENT_SIZE] = size;
     image[SECTION_SIZE] = size;
@@ -41,55 +52,60 @@ fn told(
             *byte = *value;
         }
     }
-    image.extend_from_slice(&ID[..usize::from(count).min(ID.len())])?;
-    let long = match told_name(debug, &image) {
-        Some(name) => name.len(),
-        None => 0,
-    };
-    Ok((is_debug(&image), long))
+    image
 }
 
-#[test]
-fn names_are_of_ids_of_2_to_55_bytes(rt: HostRuntime) -> Result<(), Fail> {
-    for (count, long, debug) in [
-        (0, 0, 0),
-        (1, 0, 0),
-        (2, 15, 21),
-        (20, 51, 57),
-        (55, 121, 127),
-        (56, 0, 0),
-        (64, 0, 0),
-        (65, 0, 0),
-    ] {
-        assert_eq!(rt; told(&rt, count, false, &[])?, (false, long), "{count}");
-        assert_eq!(rt; told(&rt, count, true, &[])?, (false, debug), "{count}");
+/// How many bytes the ID has, whether the name is that of a debug file, what is changed in the library; and what is told of it.
+type Library = (u8, bool, &'static [(usize, u8)], (bool, usize));
+
+fn are_told(rt: &(impl AllocGlobal + Abort), libraries: &[Library]) -> Result<(), Fail> {
+    for (count, debug, changes, wanted) in libraries {
+        assert!(rt; told(rt, *count, *debug, changes)? == *wanted, "{count}");
     }
     Ok(())
 }
 
+static IDS: [Library; 16] = [
+    (0, false, &[], (false, 0)),
+    (0, true, &[], (false, 0)),
+    (1, false, &[], (false, 0)),
+    (1, true, &[], (false, 0)),
+    (2, false, &[], (false, 15)),
+    (2, true, &[], (false, 21)),
+    (20, false, &[], (false, 51)),
+    (20, true, &[], (false, 57)),
+    (55, false, &[], (false, 121)),
+    (55, true, &[], (false, 127)),
+    (56, false, &[], (false, 0)),
+    (56, true, &[], (false, 0)),
+    (64, false, &[], (false, 0)),
+    (64, true, &[], (false, 0)),
+    (65, false, &[], (false, 0)),
+    (65, true, &[], (false, 0)),
+];
+
+static CODES: [Library; 6] = [
+    // SHT_NOBITS
+    (2, false, &[(CODE, 8)], (true, 21)),
+    // And it has no PT_NOTE.
+    (2, false, &[(CODE, 8), (SEGMENT, 0)], (true, 21)),
+    // An executable without a PT_NOTE.
+    (2, false, &[(SEGMENT, 0)], (false, 0)),
+    // Without section headers.
+    (2, false, &[(CODE, 8), (SECTIONS, 0)], (false, 15)),
+    (2, true, &[(CODE, 8), (SECTIONS, 0)], (false, 0)),
+    // A core.
+    (2, false, &[(CODE, 8), (16, 4)], (false, 0)),
+];
+
+#[test]
+fn names_are_of_ids_of_2_to_55_bytes(rt: HostRuntime) -> Result<(), Fail> {
+    are_told(&rt, &IDS)
+}
+
 #[test]
 fn debug_files_have_code_without_bytes(rt: HostRuntime) -> Result<(), Fail> {
-    // SHT_NOBITS
-    assert_eq!(rt; told(&rt, 2, false, &[(CODE, 8)])?, (true, 21));
-    // And it has no PT_NOTE.
-    assert_eq!(rt;
-        told(&rt, 2, false, &[(CODE, 8), (SEGMENT, 0)])?,
-        (true, 21)
-    );
-    // An executable without a PT_NOTE.
-    assert_eq!(rt; told(&rt, 2, false, &[(SEGMENT, 0)])?, (false, 0));
-    // Without section headers.
-    assert_eq!(rt;
-        told(&rt, 2, false, &[(CODE, 8), (SECTIONS, 0)])?,
-        (false, 15)
-    );
-    assert_eq!(rt;
-        told(&rt, 2, true, &[(CODE, 8), (SECTIONS, 0)])?,
-        (false, 0)
-    );
-    // A core.
-    assert_eq!(rt; told(&rt, 2, false, &[(CODE, 8), (16, 4)])?, (false, 0));
-    Ok(())
+    are_told(&rt, &CODES)
 }
 
 /// The first byte of the ID that has the name, and how many bytes it has; none, if the name is of another kind.
@@ -100,33 +116,35 @@ fn id_told(name: &[u8]) -> (u8, usize) {
     }
 }
 
+static NAMES: &[(&[u8], (u8, usize))] = &[
+    (
+        b".build-id/2c/f08c38e98c274fce085506e97ce53045af6315",
+        (0x2c, 20),
+    ),
+    (
+        b".build-id/2c/f08c38e98c274fce085506e97ce53045af6315.debug",
+        (0x2c, 20),
+    ),
+    (b".build-id/ab/cd", (0xab, 2)),
+    (b".build-id/ab/cd.debug", (0xab, 2)),
+    (b".build-id/ab/cd.debug.debug", (0, 0)),
+    (b".build-id/AB/cd", (0, 0)),
+    (b".build-id/ab/cD", (0, 0)),
+    (b".build-id/ab/c", (0, 0)),
+    (b".build-id/ab/", (0, 0)),
+    (b".build-id/ab", (0, 0)),
+    (b".build-id/ab/.debug", (0, 0)),
+    (b".build-id/ab-cd", (0, 0)),
+    (b"/.build-id/ab/cd", (0, 0)),
+    (b"x/.build-id/ab/cd", (0, 0)),
+    (b"/usr/bin/foo", (0, 0)),
+    (b"", (0, 0)),
+];
+
 #[test]
 fn ids_are_found_by_their_names(rt: HostRuntime) -> Result<(), Fail> {
-    for (name, id) in [
-        (
-            b".build-id/2c/f08c38e98c274fce085506e97ce53045af6315".as_slice(),
-            (0x2c, 20),
-        ),
-        (
-            b".build-id/2c/f08c38e98c274fce085506e97ce53045af6315.debug",
-            (0x2c, 20),
-        ),
-        (b".build-id/ab/cd", (0xab, 2)),
-        (b".build-id/ab/cd.debug", (0xab, 2)),
-        (b".build-id/ab/cd.debug.debug", (0, 0)),
-        (b".build-id/AB/cd", (0, 0)),
-        (b".build-id/ab/cD", (0, 0)),
-        (b".build-id/ab/c", (0, 0)),
-        (b".build-id/ab/", (0, 0)),
-        (b".build-id/ab", (0, 0)),
-        (b".build-id/ab/.debug", (0, 0)),
-        (b".build-id/ab-cd", (0, 0)),
-        (b"/.build-id/ab/cd", (0, 0)),
-        (b"x/.build-id/ab/cd", (0, 0)),
-        (b"/usr/bin/foo", (0, 0)),
-        (b"", (0, 0)),
-    ] {
-        assert_eq!(rt; id_told(name), id);
+    for (name, id) in NAMES {
+        assert!(rt; id_told(name) == *id);
     }
     Ok(())
 }

@@ -1,15 +1,21 @@
 //! The sample images.
 use elf_view::sample::{executable, file_core, mapped_core, stack_core};
+use std::alloc::AllocError;
 use std::process::Abort;
 use std::test::Fail;
 
 #[test]
 fn samples_are_as_long_as_written(rt: HostRuntime) -> Result<(), Fail> {
-    assert_eq!(rt; stack_core(rt.alloc())?.len(), 4824);
-    assert_eq!(rt; file_core(rt.alloc())?.len(), 4896);
-    assert_eq!(rt; mapped_core(rt.alloc())?.len(), 4952);
-    assert_eq!(rt; executable(rt.alloc())?.len(), 4370);
+    let alloc = rt.alloc();
+    let cores = [length(stack_core(alloc))?, length(file_core(alloc))?];
+    assert_eq!(rt; cores, [4824, 4896]);
+    let others = [length(mapped_core(alloc))?, length(executable(alloc))?];
+    assert_eq!(rt; others, [4952, 4370]);
     Ok(())
+}
+
+fn length(image: Result<Vec<u8>, AllocError>) -> Result<usize, AllocError> {
+    Ok(image?.len())
 }
 
 /// `scripts/fail-alloc` refuses the first try each of its allocations.

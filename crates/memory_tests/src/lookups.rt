@@ -23,13 +23,16 @@ fn a_look_up_takes_no_memory(rt: HostRuntime) -> Result<(), Fail> {
     let elf = Elf::read(&image, Want::Exec).ok().ok_or("refused")?;
     let symbols = Symbols::read(rt.alloc(), &elf).ok().ok_or("refused")?;
     no_memory_from_here(rt.alloc())?;
-    let starts = [
-        start_of(&symbols, 0x102ff),
-        start_of(&symbols, 0x10300),
-        start_of(&symbols, 0x104ff),
-    ];
-    assert_eq!(rt; starts, [None, Some(0x10300), Some(0x10400)]);
+    assert_eq!(rt; starts_in(&symbols), [None, Some(0x10300), Some(0x10400)]);
     Ok(())
+}
+
+fn starts_in(symbols: &Symbols<'_>) -> [Option<u64>; 3] {
+    [
+        start_of(symbols, 0x102ff),
+        start_of(symbols, 0x10300),
+        start_of(symbols, 0x104ff),
+    ]
 }
 
 /// The function of an address of a process: where it begins, by the file that is mapped there, and how far `pc` is behind its begin.
@@ -61,13 +64,32 @@ fn has_functions(rt: &impl Abort, space: &AddressSpace<'_>, file: &Elf<'_>, symb
 fn frames_have_their_functions_with_and_without_tables(rt: HostRuntime) -> Result<(), Fail> {
     let (image, file) = (file_core(rt.alloc())?, executable(rt.alloc())?);
     let core = Elf::read(&image, Want::Core).ok().ok_or("refused")?;
-    let notes = CoreNotes::of(&core).ok().ok_or("faulty")?;
     let elf = Elf::read(&file, Want::Exec).ok().ok_or("refused")?;
-    let symbols = Symbols::read(rt.alloc(), &elf).ok().ok_or("refused")?;
-    let indexed = AddressSpace::indexed(rt.alloc(), &core, notes.files())?;
-    let plain = AddressSpace::new(rt.alloc(), &core, notes.files());
+    names_frames(&rt, &core, &elf)
+}
+
+fn names_frames(
+    rt: &(impl AllocGlobal + Abort),
+    core: &Elf<'_>,
+    file: &Elf<'_>,
+) -> Result<(), Fail> {
+    let symbols = Symbols::read(rt.alloc(), file).ok().ok_or("refused")?;
+    let notes = CoreNotes::of(core).ok().ok_or("faulty")?;
+    let plain = AddressSpace::new(rt.alloc(), core, notes.files());
+    names_by(rt, core, &notes, file, &symbols)?;
+    has_functions(rt, &plain, file, &symbols);
+    Ok(())
+}
+
+fn names_by(
+    rt: &(impl AllocGlobal + Abort),
+    core: &Elf<'_>,
+    notes: &CoreNotes<'_>,
+    file: &Elf<'_>,
+    symbols: &Symbols<'_>,
+) -> Result<(), Fail> {
+    let indexed = AddressSpace::indexed(rt.alloc(), core, notes.files())?;
     no_memory_from_here(rt.alloc())?;
-    has_functions(&rt, &plain, &elf, &symbols);
-    has_functions(&rt, &indexed, &elf, &symbols);
+    has_functions(rt, &indexed, file, symbols);
     Ok(())
 }

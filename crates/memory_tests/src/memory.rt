@@ -31,11 +31,19 @@ pub(crate) fn no_memory_from_here(alloc: Global) -> Result<(), AllocError> {
 /// The core's memory has what each look finds. No look takes memory.
 fn image_shows(rt: &(impl AllocGlobal + Abort), image: &[u8], looks: &[Look]) -> Result<(), Fail> {
     let elf = Elf::read(image, Want::Core).ok().ok_or("refused")?;
-    let indexed = AddressSpace::indexed(rt.alloc(), &elf, None)?;
+    elf_shows(rt, &elf, looks)
+}
+
+fn elf_shows(rt: &(impl AllocGlobal + Abort), elf: &Elf<'_>, looks: &[Look]) -> Result<(), Fail> {
+    let indexed = AddressSpace::indexed(rt.alloc(), elf, None)?;
     no_memory_from_here(rt.alloc())?;
-    shows(rt, &AddressSpace::new(rt.alloc(), &elf, None), looks);
     shows(rt, &indexed, looks);
+    plain_shows(rt, elf, looks);
     Ok(())
+}
+
+fn plain_shows(rt: &(impl AllocGlobal + Abort), elf: &Elf<'_>, looks: &[Look]) {
+    shows(rt, &AddressSpace::new(rt.alloc(), elf, None), looks);
 }
 
 /// The same of the core of these segments.

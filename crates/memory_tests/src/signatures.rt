@@ -4,490 +4,320 @@ use crash_signatures::{
     Core, FrameFacts, Group, HandledSignal, MappedFile, Signature, Words, grouped, signature_of,
     word_of,
 };
+use script_words::parse_number;
 use std::process::Abort;
 use std::test::Fail;
 
-/// A frame by what it is.
-#[derive(Clone, Copy)]
-enum Frame {
-    /// A signal's.
-    Signal,
-    /// In a function.
-    In(&'static [u8]),
-    /// So far into a file.
-    At(&'static [u8], u64),
-    Null,
-    Vdso,
-    Wild,
-    /// No file is known.
-    Unknown,
-}
-
-/// A walk and its signature: frames, frames that repeat, and frames behind them.
+/// A walk and its signature: frames, frames that repeat, and frames behind them. A frame is a word: the name of its function, `@PATH:PLACE`
+/// for a place in a file, or `!signal`, `!null`, `!vdso`, `!wild`, or `!unknown` if no file is known. Between words is a `|`.
 struct Walk {
-    head: &'static [Frame],
-    cycle: &'static [Frame],
+    head: &'static str,
+    cycle: &'static str,
     times: usize,
-    tail: &'static [Frame],
+    tail: &'static str,
     /// The signal that was handled; 0 if it is not known.
     handled: (u32, &'static [u8]),
     is_whole: bool,
     signature: &'static [u8],
 }
 
-static WALKS_1: [Walk; 8] = [
+static WALKS: [Walk; 30] = [
     // A write to a null pointer, with the whole stack
     Walk {
-        head: &[
-            Frame::In(b"echo"),
-            Frame::In(b"delta"),
-            Frame::In(b"charlie"),
-            Frame::In(b"bravo"),
-            Frame::In(b"alpha"),
-            Frame::In(b"main"),
-            Frame::In(b"start_c"),
-            Frame::In(b"_start"),
-        ],
-        cycle: &[],
+        head: "echo|delta|charlie|bravo|alpha|main|start_c|_start",
+        cycle: "",
         times: 0,
-        tail: &[],
+        tail: "",
         handled: (0, b""),
         is_whole: true,
         signature: b"echo delta charlie bravo alpha",
     },
     // The same core, cut before its stack
     Walk {
-        head: &[Frame::In(b"echo")],
-        cycle: &[],
+        head: "echo",
+        cycle: "",
         times: 0,
-        tail: &[],
+        tail: "",
         handled: (0, b""),
         is_whole: false,
         signature: b"echo ..",
     },
     // A thread
     Walk {
-        head: &[
-            Frame::In(b"die"),
-            Frame::In(b"work1"),
-            Frame::In(b"thread_c"),
-            Frame::In(b"start_thread"),
-        ],
-        cycle: &[],
+        head: "die|work1|thread_c|start_thread",
+        cycle: "",
         times: 0,
-        tail: &[],
+        tail: "",
         handled: (0, b""),
         is_whole: true,
         signature: b"die work1 thread_c",
     },
     // A call through a null pointer
     Walk {
-        head: &[
-            Frame::Null,
-            Frame::In(b"calls_null"),
-            Frame::In(b"start_c"),
-            Frame::In(b"_start"),
-        ],
-        cycle: &[],
+        head: "!null|calls_null|start_c|_start",
+        cycle: "",
         times: 0,
-        tail: &[],
+        tail: "",
         handled: (0, b""),
         is_whole: true,
         signature: b"<null> calls_null start_c",
     },
     // A stack that ends in the middle
     Walk {
-        head: &[Frame::In(b"dies"), Frame::In(b"overlast")],
-        cycle: &[],
+        head: "dies|overlast",
+        cycle: "",
         times: 0,
-        tail: &[],
+        tail: "",
         handled: (0, b""),
         is_whole: false,
         signature: b"dies overlast ..",
     },
     // A signal's handler ran into the same fault, in a file without symbols
     Walk {
-        head: &[
-            Frame::At(b"/bin/small-pie", 0x380),
-            Frame::At(b"/bin/small-pie", 0x3f4),
-            Frame::At(b"/bin/small-pie", 0x3d0),
-            Frame::At(b"/bin/small-pie", 0x414),
-            Frame::Signal,
-            Frame::At(b"/bin/small-pie", 0x380),
-            Frame::At(b"/bin/small-pie", 0x63c),
-            Frame::At(b"/bin/small-pie", 0x728),
-            Frame::At(b"/bin/small-pie (deleted)", 0x36c),
-        ],
-        cycle: &[],
+        head: "@/bin/small-pie:0x380|@/bin/small-pie:0x3f4|@/bin/small-pie:0x3d0|@/bin/small-pie:0x414|!signal|@/bin/small-pie:0x380|@/bin/small-pie:0x63c|@/bin/small-pie:0x728|@/bin/small-pie (deleted):0x36c",
+        cycle: "",
         times: 0,
-        tail: &[],
+        tail: "",
         handled: (11, b"SIGSEGV"),
         is_whole: true,
         signature: b"<SIGSEGV> small-pie+0x380 small-pie+0x63c small-pie+0x728 small-pie+0x36c",
     },
     // A handler that only reported the fault by `abort`
     Walk {
-        head: &[
-            Frame::In(b"raise"),
-            Frame::In(b"abort"),
-            Frame::In(b"report_crash"),
-            Frame::Signal,
-            Frame::In(b"parse"),
-            Frame::In(b"load"),
-            Frame::In(b"main"),
-            Frame::In(b"__libc_start_main"),
-        ],
-        cycle: &[],
+        head: "raise|abort|report_crash|!signal|parse|load|main|__libc_start_main",
+        cycle: "",
         times: 0,
-        tail: &[],
+        tail: "",
         handled: (11, b"SIGSEGV"),
         is_whole: true,
         signature: b"<SIGSEGV> parse load main",
     },
     // A handler of another signal fails itself
     Walk {
-        head: &[
-            Frame::In(b"crash_here"),
-            Frame::In(b"on_alarm"),
-            Frame::Signal,
-            Frame::In(b"compute"),
-            Frame::In(b"main"),
-        ],
-        cycle: &[],
+        head: "crash_here|on_alarm|!signal|compute|main",
+        cycle: "",
         times: 0,
-        tail: &[],
+        tail: "",
         handled: (10, b"SIGUSR1"),
         is_whole: true,
         signature: b"crash_here on_alarm <SIGUSR1>",
     },
-];
-
-static WALKS_2: [Walk; 8] = [
     // A signal that can't be read
     Walk {
-        head: &[
-            Frame::In(b"tick"),
-            Frame::Signal,
-            Frame::In(b"work"),
-            Frame::In(b"main"),
-        ],
-        cycle: &[],
+        head: "tick|!signal|work|main",
+        cycle: "",
         times: 0,
-        tail: &[],
+        tail: "",
         handled: (0, b""),
         is_whole: true,
         signature: b"tick <signal>",
     },
     // Only the first frame of a signal counts
     Walk {
-        head: &[
-            Frame::In(b"a"),
-            Frame::Signal,
-            Frame::In(b"b"),
-            Frame::Signal,
-            Frame::In(b"c"),
-            Frame::In(b"main"),
-        ],
-        cycle: &[],
+        head: "a|!signal|b|!signal|c|main",
+        cycle: "",
         times: 0,
-        tail: &[],
+        tail: "",
         handled: (7, b"SIGBUS"),
         is_whole: true,
         signature: b"<SIGBUS> b <signal> c main",
     },
     // Nothing is behind the signal's frame
     Walk {
-        head: &[Frame::In(b"handler"), Frame::Signal],
-        cycle: &[],
+        head: "handler|!signal",
+        cycle: "",
         times: 0,
-        tail: &[],
+        tail: "",
         handled: (11, b"SIGSEGV"),
         is_whole: false,
         signature: b"handler <SIGSEGV>",
     },
     // The way to die, with a frame without a name in it
     Walk {
-        head: &[
-            Frame::In(b"__pthread_kill_implementation"),
-            Frame::In(b"raise"),
-            Frame::Wild,
-            Frame::In(b"abort"),
-            Frame::In(b"check_heap"),
-            Frame::In(b"insert"),
-            Frame::In(b"main"),
-        ],
-        cycle: &[],
+        head: "__pthread_kill_implementation|raise|!wild|abort|check_heap|insert|main",
+        cycle: "",
         times: 0,
-        tail: &[],
+        tail: "",
         handled: (0, b""),
         is_whole: true,
         signature: b"check_heap insert main",
     },
     // Nothing is behind the way to die
     Walk {
-        head: &[Frame::In(b"raise"), Frame::In(b"abort")],
-        cycle: &[],
+        head: "raise|abort",
+        cycle: "",
         times: 0,
-        tail: &[],
+        tail: "",
         handled: (0, b""),
         is_whole: false,
         signature: b"raise abort ..",
     },
     // An exception that nobody catches
     Walk {
-        head: &[
-            Frame::In(b"__pthread_kill_implementation"),
-            Frame::In(b"raise"),
-            Frame::In(b"abort"),
-            Frame::In(b"_ZN9__gnu_cxx27__verbose_terminate_handlerEv"),
-            Frame::In(b"_ZN10__cxxabiv111__terminateEPFvvE"),
-            Frame::In(b"_ZSt9terminatev"),
-            Frame::In(b"__cxa_throw"),
-            Frame::In(b"_Z5parsePKc"),
-            Frame::In(b"_Z4loadv"),
-            Frame::In(b"main"),
-        ],
-        cycle: &[],
+        head: "__pthread_kill_implementation|raise|abort|_ZN9__gnu_cxx27__verbose_terminate_handlerEv|_ZN10__cxxabiv111__terminateEPFvvE|_ZSt9terminatev|__cxa_throw|_Z5parsePKc|_Z4loadv|main",
+        cycle: "",
         times: 0,
-        tail: &[],
+        tail: "",
         handled: (0, b""),
         is_whole: true,
         signature: b"_Z5parsePKc _Z4loadv main",
     },
     // A way to die beyond the first 16 frames
     Walk {
-        head: &[
-            Frame::In(b"f0"),
-            Frame::In(b"f1"),
-            Frame::In(b"f2"),
-            Frame::In(b"f3"),
-            Frame::In(b"f4"),
-            Frame::In(b"f5"),
-            Frame::In(b"f6"),
-            Frame::In(b"f7"),
-            Frame::In(b"f8"),
-            Frame::In(b"f9"),
-            Frame::In(b"f10"),
-            Frame::In(b"f11"),
-            Frame::In(b"f12"),
-            Frame::In(b"f13"),
-            Frame::In(b"f14"),
-            Frame::In(b"f15"),
-            Frame::In(b"abort"),
-            Frame::In(b"main"),
-        ],
-        cycle: &[],
+        head: "f0|f1|f2|f3|f4|f5|f6|f7|f8|f9|f10|f11|f12|f13|f14|f15|abort|main",
+        cycle: "",
         times: 0,
-        tail: &[],
+        tail: "",
         handled: (0, b""),
         is_whole: true,
         signature: b"f0 f1 f2 f3 f4",
     },
     // A deep recursion
     Walk {
-        head: &[Frame::In(b"leaf")],
-        cycle: &[Frame::In(b"walk"), Frame::In(b"visit"), Frame::In(b"each")],
+        head: "leaf",
+        cycle: "walk|visit|each",
         times: 31,
-        tail: &[],
+        tail: "",
         handled: (0, b""),
         is_whole: true,
         signature: b"<recursion> each walk visit",
     },
-];
-
-static WALKS_3: [Walk; 8] = [
     // The same, hit at another function of the cycle
     Walk {
-        head: &[Frame::In(b"visit"), Frame::In(b"each")],
-        cycle: &[Frame::In(b"walk"), Frame::In(b"visit"), Frame::In(b"each")],
+        head: "visit|each",
+        cycle: "walk|visit|each",
         times: 30,
-        tail: &[],
+        tail: "",
         handled: (0, b""),
         is_whole: true,
         signature: b"<recursion> each walk visit",
     },
     // A deep recursion behind a signal's frame
     Walk {
-        head: &[Frame::In(b"on_fault"), Frame::Signal],
-        cycle: &[Frame::In(b"odd"), Frame::In(b"even")],
+        head: "on_fault|!signal",
+        cycle: "odd|even",
         times: 45,
-        tail: &[],
+        tail: "",
         handled: (11, b"SIGSEGV"),
         is_whole: true,
         signature: b"<SIGSEGV> <recursion> even odd",
     },
     // Too few words for a deep recursion
     Walk {
-        head: &[],
-        cycle: &[Frame::In(b"odd"), Frame::In(b"even")],
+        head: "",
+        cycle: "odd|even",
         times: 31,
-        tail: &[Frame::In(b"main")],
+        tail: "main",
         handled: (0, b""),
         is_whole: true,
         signature: b"odd even main",
     },
     // What compilers add
     Walk {
-        head: &[
-            Frame::In(b"parse.isra.0"),
-            Frame::In(b"read.part.2.cold"),
-            Frame::In(b"load.lto_priv.1"),
-            Frame::In(b".cold"),
-            Frame::In(b"scan.constprop.0.x"),
-            Frame::In(b"main"),
-        ],
-        cycle: &[],
+        head: "parse.isra.0|read.part.2.cold|load.lto_priv.1|.cold|scan.constprop.0.x|main",
+        cycle: "",
         times: 0,
-        tail: &[],
+        tail: "",
         handled: (0, b""),
         is_whole: true,
         signature: b"parse read load .cold scan.constprop.0.x",
     },
     // The hash of a Rust name
     Walk {
-        head: &[
-            Frame::In(b"_ZN4core6option13unwrap_failed17h0123456789abcdefE"),
-            Frame::In(b"_ZN3app3run17h0123456789abcdefg"),
-            Frame::In(b"main"),
-        ],
-        cycle: &[],
+        head: "_ZN4core6option13unwrap_failed17h0123456789abcdefE|_ZN3app3run17h0123456789abcdefg|main",
+        cycle: "",
         times: 0,
-        tail: &[],
+        tail: "",
         handled: (0, b""),
         is_whole: true,
         signature: b"_ZN4core6option13unwrap_failedE _ZN3app3run17h0123456789abcdefg main",
     },
     // Repetitions of one, two and three words
     Walk {
-        head: &[
-            Frame::In(b"a"),
-            Frame::In(b"a"),
-            Frame::In(b"b"),
-            Frame::In(b"c"),
-            Frame::In(b"b"),
-            Frame::In(b"c"),
-            Frame::In(b"d"),
-            Frame::In(b"e"),
-            Frame::In(b"f"),
-            Frame::In(b"d"),
-            Frame::In(b"e"),
-            Frame::In(b"f"),
-            Frame::In(b"g"),
-            Frame::In(b"main"),
-        ],
-        cycle: &[],
+        head: "a|a|b|c|b|c|d|e|f|d|e|f|g|main",
+        cycle: "",
         times: 0,
-        tail: &[],
+        tail: "",
         handled: (0, b""),
         is_whole: true,
         signature: b"a b c d e",
     },
     // A repetition of four words stays
     Walk {
-        head: &[
-            Frame::In(b"a"),
-            Frame::In(b"b"),
-            Frame::In(b"c"),
-            Frame::In(b"d"),
-            Frame::In(b"a"),
-            Frame::In(b"b"),
-            Frame::In(b"c"),
-            Frame::In(b"d"),
-            Frame::In(b"main"),
-        ],
-        cycle: &[],
+        head: "a|b|c|d|a|b|c|d|main",
+        cycle: "",
         times: 0,
-        tail: &[],
+        tail: "",
         handled: (0, b""),
         is_whole: true,
         signature: b"a b c d a",
     },
     // Five words of a stack that ends in the middle
     Walk {
-        head: &[
-            Frame::In(b"a"),
-            Frame::In(b"b"),
-            Frame::In(b"c"),
-            Frame::In(b"d"),
-            Frame::In(b"e"),
-        ],
-        cycle: &[],
+        head: "a|b|c|d|e",
+        cycle: "",
         times: 0,
-        tail: &[],
+        tail: "",
         handled: (0, b""),
         is_whole: false,
         signature: b"a b c d e ..",
     },
-];
-
-static WALKS_4: [Walk; 6] = [
     // Six
     Walk {
-        head: &[
-            Frame::In(b"a"),
-            Frame::In(b"b"),
-            Frame::In(b"c"),
-            Frame::In(b"d"),
-            Frame::In(b"e"),
-            Frame::In(b"f"),
-        ],
-        cycle: &[],
+        head: "a|b|c|d|e|f",
+        cycle: "",
         times: 0,
-        tail: &[],
+        tail: "",
         handled: (0, b""),
         is_whole: false,
         signature: b"a b c d e",
     },
     // Only `main`
     Walk {
-        head: &[Frame::In(b"main"), Frame::In(b"__libc_start_call_main")],
-        cycle: &[],
+        head: "main|__libc_start_call_main",
+        cycle: "",
         times: 0,
-        tail: &[],
+        tail: "",
         handled: (0, b""),
         is_whole: false,
         signature: b"main",
     },
     // Only what calls `main`
     Walk {
-        head: &[Frame::In(b"_start"), Frame::In(b"__libc_start_main")],
-        cycle: &[],
+        head: "_start|__libc_start_main",
+        cycle: "",
         times: 0,
-        tail: &[],
+        tail: "",
         handled: (0, b""),
         is_whole: true,
         signature: b"_start",
     },
     // The vdso, and places without a file
     Walk {
-        head: &[Frame::Vdso, Frame::Wild, Frame::In(b"main")],
-        cycle: &[],
+        head: "!vdso|!wild|main",
+        cycle: "",
         times: 0,
-        tail: &[],
+        tail: "",
         handled: (0, b""),
         is_whole: true,
         signature: b"<vdso> <wild> main",
     },
     // A core that doesn't say which files are mapped
     Walk {
-        head: &[Frame::Unknown, Frame::Unknown, Frame::Null],
-        cycle: &[],
+        head: "!unknown|!unknown|!null",
+        cycle: "",
         times: 0,
-        tail: &[],
+        tail: "",
         handled: (0, b""),
         is_whole: false,
         signature: b"? <null> ..",
     },
     // A function that is called as a mark is
     Walk {
-        head: &[
-            Frame::In(b"<signal>"),
-            Frame::In(b"work"),
-            Frame::In(b"main"),
-        ],
-        cycle: &[],
+        head: "<signal>|work|main",
+        cycle: "",
         times: 0,
-        tail: &[],
+        tail: "",
         handled: (11, b"SIGSEGV"),
         is_whole: true,
         signature: b"<signal> work main",
@@ -500,7 +330,7 @@ const LOW: u64 = 0x10000;
 const HIGH: u64 = 0x7f00_0000_0000;
 
 // What is known of a frame.
-fn facts(frame: Frame, start: u64) -> FrameFacts<'static> {
+fn facts(word: &'static str, start: u64) -> FrameFacts<'static> {
     let mut facts = FrameFacts {
         pc: 0x9000_0000,
         is_signal: false,
@@ -509,29 +339,41 @@ fn facts(frame: Frame, start: u64) -> FrameFacts<'static> {
         is_vdso: false,
         has_files: true,
     };
-    match frame {
-        Frame::Signal => facts.is_signal = true,
-        Frame::In(name) => facts.function = Some(name),
-        Frame::At(path, place) => {
-            facts.pc = start.saturating_add(place);
-            facts.file = Some(MappedFile {
-                path,
-                start,
-                offset: 0,
-            });
-        }
-        Frame::Null => facts.pc = 0xfff,
-        Frame::Vdso => facts.is_vdso = true,
-        Frame::Wild => facts.pc = 0x1000,
-        Frame::Unknown => facts.has_files = false,
+    match word {
+        "!signal" => facts.is_signal = true,
+        "!null" => facts.pc = 0xfff,
+        "!vdso" => facts.is_vdso = true,
+        "!wild" => facts.pc = 0x1000,
+        "!unknown" => facts.has_files = false,
+        _ => put_place(&mut facts, word, start),
     }
     facts
 }
 
-fn add_frames(words: &mut Words, frames: &[Frame]) {
-    for frame in frames {
-        let start = if words.len() % 2 == 0 { LOW } else { HIGH };
-        let _ = words.try_push(word_of(&facts(*frame, start)));
+fn put_place(facts: &mut FrameFacts<'static>, word: &'static str, start: u64) {
+    let Some((path, place)) = place_in(word) else {
+        facts.function = Some(word.as_bytes());
+        return;
+    };
+    facts.pc = start.saturating_add(place);
+    facts.file = Some(MappedFile {
+        path,
+        start,
+        offset: 0,
+    });
+}
+
+fn place_in(word: &'static str) -> Option<(&'static [u8], u64)> {
+    let (path, place) = word.strip_prefix('@')?.split_once(':')?;
+    Some((path.as_bytes(), parse_number(place.as_bytes())?))
+}
+
+fn add_frames(words: &mut Words, frames: &'static str) {
+    for word in frames.split('|') {
+        if !word.is_empty() {
+            let start = if words.len() % 2 == 0 { LOW } else { HIGH };
+            let _ = words.try_push(word_of(&facts(word, start)));
+        }
     }
 }
 
@@ -583,18 +425,11 @@ fn has_signature(walk: &Walk) -> bool {
     )
 }
 
-fn all_have_theirs<R: Abort>(rt: &R, walks: &[Walk]) {
-    for walk in walks {
-        assert!(rt; has_signature(walk));
-    }
-}
-
 #[test]
 fn each_walk_has_its_signature(rt: HostRuntime) {
-    all_have_theirs(&rt, &WALKS_1);
-    all_have_theirs(&rt, &WALKS_2);
-    all_have_theirs(&rt, &WALKS_3);
-    all_have_theirs(&rt, &WALKS_4);
+    for walk in &WALKS {
+        assert!(&rt; has_signature(walk));
+    }
 }
 
 fn core(number: u64, signature: usize, is_missing: bool, place: Option<usize>) -> Core {

@@ -1,6 +1,6 @@
 // Archives in memory, sessions over them, and scripts.
 use case_journal::format;
-use disk_model::{Disk, MemDisk, Pick};
+use disk_model::{Disk, MemDisk};
 use inspector_cli::{Input, Naming, Output, ReadInput, SessionFault, WriteOutput, run_session};
 use intake::{Archive, Settings};
 use journal_layout::Shape;
@@ -42,15 +42,6 @@ pub(crate) fn fresh(alloc: Global, limit: u64) -> Result<Archive<MemDisk>, Fail>
     opened(alloc, fresh_disk(alloc)?, limit)
 }
 
-// The archive that is found after a crash of this one.
-pub(crate) fn after_crash(
-    alloc: Global,
-    disk: &MemDisk,
-    pick: Pick,
-) -> Result<Archive<MemDisk>, Fail> {
-    opened(alloc, disk.after_crash(pick)?, 1 << 30)
-}
-
 // Cores are named by this template.
 pub(crate) fn named(template: &[u8]) -> Result<Naming, Fail> {
     Ok(Naming {
@@ -83,6 +74,17 @@ pub(crate) fn told<D: Disk>(
     let mut output = WriteOutput::new(&mut text);
     session(alloc, &mut input, &mut output, archive, &naming)?;
     Ok(String::from_utf8(text)?)
+}
+
+// What a session over this script writes, over the archive on a disk, and the disk that it leaves.
+pub(crate) fn after<D: Disk + Drop>(
+    alloc: Global,
+    disk: D,
+    script: &[u8],
+) -> Result<(String, D), Fail> {
+    let mut archive = opened(alloc, disk, 1 << 30)?;
+    let text = told(alloc, &mut archive, script)?;
+    Ok((text, archive.close()))
 }
 
 // A session over this script writes this text.

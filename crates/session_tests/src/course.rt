@@ -439,15 +439,25 @@ fn is_answered(
     rows: usize,
 ) -> Result<bool, Fail> {
     let mut archive = course_archive(rt.alloc())?;
+    answer_rows(rt, course, &mut archive, rows)?;
+    Ok(is_open(&archive.close(), 2))
+}
+
+fn answer_rows<D: Disk>(
+    rt: &(impl AllocGlobal + Abort),
+    course: &Course,
+    archive: &mut Archive<D>,
+    rows: usize,
+) -> Result<(), Fail> {
     let script = course
         .script
         .get(..course.line_end(rows.saturating_sub(1)))
         .unwrap_or(&[]);
-    let text = told(rt.alloc(), &mut archive, script)?;
+    let text = told(rt.alloc(), archive, script)?;
     assert_eq!(rt; text.len(), course.reply_end(rows));
     assert_eq!(rt; course.answered(text.as_bytes()), rows);
-    assert!(rt; course.is_shown(rt.alloc(), &mut archive, rows, 0)?);
-    Ok(is_open(&archive.close(), 2))
+    assert!(rt; course.is_shown(rt.alloc(), archive, rows, 0)?);
+    Ok(())
 }
 
 #[test]

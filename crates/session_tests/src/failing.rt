@@ -98,12 +98,23 @@ fn ends(
     rows: Option<usize>,
 ) -> Result<(Result<(), SessionFault>, usize, usize), Fail> {
     let mut archive = course_archive(rt.alloc())?;
+    let ends = ends_over(rt, course, &mut archive, places)?;
+    let rows = rows.unwrap_or(ends.1);
+    assert!(rt; course.is_shown(rt.alloc(), &mut archive, rows, 0)?);
+    Ok(ends)
+}
+
+// The session itself.
+fn ends_over<D: Disk>(
+    rt: &(impl AllocGlobal + Abort),
+    course: &Course,
+    archive: &mut Archive<D>,
+    places: (usize, usize),
+) -> Result<(Result<(), SessionFault>, usize, usize), Fail> {
     let naming = named(b"core.%p")?;
     let (mut input, mut output) = streams(course, places.0, places.1);
-    let ended = session(rt.alloc(), &mut input, &mut output, &mut archive, &naming);
+    let ended = session(rt.alloc(), &mut input, &mut output, archive, &naming);
     assert_eq!(rt; output.wrong, 0);
-    let rows = rows.unwrap_or(input.row);
-    assert!(rt; course.is_shown(rt.alloc(), &mut archive, rows, 0)?);
     Ok((ended, input.row, output.at))
 }
 

@@ -1,5 +1,5 @@
 // Archives with images in them, and what lines that ask these read of the disk.
-use crate::archives::{disk_of, opened, tells, told};
+use crate::archives::{after, disk_of, opened, told};
 use disk_model::{Disk, Fuse, MemDisk};
 use elf_view::sample::executable;
 use intake::Archive;
@@ -14,9 +14,9 @@ pub(crate) fn calls(
     lines: &str,
     wanted: &str,
 ) -> Result<u64, Fail> {
-    let mut archive = opened(rt.alloc(), Fuse::new(disk, u64::MAX), 1 << 30)?;
-    tells(rt, &mut archive, lines.as_bytes(), wanted)?;
-    Ok(archive.close().calls())
+    let (text, fuse) = after(rt.alloc(), Fuse::new(disk, u64::MAX), lines.as_bytes())?;
+    assert_eq!(rt; text.as_str(), wanted);
+    Ok(fuse.calls())
 }
 
 // Stores an image after this line.
@@ -41,8 +41,11 @@ fn stores<D: Disk>(
 // A disk whose archive has the sample executable as its first case, and this core as its second.
 pub(crate) fn with_executable(alloc: Global, core: &[u8]) -> Result<MemDisk, Fail> {
     let mut archive = opened(alloc, disk_of(alloc, 8)?, 1 << 30)?;
-    let exec = executable(alloc)?;
-    stores(alloc, &mut archive, "begin exec 0 /bin/cat", &exec)?;
-    stores(alloc, &mut archive, "begin core 0 comm=demo pid=1", core)?;
+    store_both(alloc, &mut archive, core)?;
     Ok(archive.close())
+}
+
+fn store_both<D: Disk>(alloc: Global, archive: &mut Archive<D>, core: &[u8]) -> Result<(), Fail> {
+    stores(alloc, archive, "begin exec 0 /bin/cat", &executable(alloc)?)?;
+    stores(alloc, archive, "begin core 0 comm=demo pid=1", core)
 }

@@ -1,8 +1,8 @@
 // An archive that others change while it is read, moment by moment, and one that is salvaged from memory.
-use crate::archives::{disk_of, opened, told};
+use crate::archives::{after, disk_of};
 use crate::images::with_executable;
 use archive_care::CopyWish;
-use disk_model::Disk;
+use disk_model::{Disk, MemDisk};
 use elf_view::sample::stack_core;
 use inspector_cli::{Question, WriteOutput};
 use journal_layout::Shape;
@@ -28,12 +28,9 @@ fn moments(alloc: Global) -> Result<(Vec<u8>, usize), Fail> {
     let mut disk = with_executable(alloc, &stack_core(alloc)?)?;
     let mut bytes = Vec::new(alloc);
     for script in &STEPS {
-        let mut archive = opened(alloc, disk, 1 << 30)?;
-        told(alloc, &mut archive, script.as_bytes())?;
-        disk = archive.close();
-        let mut now = vec![in alloc; 0u8; disk.length() as usize]?;
-        disk.read_at(0, &mut now)?;
-        bytes.extend_from_slice(&now)?;
+        let (_, left) = after(alloc, disk, script.as_bytes())?;
+        disk = left;
+        bytes.extend_from_slice(disk.bytes())?;
     }
     Ok((bytes, disk.length() as usize))
 }
@@ -104,20 +101,26 @@ fn an_answer_is_of_the_case_or_it_is_gone(rt: HostRuntime) -> Result<(), Fail> {
 
 // What `list` tells of the archive that is salvaged from these bytes.
 fn salvaged(alloc: Global, bytes: &[u8]) -> Result<String, Fail> {
+    let mut onto = disk_of(alloc, 8)?;
+    salvage_onto(alloc, bytes, &mut onto)?;
+    let (text, _) = after(alloc, onto, b"list\n")?;
+    Ok(text)
+}
+
+// Copies the cases that are found in these bytes.
+fn salvage_onto(alloc: Global, bytes: &[u8], onto: &mut MemDisk) -> Result<(), Fail> {
     let source = HeldBytes::new(bytes);
     let found = find_cases(alloc, &source)?;
     let shape = Shape {
         half_blocks: 1,
         data_blocks: 8,
     };
-    let mut onto = disk_of(alloc, 8)?;
     let wanted = CopyWish {
         shape,
         keeps_labels: false,
     };
-    copy_cases(alloc, &source, &found, &mut onto, wanted)?;
-    let mut archive = opened(alloc, onto, 1 << 30)?;
-    told(alloc, &mut archive, b"list\n")
+    copy_cases(alloc, &source, &found, onto, wanted)?;
+    Ok(())
 }
 
 #[test]

@@ -1,8 +1,9 @@
 // A disk that fails at each read of a line over an image.
 use crate::archives::{opened, tells};
 use crate::images::{calls, with_executable};
-use disk_model::{MemDisk, OneFault};
+use disk_model::{Disk, MemDisk, OneFault};
 use elf_view::sample::mapped_core;
+use intake::Archive;
 use std::alloc::Global;
 use std::process::Abort;
 use std::test::Fail;
@@ -36,10 +37,19 @@ static READING: [(&str, &str); 9] = [
 fn stops_at(rt: &(impl AllocGlobal + Abort), line: &str, call: u64) -> Result<(), Fail> {
     let disk = OneFault::new(stored(rt.alloc())?, call);
     let mut archive = opened(rt.alloc(), disk, 1 << 30)?;
-    tells(rt, &mut archive, line.as_bytes(), "no Disk\n")?;
+    is_stopped_by(rt, &mut archive, line)
+}
+
+// The line is refused since the disk fails, and those after it since the archive is stopped.
+fn is_stopped_by<D: Disk>(
+    rt: &(impl AllocGlobal + Abort),
+    archive: &mut Archive<D>,
+    line: &str,
+) -> Result<(), Fail> {
+    tells(rt, archive, line.as_bytes(), "no Disk\n")?;
     tells(
         rt,
-        &mut archive,
+        archive,
         b"maps 9\nbt 1 0\nsymbol 2 0\ndump 2 0 65537\n",
         "no Stopped\nno Stopped\nno Stopped\nno Stopped\n",
     )

@@ -1,5 +1,5 @@
 // A disk that fails where room is made before a case is stored. What is stored where none fails is shown by rows of `examples/rows`.
-use crate::archives::{fresh, named, opened, tells, told};
+use crate::archives::{after, fresh_disk, named};
 use disk_model::{Disk, MemDisk, OneFault, Pick};
 use inspector_cli::{
     Input, LifeFault, Naming, Order, Output, ReadInput, StoreOptions, StoreOutcome, WriteOutput,
@@ -42,17 +42,16 @@ fn store<I: Input, O: Output, D: Disk>(
 
 // The disk of an archive with one case.
 fn with_case(alloc: Global) -> Result<MemDisk, Fail> {
-    let mut archive = fresh(alloc, 1 << 30)?;
-    let _ = told(alloc, &mut archive, b"begin exec 0 a\nend 0\n")?;
-    Ok(archive.close())
+    let (_, disk) = after(alloc, fresh_disk(alloc)?, b"begin exec 0 a\nend 0\n")?;
+    Ok(disk)
 }
 
 // The number of the last call of a disk that an opening and a retirement of its case make.
 fn calls_of_retirement(rt: &(impl AllocGlobal + Abort), disk: &MemDisk) -> Result<u64, Fail> {
     let copy = OneFault::new(disk.after_crash(Pick::Nothing)?, 0);
-    let mut archive = opened(rt.alloc(), copy, 1 << 30)?;
-    tells(rt, &mut archive, b"retire keep=0\n", "dropped 1\nok\n")?;
-    Ok(archive.close().calls())
+    let (text, left) = after(rt.alloc(), copy, b"retire keep=0\n")?;
+    assert_eq!(rt; text.as_str(), "dropped 1\nok\n");
+    Ok(left.calls())
 }
 
 // The disk fails at the last call that makes room, so that the archive is stopped.

@@ -1,16 +1,9 @@
 // Disks that fail at the last call of a session, and what is found after a crash.
-use crate::archives::{after_crash, fresh, fresh_disk, opened, tells, told};
+use crate::archives::{after, fresh_disk};
 use disk_model::{Disk, MemDisk, OneFault, Pick};
-use intake::Archive;
 use std::alloc::Global;
 use std::process::Abort;
 use std::test::Fail;
-
-// The archive on a copy of the disk, where this call of the copy fails.
-fn faulty(alloc: Global, disk: &MemDisk, call: u64) -> Result<Archive<OneFault<MemDisk>>, Fail> {
-    let copy = disk.after_crash(Pick::Nothing)?;
-    opened(alloc, OneFault::new(copy, call), 1 << 30)
-}
 
 // What a session over this script writes, and the disk that it leaves, where this call of the disk fails. The archive on
 // the disk stays as it is: the session is over a copy.
@@ -20,9 +13,8 @@ fn stopped(
     call: u64,
     script: &[u8],
 ) -> Result<(String, OneFault<MemDisk>), Fail> {
-    let mut archive = faulty(alloc, disk, call)?;
-    let text = told(alloc, &mut archive, script)?;
-    Ok((text, archive.close()))
+    let copy = disk.after_crash(Pick::Nothing)?;
+    after(alloc, OneFault::new(copy, call), script)
 }
 
 // The same, where the last call of the disk fails that the first part of the script makes.
@@ -76,9 +68,9 @@ fn lists(
     pick: Pick,
     wanted: &str,
 ) -> Result<MemDisk, Fail> {
-    let mut archive = after_crash(rt.alloc(), left, pick)?;
-    tells(rt, &mut archive, b"list\n", wanted)?;
-    Ok(archive.close())
+    let (text, disk) = after(rt.alloc(), left.after_crash(pick)?, b"list\n")?;
+    assert_eq!(rt; text.as_str(), wanted);
+    Ok(disk)
 }
 
 #[test]
@@ -106,33 +98,27 @@ fn stopped_deletion(rt: &(impl AllocGlobal + Abort), disk: &MemDisk) -> Result<M
 
 // The disk of an archive of one executable without bytes.
 fn stored(alloc: Global) -> Result<MemDisk, Fail> {
-    let mut archive = fresh(alloc, 1 << 30)?;
-    let _ = told(alloc, &mut archive, b"begin exec 0 a\nend 0\n")?;
-    Ok(archive.close())
+    let (_, disk) = after(alloc, fresh_disk(alloc)?, b"begin exec 0 a\nend 0\n")?;
+    Ok(disk)
 }
 
 // The cases, and the next one.
 static NEXT: &[u8] = b"list\nbegin exec 0 b\nend 0\n";
 
-// A session over an archive that lists the cases and stores the next one writes this text.
-fn goes_on<D: Disk + Drop>(
-    rt: &(impl AllocGlobal + Abort),
-    archive: Archive<D>,
-    wanted: &str,
-) -> Result<(), Fail> {
-    let mut archive = archive;
-    tells(rt, &mut archive, NEXT, wanted)
+// A session over the archive on this disk that lists the cases and stores the next one writes this text.
+fn goes_on(rt: &(impl AllocGlobal + Abort), disk: MemDisk, wanted: &str) -> Result<(), Fail> {
+    let (text, _) = after(rt.alloc(), disk, NEXT)?;
+    assert_eq!(rt; text.as_str(), wanted);
+    Ok(())
 }
 
 #[test]
 fn a_fault_within_a_deletion_stops_the_archive(rt: HostRuntime) -> Result<(), Fail> {
     let left = stopped_deletion(&rt, &stored(rt.alloc())?)?;
-    let archive = after_crash(rt.alloc(), &left, Pick::Nothing)?;
     goes_on(
         &rt,
-        archive,
+        left.after_crash(Pick::Nothing)?,
         "1 exec 0 0 0 0 - a\nok\nname b\nok\nstored 2\nok\n",
     )?;
-    let archive = opened(rt.alloc(), left, 1 << 30)?;
-    goes_on(&rt, archive, "ok\nname b\nok\nstored 2\nok\n")
+    goes_on(&rt, left, "ok\nname b\nok\nstored 2\nok\n")
 }
