@@ -139,15 +139,6 @@ fn is_compaction_refused(
         return Err(Fail::from("the journal was not opened"));
     };
     let mut journal = found.journal;
-    is_refused_anew(rt, &mut journal, disk)
-}
-
-/// The same of a journal that is open.
-fn is_refused_anew(
-    rt: &impl Abort,
-    journal: &mut Journal,
-    disk: &mut MemDisk,
-) -> Result<bool, Fail> {
     let used = journal.use_bytes();
     match journal.compact(disk) {
         Ok(()) => Ok(false),
