@@ -1,5 +1,6 @@
 // The known facts of an archive as JSON.
 use crate::archive::ArchiveFacts;
+use case_tables::json_text;
 use jiff::ToSpan;
 use jiff::civil::date;
 use serde_json::{Value, json};
@@ -35,7 +36,7 @@ pub fn archive_json(alloc: Global, facts: &ArchiveFacts) -> Result<String, Alloc
         "newest": known(alloc, facts.newest)?,
         "last_number": facts.last_number,
     })?;
-    value.to_string(alloc)
+    json_text(alloc, &value)
 }
 
 // The days that are shown, each with its cores.

@@ -8,22 +8,22 @@ use Rattle.archive_files.specs.declared.failures.Failure.TheVariants.{Refused}
 use Rattle.archive_files.specs.declared.failures.Refusal.TheVariants.{Open}
 use Rattle.case_listing.specs.declared.listing.ListWords.{ListWords}
 use Rattle.case_tables.specs.Filters.{SaysTime}
+use Rattle.case_tables.specs.Hidden.{Prints}
 use Rattle.case_tables.specs.Json.{cases_json}
 use Rattle.case_tables.specs.Lines.{case_line}
 use Rattle.case_tables.specs.Order.{IsShown}
 use Rattle.case_tables.specs.Table.{list_table}
 use Rattle.case_tables.specs.Wanted.{chosen}
 use Rattle.case_tables.specs.declared.wanted.Wanted.{Wanted}
-use Rattle.serde_json.specs.Read.{read}
 use Rattle.disk_model.specs.declared.disk.Disk as disk
 use Rattle.intake.specs.Calls.{OpenCall}
 use Rattle.intake.specs.Parts.{Parts, state_of}
 use Rattle.journal_layout.specs.Case.{Case}
 use Rattle.journal_layout.specs.declared.faults.OpenFault.{OpenFault}
 
--- a line whose text reads back as JSON of these cases
+-- a line whose text reads back as JSON of these cases, and its hidden characters are escaped
 abbrev pub TellsCases : List Case → Option (List ℕ) → Option (List ℕ) → Type 0
-TellsCases cases before after = (text : List ℕ) × (read text ≡ Some (cases_json cases)) × Appends before after (text ++ 10 ∷ [])
+TellsCases cases before after = (printed : List ℕ) × Prints (cases_json cases) printed × Appends before after (printed ++ 10 ∷ [])
 
 -- the wanted cases in their order, as a table and as JSON
 abbrev pub TellsTable : Wanted → List Case → Option (List ℕ) → Option (List ℕ) → Type 0

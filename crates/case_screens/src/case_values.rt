@@ -5,7 +5,7 @@ use crate::note_values::{cause_value, header_value, process_value, put_thread, r
 use crate::reason::core_reason;
 use crate::rows::number_value;
 use crate::told_notes::thread_count;
-use case_tables::case_value;
+use case_tables::{case_value, json_text};
 use journal_layout::Entry;
 use serde_json::{Map, Value, put};
 use std::alloc::{AllocError, Global};
@@ -32,7 +32,7 @@ pub fn case_json(
             }
         }
     }
-    value.to_string(alloc)
+    json_text(alloc, &value)
 }
 
 fn put_core(

@@ -4,6 +4,7 @@ ghost use Rattle.std.specs.Prelude.{◌<◌, length, IfSome};
 use crate::auxiliary::auxv_name;
 use crate::shapes::{Field, FieldKind, field_of, form_of};
 use bstr::ByteSlice;
+use case_tables::json_text;
 use script_words::{Words, parse_number, print_byte, print_decimal};
 use serde_json::{Map, Value, put};
 use std::alloc::{AllocError, Global};
@@ -25,7 +26,7 @@ pub fn rows_json(alloc: Global, rows: &[u8], forms: &[&str]) -> Result<String, A
         put_row(alloc, &mut map, line, forms)?;
         values.push(Value::Object(map))?;
     }
-    Value::Array(values).to_string(alloc)
+    json_text(alloc, &Value::Array(values))
 }
 
 /// Why something is refused, as a JSON object.
@@ -34,7 +35,7 @@ pub fn rows_json(alloc: Global, rows: &[u8], forms: &[&str]) -> Result<String, A
 ///
 /// There is no memory.
 pub fn refusal_json(alloc: Global, reason: &[u8]) -> Result<String, AllocError> {
-    refusal_value(alloc, reason)?.to_string(alloc)
+    json_text(alloc, &refusal_value(alloc, reason)?)
 }
 
 pub(crate) fn refusal_value(alloc: Global, reason: &[u8]) -> Result<Value, AllocError> {

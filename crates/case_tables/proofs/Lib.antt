@@ -1,6 +1,8 @@
 pub mod DayLemmas
 pub mod TableLemmas
 pub mod NamedLemmas
+pub mod HiddenLemmas
+pub mod EscapeLemmas
 pub mod JsonLemmas
 pub mod SignalLemmas
 pub mod OrderLemmas

@@ -8,5 +8,6 @@ pub mod NameParts
 pub mod Order
 pub mod Wanted
 pub mod Named
+pub mod Hidden
 pub mod Json
 pub mod Lines

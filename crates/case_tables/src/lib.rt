@@ -3,12 +3,14 @@
 
 mod columns;
 mod days;
-mod json;
+mod hidden;
+mod laws;
 mod lines;
 mod list;
 mod moments;
 mod name_parts;
 mod named;
+mod objects;
 mod order;
 mod signals;
 mod sizes;
@@ -17,11 +19,13 @@ mod texts;
 mod times;
 mod wanted;
 
-pub use json::{case_value, json_of};
+pub use hidden::json_text;
+pub use laws::nothing_printed_is_hidden;
 pub use list::{list_json, tell_list, tell_list_lines};
 pub use moments::read_time;
 pub use name_parts::{host_in, program_in, user_in};
 pub use named::{case_of_name, number_named};
+pub use objects::{case_value, json_of};
 pub use order::Order;
 pub use signals::{read_signal, tell_signal};
 pub use sizes::tell_size;

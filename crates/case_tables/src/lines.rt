@@ -5,7 +5,8 @@ ghost use Rattle.journal_layout.specs.Case.{case_of};
 ghost use Rattle.script_streams.specs.Replies.{TellsText, telling};
 ghost use Rattle.case_tables.specs.Lines.{case_line};
 
-use crate::json::case_value;
+use crate::hidden::json_text;
+use crate::objects::case_value;
 use journal_layout::Entry;
 use script_streams::{Output, Reply};
 use std::alloc::{AllocError, Global};
@@ -33,7 +34,7 @@ fn tell_case_line<O: Output>(
     ensures { OnOk result (TellsText (telling O.Output reply.old reply.new) (case_line (case_of case.now))) }
 {
     let value = case_value(alloc, case)?;
-    let text = value.to_string(alloc)?;
+    let text = json_text(alloc, &value)?;
     reply.tell(text.as_bytes());
     reply.tell(b"\n");
     Ok(())

@@ -1,17 +1,17 @@
 // A list of the cases that are wanted.
-ghost use Rattle.std.specs.Prelude.{◌≡◌, ◌==◌, IfOk, List, Some, length, map, not, string_bytes};
+ghost use Rattle.std.specs.Prelude.{◌≡◌, ◌==◌, IfOk, List, length, map, not, string_bytes};
 ghost use Rattle.std.specs.List.{flat_map};
-ghost use Rattle.serde_json.specs.Read.{read};
 ghost use Rattle.journal_layout.specs.Case.{Case, case_of};
 ghost use Rattle.script_streams.specs.Replies.{TellsText, telling};
+ghost use Rattle.case_tables.specs.Hidden.{Prints};
 ghost use Rattle.case_tables.specs.Json.{cases_json};
 ghost use Rattle.case_tables.specs.Lines.{case_line};
 ghost use Rattle.case_tables.specs.Order.{IsShown};
 ghost use Rattle.case_tables.specs.Table.{list_table};
 ghost use Rattle.case_tables.specs.Wanted.{chosen};
 
-use crate::json::json_of;
 use crate::lines::tell_case_lines;
+use crate::objects::json_of;
 use crate::table::tell_table;
 use crate::wanted::{Wanted, shown_of};
 use journal_layout::Entry;
@@ -58,7 +58,7 @@ pub fn tell_list_lines<O: Output>(
     Ok(!shown.is_empty())
 }
 
-/// The cases that are wanted as a JSON array of objects, and whether there are any.
+/// The cases that are wanted as a JSON array of objects, as it is printed, and whether there are any.
 ///
 /// # Errors
 ///
@@ -69,7 +69,7 @@ pub fn list_json(
     wanted: &Wanted<'_>,
 ) -> Result<(String, bool), AllocError>
     ensures is_json { IfOk result (λ list. (shown : List Case) × IsShown wanted.now.order (chosen wanted.now (map case_of cases.now)) shown
-        × (read (string_bytes list.0) ≡ Some (cases_json shown))) }
+        × Prints (cases_json shown) (string_bytes list.0)) }
     ensures some { IfOk result (λ list. list.1 ≡ not (length (chosen wanted.now (map case_of cases.now)) == 0)) }
 {
     let shown = shown_of(alloc, cases, wanted)?;

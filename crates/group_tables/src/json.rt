@@ -5,7 +5,7 @@ use crate::labels::labels_of;
 use crate::rows::{GroupMember, GroupRow};
 use crate::summary::{first_time, last_time};
 use crate::words::tell_word;
-use case_tables::case_value;
+use case_tables::{case_value, json_text};
 use crash_signatures::Word;
 use script_streams::{Output, Reply};
 use serde_json::{Value, json};
@@ -31,7 +31,7 @@ pub fn groups_json(
     for row in rows {
         values.push(group_value(alloc, latest, row)?)?;
     }
-    Value::Array(values).to_string(alloc)
+    json_text(alloc, &Value::Array(values))
 }
 
 /// Tells a line of JSON for each group: its object, and nothing else.
@@ -46,7 +46,7 @@ pub fn tell_group_lines<O: Output>(
     rows: &[GroupRow<'_>],
 ) -> Result<(), AllocError> {
     for row in rows {
-        let text = group_value(alloc, latest, row)?.to_string(alloc)?;
+        let text = json_text(alloc, &group_value(alloc, latest, row)?)?;
         reply.tell(text.as_bytes());
         reply.tell(b"\n");
     }
@@ -67,7 +67,7 @@ pub fn group_json(alloc: Global, latest: u64, row: &GroupRow<'_>) -> Result<Stri
         "group": group_value(alloc, latest, row)?,
         "cases": Value::Array(cases),
     })?;
-    value.to_string(alloc)
+    json_text(alloc, &value)
 }
 
 // What is told of a group.

@@ -3,7 +3,7 @@ use Rattle.std.specs.List.{list_any}
 use Rattle.std.specs.Str.{is_utf8}
 use Rattle.case_tables.specs.Json.{is_text, is_zero}
 use Rattle.case_tables.proofs.JsonLemmas.{both_texts, is_utf8_text}
-use Rattle.case_tables.proofs.json.case_value.Goals as goal
+use Rattle.case_tables.proofs.objects.case_value.Goals as goal
 
 utf8 : (text : List ℕ) → is_text text ≡ true → is_utf8 text ≡ true
 utf8 text is = is_utf8_text (is_utf8 text) (list_any is_zero text) is

@@ -1,13 +1,14 @@
 // The cases of an archive as JSON.
-ghost use Rattle.std.specs.Prelude.{◌≡◌, ◌≢◌, ◌++◌, ◌∷◌, [], true, false, map, Some, IfOk, OnOk, string_bytes};
+ghost use Rattle.std.specs.Prelude.{◌≡◌, ◌≢◌, ◌++◌, ◌∷◌, [], true, false, map, IfOk, OnOk, string_bytes};
 ghost use Rattle.std.specs.List.{list_any};
 ghost use Rattle.std.specs.Str.{is_utf8, IsAscii};
-ghost use Rattle.serde_json.specs.Read.{read};
 ghost use Rattle.serde_json.specs.View.{view};
 ghost use Rattle.journal_layout.specs.Case.{Case, case_of};
 ghost use Rattle.script_words.specs.Printing.{shown};
+ghost use Rattle.case_tables.specs.Hidden.{Prints};
 ghost use Rattle.case_tables.specs.Json.{case_json, cases_json, found_json, is_escaped, is_text, is_zero, kind_word, known_json, number_json, origin_json, part_json, signal_json, text_json};
 
+use crate::hidden::json_text;
 use crate::name_parts::{host_in, program_in, user_in};
 use crate::signals::name_of;
 use journal_layout::{Entry, Kind};
@@ -19,19 +20,19 @@ use std::str;
 // The first number that a JSON number may not be told as: many readers of JSON round it.
 const FIRST_LARGE: u64 = 1 << 53;
 
-/// A JSON array of an object for each case.
+/// A JSON array of an object for each case, as it is printed.
 ///
 /// # Errors
 ///
 /// There is no memory.
 pub fn json_of(alloc: Global, cases: &[&Entry]) -> Result<String, AllocError>
-    ensures { IfOk result (λ text. read (string_bytes text) ≡ Some (cases_json (map (λ e. case_of e.now) cases.now))) }
+    ensures { IfOk result (λ text. Prints (cases_json (map (λ e. case_of e.now) cases.now)) (string_bytes text)) }
 {
     let mut values = Vec::new(alloc);
     for case in cases {
         push_case(alloc, &mut values, case)?;
     }
-    Value::Array(values).to_string(alloc)
+    json_text(alloc, &Value::Array(values))
 }
 
 // Adds an object for a case.
@@ -204,7 +205,7 @@ fn printed(alloc: Global, text: &[u8]) -> Result<String, AllocError>
 }
 
 // Adds letters, each of which is one of ASCII.
-fn push_letters(value: &mut String, letters: &[u8]) -> Result<(), AllocError>
+pub(crate) fn push_letters(value: &mut String, letters: &[u8]) -> Result<(), AllocError>
     requires { IsAscii letters.now }
     ensures { OnOk result (string_bytes value.new ≡ string_bytes value.old ++ letters.now) }
 {
