@@ -11,7 +11,7 @@ _corekeep() {
         return
     fi
     case $before in
-    --half | --data | --template | --limit | --length | --stall | --id | --keep | --cores | --bytes | --before | --exec | --label | --text | --name | --pid | --since | --until | --last | --user | --program) return ;;
+    --half | --data | --template | --limit | --length | --sha256 | --stall | --id | --keep | --cores | --bytes | --before | --exec | --label | --text | --name | --pid | --since | --until | --last | --user | --program) return ;;
     --kind)
         COMPREPLY=($(compgen -W "core exec" -- "$word"))
         return
@@ -37,7 +37,7 @@ _corekeep() {
     case ${COMP_WORDS[1]} in
     format) options="--half --data --sparse --layout --quiet --help" ;;
     run) options="--builds --no-wait $session --help" ;;
-    store) options="--exec --name --pin --label --escape --keep --bytes --before --fit --fair --cut --length --stall --spool --build --id --debug --log --no-wait --quiet $session --help" ;;
+    store) options="--exec --name --pin --label --escape --keep --bytes --before --fit --fair --cut --length --sha256 --stall --spool --build --id --debug --log --no-wait --quiet $session --help" ;;
     handle) options="--check --flush --archive --length --stall --help" ;;
     list) options="--json --json-lines --sort --kind --name --user --program --pid --signal --since --until --label --pinned --last --no-wait --help" ;;
     info) options="--threads --json --metrics --no-wait --help" ;;

@@ -25,7 +25,7 @@ plain_template given isnt = either_none (is_some given.exec) (is_some given.name
 
 -- a core that is named twice is refused as such
 pub named_refused : (given : GivenStore) (why : Refusal) → ((why ≡ BadLine) × (is_named_twice given ≡ true)) ⊎ IsUnspelled why → IsRefused given why
-named_refused given why = ⊎_elim (λ h. inl (inl (h.0, inr (inr (inr (inr (inr h.1))))))) (λ u. inl (inr u))
+named_refused given why = ⊎_elim (λ h. inl (inl (h.0, inr (inr (inr (inr (inr (inr h.1)))))))) (λ u. inl (inr u))
 
 -- one pair more in front of those of `handle` that are left
 pub taken_more : (line : List ℕ) (left pairs : List (Bor (List ℕ))) (i : ℕ) (d : Bor (List ℕ)) (line' : List ℕ) (left' : List (Bor (List ℕ))) (whole : List ℕ) (all : List (Bor (List ℕ)))

@@ -109,6 +109,16 @@ IsLabelled escapes (Some text) None = ⊥
 IsLabelled escapes (Some text) (Some label) =
     (spelled : List ℕ) × IsSpelled escapes text spelled × (case : ℕ) × (said (codes "label 1 " ++ spelled) ≡ label_of case (label_bytes label))
 
+-- the bytes of a digest, which are 32
+abbrev pub digest_within : Option (List ℕ) → Result (Option (List ℕ)) Refusal
+digest_within None = Err BadLine
+digest_within (Some bytes) = if length bytes == 32 then Ok (Some bytes) else Err BadLine
+
+-- The SHA-256 that FILE must have: the bytes of the word's digits. It is left out with the word.
+abbrev pub digest_said : Option (List ℕ) → Result (Option (List ℕ)) Refusal
+digest_said None = Ok None
+digest_said (Some word) = digest_within (needle_of word)
+
 -- ---- The request.
 
 -- The words of `store` as the file that is to be stored.
@@ -126,6 +136,8 @@ pub record AsksFor (given : GivenStore) (words : StoreWords) : Type 0 where
   pub cut : words.options.cut ≡ (if given.cut then Some given.settings.limit else None)
   -- how many bytes it has
   pub length : number_said (option_copied given.length) ≡ Ok words.options.length
+  -- and which digest
+  pub digest : digest_said (option_copied given.digest) ≡ Ok words.digest
   -- no core is too much
   pub burst : words.options.burst ≡ None
 
@@ -162,6 +174,7 @@ pub record Asks (given : GivenStore) (request : StoreRequest) : Type 0 where
   pub alone : is_named_twice given ≡ false
   pub found : stream_found request.found ≡ found_under (named_by (template_said given) (pid_said given)) name (line_stream (named_by (template_said given) (pid_said given)) (said words.begin.items))
   pub options : request.options ≡ words.options
+  pub digest : request.digest ≡ words.digest
   -- the most bytes of an image
   pub limit : request.limit ≡ given.settings.limit
   pub template : template_fault (template_said given) ≡ None
@@ -180,7 +193,7 @@ HasBoth None pairs = ⊥
 HasBoth (Some name) [] = ⊥
 HasBoth (Some name) (pair ∷ pairs) = Unit {0}
 
--- A word is invalid: a limit, a length or a number of seconds is no number, an executable has pairs, or the label can't be one.
+-- A word is invalid: a limit, a length or a number of seconds is no number, a digest has not 64 hexadecimal digits, an executable has pairs, or the label can't be one.
 abbrev pub IsAtFault : GivenStore → Type 0
 IsAtFault given =
     (policy_said given ≡ Err BadLine)
@@ -188,7 +201,8 @@ IsAtFault given =
     ⊎ (IsNoLabel given.escapes (option_copied given.label)
     ⊎ ((number_said (option_copied given.length) ≡ Err BadLine)
     ⊎ ((number_said (option_copied given.stall) ≡ Err BadLine)
-    ⊎ (is_named_twice given ≡ true)))))
+    ⊎ ((digest_said (option_copied given.digest) ≡ Err BadLine)
+    ⊎ (is_named_twice given ≡ true))))))
 
 -- Why words are refused: one is invalid, or not UTF-8, or there is no memory.
 abbrev pub AreRefused : GivenStore → Refusal → Type 0
@@ -212,6 +226,7 @@ pub record IsGiven {W : Type 0} (g : named.Ghosts W) (words : W) (given : GivenS
   pub name : g.stands words (codes "name") (option_copied given.name)
   pub label : g.stands words (codes "label") (option_copied given.label)
   pub length : g.stands words (codes "length") (option_copied given.length)
+  pub digest : g.stands words (codes "sha256") (option_copied given.digest)
   pub stall : g.stands words (codes "stall") (option_copied given.stall)
   pub escapes : g.stated words (codes "escape") given.escapes
   pub pin : g.stated words (codes "pin") given.pin
@@ -259,6 +274,7 @@ pub record AsksForBuild (given : GivenStore) (build : BuildRequest) : Type 0 whe
   pub asked : AsksFor given words
   pub policy : build.policy ≡ words.policy
   pub options : build.options ≡ words.options
+  pub digest : build.digest ≡ words.digest
   pub naming : build.naming ≡ named_by given.settings.template.now given.settings.uses_pid
   pub limit : build.limit ≡ given.settings.limit
   -- the build that it has to be of, and whether it is a debug file, whatever it is

@@ -33,6 +33,7 @@ pub(crate) struct GivenStore<'g, 'a> {
     pairs: &'g [&'a str],
     label: Option<&'a str>,
     length: Option<&'a str>,
+    digest: Option<&'a str>,
     stall: Option<&'a str>,
     // The bytes of a text are taken as they are.
     escapes: bool,
@@ -67,6 +68,7 @@ impl<'g, 'a> GivenStore<'g, 'a> {
             pairs,
             label: words.word("label"),
             length: words.word("length"),
+            digest: words.word("sha256"),
             stall: words.word("stall"),
             escapes: words.states("escape"),
             pin: words.states("pin"),
@@ -131,6 +133,7 @@ fn build_of(alloc: Global, given: &GivenStore<'_, '_>) -> Result<BuildRequest, R
     let StoreWords {
         policy,
         options,
+        digest,
         ..
     } = wanted_of(alloc, given)?;
     if let Some(log) = given.log {
@@ -142,6 +145,7 @@ fn build_of(alloc: Global, given: &GivenStore<'_, '_>) -> Result<BuildRequest, R
         is_debug: given.is_debug,
         policy,
         options,
+        digest,
         naming,
         limit: given.settings.limit,
     })
@@ -255,6 +259,7 @@ fn wanted_of(alloc: Global, given: &GivenStore<'_, '_>) -> Result<StoreWords, Re
     let begin = first_line(alloc, given)?;
     let label = label_of(alloc, given)?;
     let length = number_of(given.length)?;
+    let digest = digest_of(given.digest)?;
     let options = StoreOptions {
         label,
         pin: given.pin,
@@ -268,6 +273,7 @@ fn wanted_of(alloc: Global, given: &GivenStore<'_, '_>) -> Result<StoreWords, Re
         policy,
         begin,
         options,
+        digest,
     })
 }
 
@@ -304,6 +310,24 @@ pub(crate) fn number_of(word: Option<&str>) -> Result<Option<u64>, Refusal>
     match parse_number(word.as_bytes()) {
         Some(number) => Ok(Some(number)),
         None => Err(Refusal::BadLine),
+    }
+}
+
+// The SHA-256 of a word, if it is there: 32 bytes, each as two hexadecimal digits.
+fn digest_of(word: Option<&str>) -> Result<Option<[u8; 32]>, Refusal>
+    ensures said { result ≡ spec.digest_said (option_copied word.entry) }
+    ensures refused { IfErr result (λ why. (why ≡ BadLine) × (spec.digest_said (option_copied word.entry) ≡ Err BadLine)) }
+{
+    let Some(word) = word else {
+        return Ok(None);
+    };
+    match decode_hex(word.as_bytes()) {
+        Some(bytes) if bytes.len() == 32 => {
+            let mut digest = [0; 32];
+            digest.copy_from_slice(bytes.as_slice());
+            Ok(Some(digest))
+        }
+        _ => Err(Refusal::BadLine),
     }
 }
 

@@ -51,6 +51,7 @@ simple_by word takes.FlagWithBuild = refl
 simple_by word takes.Text = refl
 simple_by word takes.TextWithBuild = refl
 simple_by word takes.TextWithoutTemplate = refl
+simple_by word takes.TextOfWhole = refl
 simple_by word takes.Blocks = refl
 simple_by word (takes.Within least most) = refl
 simple_by word takes.Bytes = refl

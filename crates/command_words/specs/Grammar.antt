@@ -54,6 +54,7 @@ rule_by word takes.FlagWithBuild = record (flagged word) { is_free = false }
 rule_by word takes.Text = named word
 rule_by word takes.TextWithBuild = record (named word) { is_free = false }
 rule_by word takes.TextWithoutTemplate = record (named word) { is_free = false }
+rule_by word takes.TextOfWhole = record (named word) { is_free = false }
 rule_by word takes.Blocks = record (named word) { parser = Some (Signed (pos 0) (pos 4294967295)); required = true }
 rule_by word (takes.Within least most) = record (named word) { parser = Some (Signed least most) }
 rule_by word takes.Bytes = record (named word) { parser = Some (Unsigned 0 18446744073709551615) }

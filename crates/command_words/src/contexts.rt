@@ -55,7 +55,7 @@ static NAME_MEANINGS: [Meaning; 2] = [
     },
     Meaning {
         reason: b"BadLine",
-        words: b"a pair, a limit, the length or the label can't be read, or --exec has pairs: KEY is comm, exe, host, pid, tid, sig, uid, gid, mode, time or limit, the VALUE of all but comm, exe and host is a number, and --escape takes one that has spaces; --name goes without --exec, --build and --spool",
+        words: b"a pair, a limit, the length, the SHA-256 or the label can't be read, or --exec has pairs: KEY is comm, exe, host, pid, tid, sig, uid, gid, mode, time or limit, the VALUE of all but comm, exe and host is a number, and --escape takes one that has spaces; --name goes without --exec, --build and --spool",
     },
 ];
 

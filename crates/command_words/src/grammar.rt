@@ -111,6 +111,11 @@ fn argument<'a>(alloc: Global, word: &Word) -> Result<Arg<'a>, AllocError>
         Takes::Text => Ok(named(argument, word)),
         Takes::TextWithBuild => Ok(named(argument, word).requires_arg("build")?),
         Takes::TextWithoutTemplate => Ok(named(argument, word).conflicts_with("template")?),
+        Takes::TextOfWhole => Ok(
+            named(argument, word)
+                .conflicts_with("cut")?
+                .conflicts_with("spool")?,
+        ),
         Takes::Blocks => Ok(
             named(argument, word)
                 .value_parser(ValueParser::signed(0, 4_294_967_295))

@@ -7,7 +7,7 @@ pub(crate) struct Meaning {
 }
 
 // The reasons for which something is refused. Other reasons are fields of an image.
-static MEANINGS: [Meaning; 44] = [
+static MEANINGS: [Meaning; 45] = [
     Meaning {
         reason: b"SpaceFull",
         words: b"the image takes more blocks than are free (corekeep ask ARCHIVE free counts them): delete or retire cases (pinned ones once they are unpinned); if it takes more than the archive has, make that larger (corekeep resize)",
@@ -39,6 +39,10 @@ static MEANINGS: [Meaning; 44] = [
     Meaning {
         reason: b"Short",
         words: b"the image ended before its stated length: it was cut on its way, and nothing is stored; send it again",
+    },
+    Meaning {
+        reason: b"Differs",
+        words: b"the image has another SHA-256 than is stated: its bytes were changed on their way, and nothing is stored; send it again",
     },
     Meaning {
         reason: b"NulByte",

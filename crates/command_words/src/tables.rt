@@ -22,6 +22,8 @@ pub(crate) enum Takes {
     TextWithBuild,
     // The same, and not beside `--template`.
     TextWithoutTemplate,
+    // The same, and beside neither `--cut` nor `--spool`.
+    TextOfWhole,
     // A number below 2^32 after its name, which has to be there.
     Blocks,
     // A number after its name, from one to another.
@@ -71,8 +73,8 @@ pub(crate) static STORE: CommandWords = CommandWords {
     after_help: None,
     words: &[
         ARCHIVE, FILE, PAIRS, EXEC, CORE_NAME, PIN, LABEL, ESCAPE, KEEP, BYTES, BEFORE, FIT, FAIR,
-        CUT, NO_WAIT, TEMPLATE, USES_PID, LIMIT, LOG, QUIET, LENGTH, STALL, SPOOL, BUILD, ID,
-        DEBUG,
+        CUT, NO_WAIT, TEMPLATE, USES_PID, LIMIT, LOG, QUIET, LENGTH, SHA256, STALL, SPOOL, BUILD,
+        ID, DEBUG,
     ],
 };
 
@@ -392,6 +394,15 @@ const LENGTH: Word = Word {
     takes: Takes::Text,
     default: None,
     help: "Store FILE only if it has exactly N bytes (otherwise `no Short` or `no TooLong`)",
+};
+
+// The digest that FILE has.
+const SHA256: Word = Word {
+    id: "sha256",
+    shown: "HEX",
+    takes: Takes::TextOfWhole,
+    default: None,
+    help: "Store FILE only if its bytes have this SHA-256, 64 hexadecimal digits (otherwise `no Differs`); a part of FILE has another one, so it goes without --cut, and without --spool, which would store FILE later without it",
 };
 
 // For how long standard input may give nothing.

@@ -102,6 +102,8 @@ pub record Asks (config : Config) (begin : List ℕ) (length : Option ℕ) (temp
   -- the stream that the line begins, or why it begins none
   pub found : stream_found request.found ≡ line_stream (named_by template config.uses_pid) (said begin)
   pub options : request.options ≡ options_of config begin length template label
+  -- no digest is known of it
+  pub unstated : request.digest ≡ None
   pub limit : request.limit ≡ limit_of config
 
 -- The same at a time that a clock gave, and with a label only if the configuration has one.

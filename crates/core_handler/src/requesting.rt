@@ -48,6 +48,7 @@ pub(crate) fn request_of(
         policy: policy_of(config, now),
         begin,
         options,
+        digest: None,
     };
     Ok(StoreRequest::of(words, &naming, limit_of(config)))
 }
