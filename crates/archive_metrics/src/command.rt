@@ -2,11 +2,12 @@
 use crate::text::tell_metrics;
 use archive_files::{ArchivePath, Collected, Failure, Refusal, take_look};
 use case_info::facts_over;
+use outcome_counts::{Counts, counts_path, read_counts};
 use script_streams::{Output, Reply, write_whole};
 use std::fs::File;
 use std::rt::Files;
 
-/// Prints the metrics of an archive, from one look at it. It waits for nobody: an archive that can't be looked at now is refused as `Busy`.
+/// Prints the metrics of an archive, from one look at it, and the counts of its handler, if their file is there and in order. It waits for nobody: an archive that can't be looked at now is refused as `Busy`.
 ///
 /// # Errors
 ///
@@ -22,9 +23,15 @@ pub fn info_metrics<R: AllocGlobal + Files<File = File>, O: Output>(
     let facts = facts_over(alloc, looked.unlocked(Vec::new(alloc)))?;
     let mut text = Collected::new(alloc);
     let mut reply = Reply::new(&mut text);
-    tell_metrics(&mut reply, path.as_bytes(), &facts);
+    tell_metrics(&mut reply, path.as_bytes(), &facts, counts_beside(rt, path));
     match reply.finish() {
         Ok(()) => Ok(write_whole(output, text.text())?),
         Err(_) => Err(Failure::Refused(Refusal::OutOfMemory)),
     }
+}
+
+// The counts of the handler of an archive, if their file is there and in order.
+fn counts_beside<R: AllocGlobal + Files<File = File>>(rt: &R, archive: &str) -> Option<Counts> {
+    let path = counts_path(rt.alloc(), archive).ok()?;
+    read_counts(rt, rt.alloc(), path.as_str()).ok()?
 }

@@ -2,9 +2,10 @@
 ghost use Rattle.std.specs.Prelude.{◌≡◌};
 ghost use Rattle.std.specs.List.{flat_map};
 ghost use Rattle.script_streams.specs.Replies.{TellsText, telling};
-ghost use Rattle.archive_metrics.specs.Metrics.{label_byte, metric_text, metrics_text, newest_text, sample_text};
+ghost use Rattle.archive_metrics.specs.Metrics.{handled_sample, handled_samples, handled_text, label_byte, metric_text, metrics_text, newest_text, reason_label, sample_text};
 
 use archive_screens::ArchiveFacts;
+use outcome_counts::{ALL, Counter, Counts, Reason};
 use script_streams::{Output, Reply};
 
 // A metric: its name, its type, and what it is.
@@ -69,10 +70,22 @@ const NEWEST: Metric = Metric {
     help: b"The time of the newest core.",
 };
 
+// The help and the type of the counts of the handler.
+const HANDLED_HEAD: &[u8] =
+    b"# HELP corekeep_handled_total Cores that the handler stored, cut, kept in the spool or lost, and cases that it dropped for them.
+# TYPE corekeep_handled_total counter
+";
+
 /// Tells the facts of the archive in a file of this path, as the text of Prometheus and of OpenMetrics: for each metric its help, its type,
-/// and one sample with the path as the label `archive`; and then `# EOF`. The time of the newest core is left out if no core has one.
-pub fn tell_metrics<O: Output>(reply: &mut Reply<'_, O>, path: &[u8], facts: &ArchiveFacts)
-    ensures { TellsText (telling O.Output reply.old reply.new) (metrics_text path.now facts.now) }
+/// and one sample with the path as the label `archive`; then a sample for each counter of its handler, if there are counts; and then `# EOF`.
+/// The time of the newest core is left out if no core has one.
+pub fn tell_metrics<O: Output>(
+    reply: &mut Reply<'_, O>,
+    path: &[u8],
+    facts: &ArchiveFacts,
+    counts: Option<Counts>,
+)
+    ensures { TellsText (telling O.Output reply.old reply.new) (metrics_text path.now facts.now counts) }
 {
     tell_metric(reply, CORES, path, facts.cores);
     tell_metric(reply, EXECUTABLES, path, facts.executables);
@@ -83,7 +96,58 @@ pub fn tell_metrics<O: Output>(reply: &mut Reply<'_, O>, path: &[u8], facts: &Ar
     tell_metric(reply, USED_BYTES, path, facts.used);
     tell_metric(reply, STORED, path, facts.last_number);
     tell_newest(reply, path, facts.newest);
+    tell_handled(reply, path, counts);
     reply.tell(b"# EOF\n");
+}
+
+// Tells what the handler has counted.
+fn tell_handled<O: Output>(reply: &mut Reply<'_, O>, path: &[u8], counts: Option<Counts>)
+    ensures { TellsText (telling O.Output reply.old reply.new) (handled_text path.now counts) }
+{
+    let Some(counts) = counts else {
+        return;
+    };
+    reply.tell(HANDLED_HEAD);
+    tell_samples(reply, path, &ALL, &counts);
+}
+
+// Tells the samples of these counters.
+fn tell_samples<O: Output>(
+    reply: &mut Reply<'_, O>,
+    path: &[u8],
+    counters: &[Counter],
+    counts: &Counts,
+)
+    ensures { TellsText (telling O.Output reply.old reply.new) (handled_samples path.now counters.now counts.now.counts) }
+{
+    for counter in counters {
+        tell_counter(reply, path, *counter, counts.of(*counter));
+    }
+}
+
+fn tell_counter<O: Output>(reply: &mut Reply<'_, O>, path: &[u8], counter: Counter, count: u64)
+    ensures { TellsText (telling O.Output reply.old reply.new) (handled_sample path.now counter count) }
+{
+    reply.tell(b"corekeep_handled_total{archive=\"");
+    tell_label(reply, path);
+    reply.tell(b"\",outcome=\"");
+    reply.tell(counter.outcome());
+    reply.tell(b"\"");
+    tell_reason(reply, counter.reason());
+    reply.tell(b"} ");
+    reply.tell_decimal(u128::from(count));
+    reply.tell(b"\n");
+}
+
+fn tell_reason<O: Output>(reply: &mut Reply<'_, O>, reason: Option<Reason>)
+    ensures { TellsText (telling O.Output reply.old reply.new) (reason_label reason) }
+{
+    let Some(reason) = reason else {
+        return;
+    };
+    reply.tell(b",reason=\"");
+    reply.tell(reason.word());
+    reply.tell(b"\"");
 }
 
 fn tell_newest<O: Output>(reply: &mut Reply<'_, O>, path: &[u8], newest: u64)

@@ -334,6 +334,7 @@ fn teller_of<'a>(alloc: Global, archive: ArchivePath<'a>, log: Option<&'a str>) 
         },
         mode: None,
         spooling: None,
+        counts: false,
     }
 }
 

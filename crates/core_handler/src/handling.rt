@@ -5,6 +5,7 @@ ghost use Rattle.archive_files.specs.Telling.{IsToldAs};
 ghost use Rattle.archive_files.specs.declared.failures.Refusal.TheVariants.{OutOfMemory};
 ghost use Rattle.script_streams.specs.Replies.{no_reply};
 ghost use Rattle.name_template.specs.Template.{template_fault};
+ghost use Rattle.core_handler.specs.Counting.{counts_by};
 ghost use Rattle.core_handler.specs.Requesting.{AsksBy, IsRequested, IsTime, IsWanted, template_of};
 ghost use Rattle.core_handler.specs.Telling as spec;
 
@@ -151,8 +152,19 @@ fn handler_of<'a>(
         log: log_of(&config, archive),
         mode,
         spooling: None,
+        counts: counts_by(&config),
     };
     Handler { config, teller }
+}
+
+// Whether outcomes are counted: the configuration names a log.
+fn counts_by(config: &Config<'_>) -> bool
+    ensures { result ≡ counts_by (option_copied config.now.log) }
+{
+    match config.log {
+        Some(path) => !path.is_empty(),
+        None => false,
+    }
 }
 
 // Stores the core in the archive of this path, or those that wait for it in the spool.

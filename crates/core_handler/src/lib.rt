@@ -4,6 +4,7 @@
 mod berth;
 mod checking;
 mod config_file;
+mod counting;
 mod examine;
 mod file_limit;
 mod flush;

@@ -105,8 +105,8 @@ impl<'a> Log<'a> {
     }
 }
 
-// Opens a log, or makes it. Nothing is opened that was not looked at, but for the kernel's log.
-fn open_to_add<R: Files<File = File>>(rt: &R, path: &str) -> Result<File, LogFault> {
+// Opens a file to add to it, as a log, or makes it. Nothing is opened that was not looked at, but for the kernel's log.
+pub(crate) fn open_to_add<R: Files<File = File>>(rt: &R, path: &str) -> Result<File, LogFault> {
     let mut options = File::options();
     options.append(true).mode(OWNER_ALONE);
     if path == KERNEL_LOG {

@@ -27,7 +27,7 @@ pub(crate) struct Replied<'a> {
 }
 
 // What follows a word and a space at the start of a line.
-fn after<'a>(line: &'a [u8], word: &[u8]) -> Option<&'a [u8]> {
+pub(crate) fn after<'a>(line: &'a [u8], word: &[u8]) -> Option<&'a [u8]> {
     line.strip_prefix(word)
 }
 

@@ -15,6 +15,7 @@ use archive_files::{ArchivePath, Collected, Failure, StoreRequest};
 use diagnostics::Onlooker;
 use disk_model::FileFault;
 use handler_config::Config;
+use outcome_counts::{Counter, Reason};
 use script_streams::{Output, Reply};
 use spool::{
     CoreFiles, Fate, NotSpooled, Outcome, Room, SpoolName, Stage, Unspooled, discard, entries_in,
@@ -304,6 +305,8 @@ fn store_rest<R: AllocGlobal + Files<File = File> + Clock, I: Read, O: Output, W
     let Ok(front) = rewound(back) else {
         let why = b"lost: what was spooled of it could not be read";
         handler.tell(rt, Level::Error, why);
+        let counter = Counter::Lost(Reason::File);
+        handler.teller.count(rt, place.path, counter, b"");
         return Err(Failure::Told);
     };
     let mut rest = Rest {

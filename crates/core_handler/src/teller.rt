@@ -2,6 +2,7 @@
 ghost use Rattle.spool.specs.Spools.{spools};
 ghost use Rattle.core_handler.specs.Telling.{IsPlaced};
 
+use crate::counting::{count, dropped_count, reason_in, stored_counter, unstored_counter};
 use crate::examine::{Seen, look_at_case};
 use crate::file_limit::write_trouble;
 use crate::lock_watch::LockWatch;
@@ -16,6 +17,7 @@ use archive_files::{
 };
 use diagnostics::{Onlooker, Trouble};
 use disk_model::FileDisk;
+use outcome_counts::Counter;
 use script_streams::{Output, Reply, write_whole};
 use script_words::parse_case_number;
 use spool::{Fate, Outcome, fate_of};
@@ -40,6 +42,8 @@ pub struct Teller<'a> {
     pub mode: Option<u64>,
     /// Where a core stays that can't be stored now, if it is in the spool.
     pub spooling: Option<Spooling<'a>>,
+    /// Outcomes are counted in a file beside the archive.
+    pub counts: bool,
 }
 
 /// The spool that a core is stored from.
@@ -236,6 +240,32 @@ impl<'a> Teller<'a> {
         };
         let line = lost_line(self.alloc, replies, name, place, reason, words, self.mode);
         self.tell(rt, level, line.text());
+        let counter = unstored_counter(place, reason_in(reason));
+        self.count(rt, archive, counter, replies);
+    }
+
+    // Counts an outcome, and the cases that were dropped for it. If that fails, the log says so, and nothing else changes.
+    pub(crate) fn count<R: Files<File = File>>(
+        &self,
+        rt: &R,
+        archive: &str,
+        counter: Counter,
+        replies: &[u8],
+    ) {
+        if !self.counts || archive.is_empty() {
+            return;
+        }
+        let Err(why) = count(rt, self.alloc, archive, counter, dropped_count(replies)) else {
+            return;
+        };
+        let mut line = Collected::new(self.alloc);
+        let mut reply = Reply::new(&mut line);
+        reply.tell(b"not counted: ");
+        reply.tell_text(archive.as_bytes());
+        reply.tell(b".counts ");
+        reply.tell(why.words());
+        let _ = reply.finish();
+        self.tell(rt, Level::Warning, line.text());
     }
 
     // Logs that a case is lost since a write of the archive would get this error, and returns its refusal: as if the write had been made.
@@ -298,6 +328,7 @@ impl<'a> Teller<'a> {
         };
         let trouble = disk.trouble();
         let (seen, _) = look_at_case(self.alloc, disk, seq);
+        let mut is_cut = replies_outcome(replies).cut.is_some();
         let details = details_of(self.alloc, &seen);
         let line = stored_line(
             self.alloc,
@@ -310,9 +341,12 @@ impl<'a> Teller<'a> {
         self.tell(rt, Level::Info, line.text());
         self.tell_lacks(rt, replies, has_label, number, trouble, note);
         if let Some(seen) = &seen {
-            self.tell_trouble(rt, number, seen.cut(self.alloc).text(), note);
+            let cut = seen.cut(self.alloc);
+            is_cut = is_cut || !cut.text().is_empty();
+            self.tell_trouble(rt, number, cut.text(), note);
             self.tell_trouble(rt, number, seen.trouble(), note);
         }
+        self.count(rt, archive, stored_counter(is_cut), replies);
     }
 
     // Logs the outcome of a case, by the replies of its store, and returns it. The disk is let go.

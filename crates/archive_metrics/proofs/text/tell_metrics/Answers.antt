@@ -14,4 +14,5 @@ returns g c =
     (tells_then c.tell_metric-6.ensures
     (tells_then c.tell_metric-7.ensures
     (tells_then c.tell_metric-8.ensures
-    (tells_then c.tell_newest.ensures c.tell.ensures))))))))
+    (tells_then c.tell_newest.ensures
+    (tells_then c.tell_handled.ensures c.tell.ensures)))))))))
