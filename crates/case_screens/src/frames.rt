@@ -156,7 +156,7 @@ fn tell_where<O: Output>(
     }
 }
 
-// How many spaces stand behind the place of a frame in a file, in a column of 24.
+// How many spaces stand after the place of a frame in a file, in a column of 24.
 fn room_of(frame: &FrameAnswer<'_>, file: &FileMap<'_>) -> usize
     ensures { result ≡ 24 - length (spec.place_text frame.now (Some (file_view file.now))) }
 {

@@ -80,7 +80,7 @@ fn tell_rest<O: Output>(reply: &mut Reply<'_, O>, label: &[u8], count: usize)
     reply.tell(b"\n");
 }
 
-// How many spaces stand in a column of that width behind a name, and so many bytes more.
+// How many spaces stand in a column of that width after a name, and so many bytes more.
 pub(crate) fn room_after(width: usize, name: &[u8], more: usize) -> usize
     requires { width ≤ 128 }
     ensures { result ≡ width - (length (name_text name.now) + more) }

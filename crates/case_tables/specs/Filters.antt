@@ -26,7 +26,7 @@ seconds_in unit =
     else if unit == 104 then Some 3600
     else if unit == 100 then Some 86400 else None
 
--- A time in seconds: as it stands behind `@`; or so many units before now, at the earliest the epoch. What a calendar says is left open.
+-- A time in seconds: what follows `@`, as it stands; or so many units before now, at the earliest the epoch. What a calendar says is left open.
 pub record SaysTime (now : Option ℕ) (text : List ℕ) (r : Option ℕ) : Type 0 where
   pub at : (seconds : List ℕ) → text ≡ codes "@" ++ seconds → r ≡ number_of seconds
   pub ago : (count : List ℕ) (unit n k : ℕ) → text ≡ count ++ unit ∷ [] → seconds_in unit ≡ Some k → number_of count ≡ Some n → n * k < 2 ^ 64

@@ -22,7 +22,7 @@ use std::rt::Files;
 use std::time::Clock;
 use whole_files::is_named;
 
-// What stands behind the names of cores that were cut on their way, and of those whose name a case has.
+// What stands after the names of cores that were cut on their way, and of those whose name a case has.
 const ENDS: usize = 9;
 
 static WHOLE_ENDS: [&'static str; 9] = ["", "~2", "~3", "~4", "~5", "~6", "~7", "~8", "~9"];
@@ -256,7 +256,7 @@ fn try_names<R: AllocGlobal + Files<File = File> + Clock, O: Output, W: Onlooker
     None
 }
 
-// What stands behind the name of a core at the try of this number, from 0 on.
+// What stands after the name of a core at the try of this number, from 0 on.
 fn end_at(stage: Stage, index: usize) -> &'static str {
     let end = match stage {
         Stage::Part => CUT_ENDS.get(index),

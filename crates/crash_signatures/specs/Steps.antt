@@ -13,7 +13,7 @@ ends_process w = is_death w.text
 abbrev pub past_death : List WordSaid → ℕ
 past_death ws = length (take 16 ws) - suffix_len (λ w. not (ends_process w)) (take 16 ws)
 
--- the words behind the way to die; all of them, if none is behind it
+-- the words after the way to die; all of them, if none is after it
 abbrev pub without_death : List WordSaid → List WordSaid
 without_death ws = if past_death ws == length ws then ws else drop (past_death ws) ws
 

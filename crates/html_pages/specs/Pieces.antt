@@ -33,7 +33,7 @@ value_bytes (Box width height) = box_bytes width height
 value_bytes (Tenths n) = tenths_bytes n
 value_bytes (Triangle right down) = triangle_bytes right down
 
--- an attribute behind the name of its tag, or behind another
+-- an attribute after the name of its tag, or after another
 abbrev pub attribute_text : Attribute → List ℕ
 attribute_text a = codes " " ++ (attribute_name a.name ++ (codes "=\"" ++ (escape (value_bytes a.value) ++ codes "\"")))
 

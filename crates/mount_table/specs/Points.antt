@@ -13,7 +13,7 @@ escape_of (high ∷ middle ∷ []) = None
 escape_of (high ∷ middle ∷ low ∷ rest) =
     if is_octal 51 high && is_octal 55 middle && is_octal 55 low then Some (64 * (high - 48) + 8 * (middle - 48) + (low - 48)) else None
 
--- a byte and the text behind it: that of an escape if there is one, else the byte as it stands
+-- a byte and the text after it: that of an escape if there is one, else the byte as it stands
 abbrev pub byte_then : ℕ → Option ℕ → List ℕ → List ℕ → List ℕ
 byte_then c None next behind = c ∷ next
 byte_then c (Some byte) next behind = byte ∷ behind

@@ -78,7 +78,7 @@ pub record MayBegin (bytes : List ℕ) : Type 0 where
   pub some : 16 ≤ number_of bytes 4
   pub whole : number_of bytes 4 % 16 ≡ 0
 
--- behind a first half of so many blocks, a header stands, and a record may begin after it
+-- after a first half of so many blocks, a header stands, and a record may begin after it
 abbrev pub HasSecond : List ℕ → ℕ → Type 0
 HasSecond b blocks = IsHeader (padded b (4096 * (1 + blocks)) 40) × MayBegin (drop 32 (padded b (4096 * (1 + blocks)) 40))
 
