@@ -6,4 +6,3 @@ pub mod Earliest
 pub mod Order
 pub mod Walking
 pub mod Numbers
-pub mod CompressedSections

@@ -48,3 +48,20 @@ named_among b name (Err fault) = None
 
 abbrev pub named_section_of : List ℕ → List ℕ → Option SectionView
 named_section_of b name = named_among b name (section_count_of b)
+
+-- The section has that name, its bytes are in the file, and they are compressed (its flags have SHF_COMPRESSED; System V gABI, "Compressed Sections").
+unfoldable pub is_compressed : List ℕ → List ℕ → SectionView → Bool
+is_compressed names name s = not (s.kind == 8) && not (bit_and s.flags 2048 == 0) && stands_at names s.name name
+
+-- the first of the sections that is so
+abbrev pub first_compressed : List ℕ → List ℕ → ℕ → List ℕ → Option SectionView
+first_compressed b name count names =
+    option_map (nth_section b) (find (λ i. is_compressed names name (nth_section b i)) (range_with_len 0 count))
+
+-- It is looked for as one of bytes that are not compressed.
+abbrev pub compressed_among : List ℕ → List ℕ → Result ℕ SectionFault → Option SectionView
+compressed_among b name (Ok count) = option_and_then (first_compressed b name count) (names_among b count)
+compressed_among b name (Err fault) = None
+
+abbrev pub compressed_section_of : List ℕ → List ℕ → Option SectionView
+compressed_section_of b name = compressed_among b name (section_count_of b)

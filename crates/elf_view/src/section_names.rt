@@ -110,3 +110,45 @@ pub(crate) fn named_section<'a>(image: &'a [u8], name: &[u8]) -> Option<Section<
     let names = section_names(image, count)?;
     first_named(image, count, names, name)
 }
+
+/// Whether a section has a name, and bytes that are compressed.
+#[tactic(auto, unfolding(crate::specs::SectionNames::is_compressed))]
+fn is_compressed(names: &[u8], name: &[u8], section: &Section<'_>) -> bool
+    ensures { result ≡ spec.is_compressed names.now name.now (section_view section.now) }
+{
+    section.kind != SHT_NOBITS
+        && section.flags & SHF_COMPRESSED != 0
+        && stands_at(names, section.name, name)
+}
+
+/// The first of `count` sections that has a name, and bytes that are compressed.
+fn first_compressed<'a>(
+    image: &'a [u8],
+    count: u64,
+    names: &[u8],
+    name: &[u8],
+) -> Option<Section<'a>>
+    requires header { 64 ≤ length image.now }
+    requires count { section_count_of image.now ≡ Ok count }
+    ensures { option_map section_view result ≡ spec.first_compressed image.now name.now count names.now }
+{
+    for i in 0..count {
+        let section = nth_section(image, count, i);
+        if is_compressed(names, name, &section) {
+            return Some(section);
+        }
+    }
+    None
+}
+
+/// The first section of an image that has a name, and bytes that are compressed.
+pub(crate) fn compressed_section<'a>(image: &'a [u8], name: &[u8]) -> Option<Section<'a>>
+    requires { 64 ≤ length image.now }
+    ensures { option_map section_view result ≡ spec.compressed_section_of image.now name.now }
+{
+    let Ok(count) = section_count(image) else {
+        return None;
+    };
+    let names = section_names(image, count)?;
+    first_compressed(image, count, names, name)
+}

@@ -10,7 +10,7 @@ use crate::loads::Loads;
 use crate::note_lists::Notes;
 use crate::numbers::{u16_at, u32_at, u64_at};
 use crate::program_headers::{Segment, Segments};
-use crate::section_names::named_section;
+use crate::section_names::{compressed_section, named_section};
 use crate::sections::{Section, section_at, section_count};
 
 /// The fields of the file header that are shown.
@@ -43,7 +43,7 @@ impl<'a> Elf<'a> {
     ghost use Rattle.elf_view.specs.SegmentWords.{segment_view, segments_left};
     ghost use Rattle.elf_view.specs.NoteWords.{notes_left};
     ghost use Rattle.elf_view.specs.SectionTable.{section_count_of, section_of};
-    ghost use Rattle.elf_view.specs.SectionNames.{named_section_of};
+    ghost use Rattle.elf_view.specs.SectionNames.{compressed_section_of, named_section_of};
     ghost use Rattle.elf_view.specs.SectionWords.{section_result, section_view};
     ghost use Rattle.elf_view.specs.ViewWords.{image_of, want_of, header_of, notes_of};
 
@@ -134,5 +134,13 @@ impl<'a> Elf<'a> {
         ensures { option_map section_view result ≡ named_section_of (image_of self.now) name.now }
     {
         named_section(self.image, name)
+    }
+
+    /// The first section with a name whose bytes are in the file and compressed (SHF_COMPRESSED). It is looked for as
+    /// `named_section` looks for others.
+    pub fn compressed_section(&self, name: &[u8]) -> Option<Section<'a>>
+        ensures { option_map section_view result ≡ compressed_section_of (image_of self.now) name.now }
+    {
+        compressed_section(self.image, name)
     }
 }
