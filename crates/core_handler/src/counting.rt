@@ -8,11 +8,17 @@ use crate::log::open_to_add;
 use crate::outcome_lines::{Place, after};
 use outcome_counts::{Counter, Counts, CountsFault, Reason, counts_path, read_counts};
 use std::alloc::{AllocError, Global};
-use std::fs::File;
+use std::fs::{File, TryLockError};
 use std::io::Write;
 use std::rt::Files;
-use std::str;
+use std::time::{Clock, Duration};
+use std::{str, thread};
 use whole_files::{NewFile, PartFile, clear_part, give_name, make, remove, take_place};
+
+// How often the lock of the counts is tried, and how many milliseconds lie between two tries: five seconds in all.
+const TRIES: u32 = 500;
+
+const TRY_MILLIS: u64 = 10;
 
 // Why an outcome is not counted.
 #[derive(Clone, Copy, Debug, PartialEq, Eq)]
@@ -23,6 +29,8 @@ pub(crate) enum Uncounted {
     Other,
     // It, or the file that is locked before it, can't be made or written.
     Unwritten,
+    // Another process kept it locked.
+    Busy,
     // There was no memory.
     OutOfMemory,
 }
@@ -49,6 +57,7 @@ impl Uncounted {
             Uncounted::Unread => b"can't be read",
             Uncounted::Other => b"is no file of counts, and stays as it is",
             Uncounted::Unwritten => b"can't be written",
+            Uncounted::Busy => b"was locked by another process for five seconds",
             Uncounted::OutOfMemory => b"there is no memory",
         }
     }
@@ -111,7 +120,7 @@ pub(crate) fn counts_after(counts: Option<Counts>, counter: Counter, dropped: u6
 
 // Counts an outcome in the file beside an archive, and the cases that were dropped for it. The file is read and written anew under the lock of
 // another file, which stays: so no count of another process is lost.
-pub(crate) fn count<R: Files<File = File>>(
+pub(crate) fn count<R: Files<File = File> + Clock>(
     rt: &R,
     alloc: Global,
     archive: &str,
@@ -120,9 +129,7 @@ pub(crate) fn count<R: Files<File = File>>(
 ) -> Result<(), Uncounted> {
     let path = counts_path(alloc, archive)?;
     let lock = open_lock(rt, alloc, path.as_str())?;
-    if lock.lock().is_err() {
-        return Err(Uncounted::Unwritten);
-    }
+    take_lock(rt, &lock)?;
     let old = read_counts(rt, alloc, path.as_str())?;
     let text = counts_after(old, counter, dropped).text(alloc)?;
     let mut part = PartFile::new(alloc, rt, path.as_str())?;
@@ -138,6 +145,20 @@ fn open_lock<R: Files<File = File>>(rt: &R, alloc: Global, path: &str) -> Result
     let mut lock = String::from_str(alloc, path)?;
     lock.push_str(".lock")?;
     open_to_add(rt, lock.as_str()).map_err(|_| Uncounted::Unwritten)
+}
+
+// Locks that file. A process that keeps it locked must not keep the handler from ending, so the tries end.
+fn take_lock<R: Clock>(rt: &R, lock: &File) -> Result<(), Uncounted> {
+    for _ in 0..TRIES {
+        match lock.try_lock() {
+            Ok(()) => return Ok(()),
+            Err(TryLockError::WouldBlock) => {
+                thread::sleep(rt, Duration::from_millis(TRY_MILLIS));
+            }
+            Err(TryLockError::Error(_)) => return Err(Uncounted::Unwritten),
+        }
+    }
+    Err(Uncounted::Busy)
 }
 
 // Makes the file of the counts, which was not there.

@@ -224,7 +224,7 @@ impl<'a> Teller<'a> {
     }
 
     // Logs that a case is lost, or kept in the spool, with this reason and this meaning.
-    pub(crate) fn tell_lost<R: Files<File = File>>(
+    pub(crate) fn tell_lost<R: Files<File = File> + Clock>(
         &self,
         rt: &R,
         archive: &str,
@@ -245,7 +245,7 @@ impl<'a> Teller<'a> {
     }
 
     // Counts an outcome, and the cases that were dropped for it. If that fails, the log says so, and nothing else changes.
-    pub(crate) fn count<R: Files<File = File>>(
+    pub(crate) fn count<R: Files<File = File> + Clock>(
         &self,
         rt: &R,
         archive: &str,
@@ -269,7 +269,7 @@ impl<'a> Teller<'a> {
     }
 
     // Logs that a case is lost since a write of the archive would get this error, and returns its refusal: as if the write had been made.
-    fn refuse_unwritten<R: Files<File = File>>(
+    fn refuse_unwritten<R: Files<File = File> + Clock>(
         &self,
         rt: &R,
         archive: &str,
@@ -282,7 +282,7 @@ impl<'a> Teller<'a> {
     }
 
     // Logs why a case is not stored: as its replies say, or why it has none.
-    fn tell_refused<R: Files<File = File>>(
+    fn tell_refused<R: Files<File = File> + Clock>(
         &self,
         rt: &R,
         archive: &str,
@@ -313,7 +313,7 @@ impl<'a> Teller<'a> {
     }
 
     // Logs a case that is stored. The disk is let go.
-    fn tell_stored<R: Files<File = File>>(
+    fn tell_stored<R: Files<File = File> + Clock>(
         &self,
         rt: &R,
         archive: &str,
@@ -350,7 +350,7 @@ impl<'a> Teller<'a> {
     }
 
     // Logs the outcome of a case, by the replies of its store, and returns it. The disk is let go.
-    fn tell_outcome<R: Files<File = File>>(
+    fn tell_outcome<R: Files<File = File> + Clock>(
         &self,
         rt: &R,
         archive: &str,
