@@ -1,7 +1,6 @@
 -- The work of the program over the archive on a disk, by the values of its words.
 use Rattle.std.specs.Prelude.{◌≡◌, ◌⊎◌, ◌&&◌, ◌||◌, nat_lt, nat_eq, not, is_none, if◌then◌else◌, ℕ, Bool, false, List, [], Option, None, Some, Result, Ok, Err, codes}
 use Rattle.std.specs.Io.KnownBytes.{Keeps, append_known}
-use Rattle.checked_streams.specs.Retelling.{retold}
 use Rattle.disk_model.specs.declared.disk.Disk as disk
 use Rattle.inspector_cli.specs.Asking.{AsksAlone, as_session, line_streams}
 use Rattle.inspector_cli.specs.Life.{LifeEnds, RunsOver, StoresOver}
@@ -9,19 +8,16 @@ use Rattle.inspector_cli.specs.Session.{Streams}
 use Rattle.inspector_cli.specs.Storing.{Options, options_asked}
 use Rattle.inspector_cli.specs.declared.session.LifeFault.{LifeFault}
 use Rattle.inspector_cli.specs.declared.session.StoreOutcome.{StoreOutcome}
-use Rattle.inspector_cli.specs.declared.session.SessionFault.TheVariants.{WriteFailed}
 use Rattle.intake.specs.Calls.{OpenCall}
 use Rattle.intake.specs.Parts.{Parts}
 use Rattle.intake.specs.State.{StreamFacts}
 use Rattle.script_lines.specs.Said.{Said, said}
 use Rattle.script_streams.specs.Lines.{IsLine}
-use Rattle.script_streams.specs.Telling.{IsDelivered}
-use Rattle.script_streams.specs.declared.streams.StreamFault.{StreamFault}
 use Rattle.script_words.specs.Printing.{shown}
 use Rattle.stream_names.specs.Commands.{stream_found}
 use Rattle.stream_names.specs.declared.naming.Naming.{Naming}
 use Rattle.archive_files.specs.declared.failures.Failure.{Failure}
-use Rattle.archive_files.specs.declared.failures.Failure.TheVariants.{Refused, Faulted}
+use Rattle.archive_files.specs.declared.failures.Failure.TheVariants.{Refused}
 use Rattle.archive_files.specs.declared.failures.Refusal.{Refusal}
 use Rattle.archive_files.specs.declared.failures.Refusal.TheVariants.{OutOfMemory, Open}
 use Rattle.archive_files.specs.declared.storing.StoreRequest.{StoreRequest}
@@ -142,36 +138,15 @@ abbrev pub sparing_for : Option ℕ → Option ℕ → StoreRequest → StoreReq
 sparing_for (Some size) most request = if is_refused size most request then sparing request else request
 sparing_for None most request = request
 
--- Replies that were kept are written when the stream has ended, or the write failed.
-abbrev pub sent_after : Result (Unit {0}) Failure → Result (Unit {0}) StreamFault → Result (Unit {0}) Failure
-sent_after ended (Ok u) = ended
-sent_after ended (Err fault) = Err (Faulted WriteFailed)
-
--- A stream whose digest is stated is stored from an input that has these bytes, if they are known, and fails once they have ended with another
--- digest. Its replies are kept meanwhile. Then they are written: a last `no File` may have another reason.
-pub record StoresChecked {D : Type 0} (g : disk.Ghosts D) (request : StoreRequest) (file taken taken' : Option (List ℕ)) (lost lost' : ℕ) (before : D) (r : Result (Unit {0}) Failure) (after : D) : Type 0 where
-  pub t : Streams
-  pub input : t.input ≡ file
-  pub begun : t.taken ≡ Some []
-  pub replies : List ℕ
-  pub kept : t.taken' ≡ Some replies
-  pub ended : Result (Unit {0}) Failure
-  pub stores : StoresOnDisk g request t before ended after
-  pub reason : Option (List ℕ)
-  pub sent : Result (Unit {0}) StreamFault
-  pub told : IsDelivered taken lost taken' lost' (retold reason replies) sent
-  pub ends : r ≡ sent_after ended sent
-
--- A file is stored with the digest that is stated, or without one.
-abbrev pub StoresBy : {D : Type 0} → disk.Ghosts D → Option (List ℕ) → StoreRequest → Option (List ℕ) → Option (List ℕ) → Option (List ℕ) → ℕ → ℕ → D → Result (Unit {0}) Failure → D → Type 0
-StoresBy g None request file taken taken' lost lost' before r after = (t : Streams) × AreStreams file taken taken' lost lost' t × StoresOnDisk g request t before r after
-StoresBy g (Some digest) request file taken taken' lost lost' before r after = (seen : Option (List ℕ)) × Keeps file seen × StoresChecked g request seen taken taken' lost lost' before r after
+-- A file that has these bytes, if they are known, is stored.
+abbrev pub StoresBy : {D : Type 0} → disk.Ghosts D → StoreRequest → Option (List ℕ) → Option (List ℕ) → Option (List ℕ) → ℕ → ℕ → D → Result (Unit {0}) Failure → D → Type 0
+StoresBy g request file taken taken' lost lost' before r after = (t : Streams) × AreStreams file taken taken' lost lost' t × StoresOnDisk g request t before r after
 
 -- The same of a file that is read ahead.
 abbrev pub StoresFile : {D : Type 0} → disk.Ghosts D → StoreRequest → Option (List ℕ) → Option (List ℕ) → Option (List ℕ) → ℕ → ℕ → D → Result (Unit {0}) Failure → D → Type 0
 StoresFile g request file taken taken' lost lost' before r after =
     IsNotBegun taken taken' lost lost' before r after
-    ⊎ ((fitted : StoreRequest) × IsFitted request fitted × StoresBy g fitted.digest fitted file taken taken' lost lost' before r after)
+    ⊎ ((fitted : StoreRequest) × IsFitted request fitted × StoresBy g fitted file taken taken' lost lost' before r after)
 
 -- The archive on a disk is opened, and no more; or why it is not.
 abbrev pub LooksOnDisk : {D : Type 0} → disk.Ghosts D → ℕ → D → Result (Unit {0}) Refusal → D → Type 0

@@ -52,8 +52,6 @@ pub struct BuildRequest {
     pub policy: Option<Policy>,
     /// The other options. The length is the one that is stated.
     pub options: StoreOptions,
-    /// The SHA-256 that it has, if it is stated.
-    pub digest: Option<[u8; 32]>,
     /// How cores are named.
     pub naming: Naming,
     /// The most bytes of an image.
@@ -71,7 +69,7 @@ impl BuildRequest {
         ensures named { IfOk result (λ request. (name : List ℕ)
             × (spec.name_by_build self.limit self.options.length (option_map (λ id. id.items) self.id) self.is_debug image.now ≡ Ok name)
             × (stream_found request.found ≡ line_stream self.naming (said (codes "begin exec 0 " ++ name))) × (request.policy ≡ self.policy) × (request.limit ≡ self.limit)
-            × (request.options ≡ record self.options { length = Some (length image.now) }) × (request.digest ≡ self.digest)) }
+            × (request.options ≡ record self.options { length = Some (length image.now) })) }
         ensures refused { IfErr result (λ why. (why ≡ OutOfMemory) ⊎ ((fault : BuildFault) × (why ≡ Build fault)
             × (spec.name_by_build self.limit self.options.length (option_map (λ id. id.items) self.id) self.is_debug image.now ≡ Err fault))) }
     {
@@ -93,7 +91,6 @@ impl BuildRequest {
                 length: Some(image.len() as u64),
                 ..self.options
             },
-            digest: self.digest,
         };
         Ok(StoreRequest::of(words, &self.naming, self.limit))
     }

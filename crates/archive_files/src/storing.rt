@@ -7,15 +7,14 @@ ghost use Rattle.stream_names.specs.Commands.{stream_begun, stream_found};
 ghost use Rattle.inspector_cli.specs.Session.{streams_of};
 ghost use Rattle.inspector_cli.specs.Storing.{line_stream, options_asked};
 ghost use Rattle.script_streams.specs.Replies.{TellsText, telling};
-ghost use Rattle.archive_files.specs.OverDisks.{StoresOnDisk, StoresChecked, StoresFile, IsFitted, IsFittedBy, is_refused, is_too_long, name_found, named_as, reason_found, sparing, sparing_for, under_name, within_limit};
+ghost use Rattle.archive_files.specs.OverDisks.{StoresOnDisk, StoresFile, IsFitted, IsFittedBy, is_refused, is_too_long, name_found, named_as, reason_found, sparing, sparing_for, under_name, within_limit};
 ghost use Rattle.archive_files.specs.Telling.{IsKeptAs};
 
 use crate::collected::Collected;
 use crate::failures::{Failure, Refusal};
 use crate::outcomes::store_told;
-use checked_streams::{CheckedInput, write_retold};
 use disk_model::Disk;
-use inspector_cli::{Naming, NewStream, SessionFault, StoreOptions, line_stream, open_and_store};
+use inspector_cli::{Naming, NewStream, StoreOptions, line_stream, open_and_store};
 use intake::Settings;
 use retention::Policy;
 use script_streams::{Input, Output, ReadInput, Reply};
@@ -34,8 +33,6 @@ pub struct StoreWords {
     pub begin: Vec<u8>,
     /// The other options.
     pub options: StoreOptions,
-    /// The SHA-256 that the stream has, if it is stated.
-    pub digest: Option<[u8; 32]>,
 }
 
 /// A stream to store, with its options. Whoever holds it may leave the policy out, and change nothing else.
@@ -47,8 +44,6 @@ pub struct StoreRequest {
     found: Result<NewStream, &'static [u8]>,
     // The other options.
     options: StoreOptions,
-    // The SHA-256 that the stream has, if it is stated.
-    digest: Option<[u8; 32]>,
     // The most bytes of an image.
     limit: u64,
 }
@@ -59,20 +54,17 @@ impl StoreRequest {
         ensures policy { result.policy ≡ words.policy }
         ensures found { stream_found result.found ≡ line_stream naming.now (said words.begin.items) }
         ensures options { result.options ≡ words.options }
-        ensures digest { result.digest ≡ words.digest }
         ensures limit { result.limit ≡ limit }
     {
         let StoreWords {
             policy,
             begin,
             options,
-            digest,
         } = words;
         StoreRequest {
             policy,
             found: line_stream(&begin, naming),
             options,
-            digest,
             limit,
         }
     }
@@ -82,7 +74,6 @@ impl StoreRequest {
         ensures policy { result.policy ≡ self.policy }
         ensures found { stream_found result.found ≡ named_as (stream_found self.found) (line_stream naming.now (said line.now)) }
         ensures options { result.options ≡ self.options }
-        ensures digest { result.digest ≡ self.digest }
         ensures limit { result.limit ≡ self.limit }
     {
         StoreRequest {
@@ -301,47 +292,8 @@ pub fn store_from<D: Disk, I: Read, O: Output>(
     };
     let mut ahead = ahead;
     let request = request.fitted(&mut ahead);
-    let file = ReadInput::new(ahead);
-    match request.digest {
-        None => {
-            let mut file = file;
-            store_retiring_first(alloc, disk, request, &mut file, output)
-        }
-        Some(digest) => {
-            let mut file = CheckedInput::new(file, digest);
-            store_checked(alloc, disk, request, &mut file, output)
-        }
-    }
-}
-
-// The same of a stream whose digest is stated. Its replies are kept until the stream has ended, since the last of them may be another one.
-fn store_checked<D: Disk, I: Input, O: Output>(
-    alloc: Global,
-    disk: D,
-    request: StoreRequest,
-    file: &mut CheckedInput<I>,
-    output: &mut O,
-) -> (Result<(), Failure>, D)
-    ensures { StoresChecked D.Disk request (⟦<CheckedInput<I> as Input>⟧.remaining file.old) (O.taken output.old) (O.taken output.new) (O.failures output.old) (O.failures output.new) disk result.0 result.1 }
-{
-    let length = request.stated_length();
-    let mut replies = Collected::new(alloc);
-    let (ended, disk) = store_retiring_first(alloc, disk, request, file, &mut replies);
-    match write_retold(replies.text(), difference(file, length), output) {
-        Ok(()) => (ended, disk),
-        Err(_) => (Err(Failure::Faulted(SessionFault::WriteFailed)), disk),
-    }
-}
-
-// Why a stream is refused that has another digest than is stated: it has fewer bytes than are stated, or just that.
-fn difference<I: Input>(file: &CheckedInput<I>, length: Option<u64>) -> Option<&'static [u8]> {
-    if !file.differs() {
-        return None;
-    }
-    match length {
-        Some(length) if file.given() < length => Some(b"Short"),
-        _ => Some(b"Differs"),
-    }
+    let mut file = ReadInput::new(ahead);
+    store_retiring_first(alloc, disk, request, &mut file, output)
 }
 
 // Opens the archive on a disk, stores a stream in it, and hands the disk back.

@@ -137,7 +137,7 @@ pub record AsksFor (given : GivenStore) (words : StoreWords) : Type 0 where
   -- how many bytes it has
   pub length : number_said (option_copied given.length) ≡ Ok words.options.length
   -- and which digest
-  pub digest : digest_said (option_copied given.digest) ≡ Ok words.digest
+  pub digest : digest_said (option_copied given.digest) ≡ Ok words.options.digest
   -- no core is too much
   pub burst : words.options.burst ≡ None
 
@@ -174,7 +174,6 @@ pub record Asks (given : GivenStore) (request : StoreRequest) : Type 0 where
   pub alone : is_named_twice given ≡ false
   pub found : stream_found request.found ≡ found_under (named_by (template_said given) (pid_said given)) name (line_stream (named_by (template_said given) (pid_said given)) (said words.begin.items))
   pub options : request.options ≡ words.options
-  pub digest : request.digest ≡ words.digest
   -- the most bytes of an image
   pub limit : request.limit ≡ given.settings.limit
   pub template : template_fault (template_said given) ≡ None
@@ -274,7 +273,6 @@ pub record AsksForBuild (given : GivenStore) (build : BuildRequest) : Type 0 whe
   pub asked : AsksFor given words
   pub policy : build.policy ≡ words.policy
   pub options : build.options ≡ words.options
-  pub digest : build.digest ≡ words.digest
   pub naming : build.naming ≡ named_by given.settings.template.now given.settings.uses_pid
   pub limit : build.limit ≡ given.settings.limit
   -- the build that it has to be of, and whether it is a debug file, whatever it is

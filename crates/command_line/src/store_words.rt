@@ -133,7 +133,6 @@ fn build_of(alloc: Global, given: &GivenStore<'_, '_>) -> Result<BuildRequest, R
     let StoreWords {
         policy,
         options,
-        digest,
         ..
     } = wanted_of(alloc, given)?;
     if let Some(log) = given.log {
@@ -145,7 +144,6 @@ fn build_of(alloc: Global, given: &GivenStore<'_, '_>) -> Result<BuildRequest, R
         is_debug: given.is_debug,
         policy,
         options,
-        digest,
         naming,
         limit: given.settings.limit,
     })
@@ -267,13 +265,13 @@ fn wanted_of(alloc: Global, given: &GivenStore<'_, '_>) -> Result<StoreWords, Re
         order: order_of(given.fair),
         cut: cut_of(given),
         length,
+        digest,
         burst: None,
     };
     Ok(StoreWords {
         policy,
         begin,
         options,
-        digest,
     })
 }
 

@@ -82,7 +82,7 @@ naming_template config what =
     let template = template_of (option_copied config.template) in
     template_if_found (line_stream (named_by template config.uses_pid) what) template
 
--- The options besides the policy and the limit. No case is pinned.
+-- The options besides the policy and the limit. No case is pinned, and no digest is stated.
 abbrev pub options_of : Config → List ℕ → Option ℕ → List ℕ → Option (ArrayVec ℕ) → StoreOptions
 options_of config begin length template label = record {
   label = label;
@@ -91,6 +91,7 @@ options_of config begin length template label = record {
   order = order_of config.fair;
   cut = cut_of config;
   length = length;
+  digest = None;
   burst = burst_of config.burst (program_front template (said begin));
 }
 
@@ -102,8 +103,6 @@ pub record Asks (config : Config) (begin : List ℕ) (length : Option ℕ) (temp
   -- the stream that the line begins, or why it begins none
   pub found : stream_found request.found ≡ line_stream (named_by template config.uses_pid) (said begin)
   pub options : request.options ≡ options_of config begin length template label
-  -- no digest is known of it
-  pub unstated : request.digest ≡ None
   pub limit : request.limit ≡ limit_of config
 
 -- The same at a time that a clock gave, and with a label only if the configuration has one.

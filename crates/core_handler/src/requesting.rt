@@ -42,13 +42,13 @@ pub(crate) fn request_of(
         order: order_of(config.fair),
         cut: cut_of(config),
         length,
+        digest: None,
         burst: burst_of(config, &begin, template),
     };
     let words = StoreWords {
         policy: policy_of(config, now),
         begin,
         options,
-        digest: None,
     };
     Ok(StoreRequest::of(words, &naming, limit_of(config)))
 }

@@ -22,8 +22,8 @@ use Rattle.script_streams.specs.TellLaws.{tells_then, tells_as, tells_nothing}
 use Rattle.inspector_cli.specs.declared.session.Order.{Order}
 use Rattle.inspector_cli.specs.declared.session.Order.TheVariants.{Oldest}
 use Rattle.inspector_cli.specs.declared.store.TakeStop.{TakeStop}
-use Rattle.inspector_cli.specs.declared.store.TakeStop.TheVariants.{File, Refused, Cut, Length}
-use Rattle.inspector_cli.specs.declared.store.LengthFault.TheVariants.{Short, Long}
+use Rattle.inspector_cli.specs.declared.store.TakeStop.TheVariants.{File, Refused, Cut, Differs}
+use Rattle.inspector_cli.specs.declared.stated.Difference.TheVariants.{Short, Long, Digest}
 use Rattle.inspector_cli.specs.Reply.{TakeStep, TakeBytes, Takes}
 use Rattle.inspector_cli.specs.Fitting.{Going, IsGoing, IsNext, GoesOn, TakesWhile, going_text, goes, goes_first, may_go, may_go_first, next_core, next_to_go, or_else}
 use Rattle.inspector_cli.specs.Storing.{LooksPast, TakesMore, AfterRoom, MakesRoom, GoesNext, TakesNext}
@@ -76,21 +76,22 @@ pub either : {D : Type 0} (a v : Result (Unit {0}) ArchiveFault) (ws : List (Goi
 either (Ok u) v ws rest after new T R goes f h = f goes
 either (Err e) v ws rest after new T R goes f h = h goes.0 goes.3
 
-module _ (file file' : Option (List ℕ)) (fails fails' : ℕ) (T T' : List ℕ → Result (Unit {0}) ArchiveFault → Type 0) (front rest : List ℕ) (more : (x : List ℕ) (v : Result (Unit {0}) ArchiveFault) → T x v → T' (front ++ x) v) where
-  map_more : (result : Result ℕ TakeStop) → TakesMore file file' fails fails' rest T result → TakesMore file file' fails fails' (front ++ rest) T' result
-  map_more (Ok (suc n)) (raw, c, some, same, t) = (raw, c, some, same, subst (λ (x : List ℕ). T' x (Ok tt)) (sym (append_assoc front rest raw)) (more (rest ++ raw) (Ok tt) t))
-  map_more (Ok zero) (c, ends, same, t) = (c, ends, same, more rest (Ok tt) t)
+module _ (file file' : Option (List ℕ)) (fails fails' : ℕ) (A : List ℕ → Type 0) (T T' : List ℕ → Result (Unit {0}) ArchiveFault → Type 0) (front rest : List ℕ) (more : (x : List ℕ) (v : Result (Unit {0}) ArchiveFault) → T x v → T' (front ++ x) v) where
+  map_more : (result : Result ℕ TakeStop) → TakesMore file file' fails fails' rest A T result → TakesMore file file' fails fails' (front ++ rest) A T' result
+  map_more (Ok (suc n)) (raw, c, some, same, t, added) = (raw, c, some, same, subst (λ (x : List ℕ). T' x (Ok tt)) (sym (append_assoc front rest raw)) (more (rest ++ raw) (Ok tt) t), added)
+  map_more (Ok zero) (c, ends, same, t, added) = (c, ends, same, more rest (Ok tt) t, added)
   map_more (Err File) (c, rose, t) = (c, rose, more rest (Ok tt) t)
   map_more (Err (Refused f)) (raw, c, same, t) = (raw, c, same, subst (λ (x : List ℕ). T' x (Err f)) (sym (append_assoc front rest raw)) (more (rest ++ raw) (Err f) t))
   map_more (Err (Cut kept)) (raw, c, some, same, t) = (raw, c, some, same, more rest (Ok tt) t)
-  map_more (Err (Length Long)) (raw, c, some, same, t) = (raw, c, some, same, more rest (Ok tt) t)
-  map_more (Err (Length Short)) t = absurd t
+  map_more (Err (Differs Long)) (raw, c, some, same, t) = (raw, c, some, same, more rest (Ok tt) t)
+  map_more (Err (Differs Short)) t = absurd t
+  map_more (Err (Differs Digest)) t = absurd t
 
 -- some bytes are taken
-pub took_some : (file file' : Option (List ℕ)) (fails fails' : ℕ) (so_far : List ℕ) (T : List ℕ → Result (Unit {0}) ArchiveFault → Type 0) (n : ℕ) → (n ≡ 0 → ⊥)
-    → (raw : List ℕ) × Consumes file file' raw × (length raw ≡ n) × (fails' ≡ fails) × T (so_far ++ raw) (Ok tt) → TakesMore file file' fails fails' so_far T (Ok n)
-took_some file file' fails fails' so_far T zero some t = absurd (some refl)
-took_some file file' fails fails' so_far T (suc n) some t = t
+pub took_some : (file file' : Option (List ℕ)) (fails fails' : ℕ) (so_far : List ℕ) (A : List ℕ → Type 0) (T : List ℕ → Result (Unit {0}) ArchiveFault → Type 0) (n : ℕ) → (n ≡ 0 → ⊥)
+    → (raw : List ℕ) × Consumes file file' raw × (length raw ≡ n) × (fails' ≡ fails) × T (so_far ++ raw) (Ok tt) × A raw → TakesMore file file' fails fails' so_far A T (Ok n)
+took_some file file' fails fails' so_far A T zero some t = absurd (some refl)
+took_some file file' fails fails' so_far A T (suc n) some t = t
 
 module _ {D : Type 0} (g : disk.Ghosts D) (order : Order) where
   -- the last bytes, which were taken since the last case went
@@ -99,16 +100,16 @@ module _ {D : Type 0} (g : disk.Ghosts D) (order : Order) where
   last_takes (w ∷ ws) old mid raw takes = last_takes ws w.after mid takes.1 (on w.answer ws takes.1 w.after mid (TakesWhile g order w.after takes.1 ws (Ok tt) mid) takes.5)
 
   -- a step of the stream alone is one while cases go
-  pub lift_more : (file file' : Option (List ℕ)) (fails fails' : ℕ) (gone : List (Going D)) (old mid new : Parts D) (raw : List ℕ) (result : Result ℕ TakeStop) → TakesWhile g order old raw gone (Ok tt) mid
-      → ((begun : Parts D) (so_far : List ℕ) → Takes g begun 0 so_far (Ok tt) mid → TakesMore file file' fails fails' so_far (λ x v. Takes g begun 0 x v new) result)
-      → TakesMore file file' fails fails' raw (λ x v. TakesWhile g order old x gone v new) result
-  lift_more file file' fails fails' [] old mid new raw result takes step = step old raw takes
-  lift_more file file' fails fails' (w ∷ ws) old mid new raw result takes step =
+  pub lift_more : (file file' : Option (List ℕ)) (fails fails' : ℕ) (A : List ℕ → Type 0) (gone : List (Going D)) (old mid new : Parts D) (raw : List ℕ) (result : Result ℕ TakeStop) → TakesWhile g order old raw gone (Ok tt) mid
+      → ((begun : Parts D) (so_far : List ℕ) → Takes g begun 0 so_far (Ok tt) mid → TakesMore file file' fails fails' so_far A (λ x v. Takes g begun 0 x v new) result)
+      → TakesMore file file' fails fails' raw A (λ x v. TakesWhile g order old x gone v new) result
+  lift_more file file' fails fails' A [] old mid new raw result takes step = step old raw takes
+  lift_more file file' fails fails' A (w ∷ ws) old mid new raw result takes step =
       let tail = on w.answer ws takes.1 w.after mid (TakesWhile g order w.after takes.1 ws (Ok tt) mid) takes.5 in
-      subst (λ (x : List ℕ). TakesMore file file' fails fails' x (λ y v. TakesWhile g order old y (w ∷ ws) v new) result) (sym takes.2)
-      (map_more file file' fails fails' (λ x v. TakesWhile g order w.after x ws v new) (λ y v. TakesWhile g order old y (w ∷ ws) v new) takes.0 takes.1
+      subst (λ (x : List ℕ). TakesMore file file' fails fails' x A (λ y v. TakesWhile g order old y (w ∷ ws) v new) result) (sym takes.2)
+      (map_more file file' fails fails' A (λ x v. TakesWhile g order w.after x ws v new) (λ y v. TakesWhile g order old y (w ∷ ws) v new) takes.0 takes.1
       (λ x v t. (takes.0, x, refl, takes.3, takes.4, back w.answer v ws ws takes.1 x w.after mid new (TakesWhile g order w.after takes.1 ws (Ok tt) mid) (TakesWhile g order w.after x ws v new) takes.5 t))
-      result (lift_more file file' fails fails' ws w.after mid new takes.1 result tail step))
+      result (lift_more file file' fails fails' A ws w.after mid new takes.1 result tail step))
 
   -- one case more goes
   add_gone : (gone : List (Going D)) (old new : Parts D) (raw : List ℕ) (w : Going D) (v : Result (Unit {0}) ArchiveFault) → TakesWhile g order old raw gone (Ok tt) w.before → IsGoing g order w
@@ -222,63 +223,65 @@ module _ {D : Type 0} (g : disk.Ghosts D) (order : Order) (begun : Parts D) (so_
   )
 
 -- what is taken next
-module _ {D : Type 0} (g : disk.Ghosts D) (order : Order) (file file' : Option (List ℕ)) (fails fails' : ℕ) (begun old mid new : Parts D) (so_far : List ℕ) (gone : List (Going D)) (fit : Bool) where
-  more_as : (xs ys : List (Going D)) (a : Parts D) → xs ≡ ys → (x : List ℕ) (r : Result ℕ TakeStop) → TakesMore file file' fails fails' x (λ y v. TakesWhile g order begun y xs v a) r → TakesMore file file' fails fails' x (λ y v. TakesWhile g order begun y ys v a) r
-  more_as xs ys a is x r t = subst (λ (l : List (Going D)). TakesMore file file' fails fails' x (λ y v. TakesWhile g order begun y l v a) r) is t
+module _ {D : Type 0} (g : disk.Ghosts D) (order : Order) (file file' : Option (List ℕ)) (fails fails' : ℕ) (begun old mid new : Parts D) (so_far : List ℕ) (gone : List (Going D)) (fit : Bool) (A : List ℕ → Type 0) where
+  more_as : (xs ys : List (Going D)) (a : Parts D) → xs ≡ ys → (x : List ℕ) (r : Result ℕ TakeStop) → TakesMore file file' fails fails' x A (λ y v. TakesWhile g order begun y xs v a) r → TakesMore file file' fails fails' x A (λ y v. TakesWhile g order begun y ys v a) r
+  more_as xs ys a is x r t = subst (λ (l : List (Going D)). TakesMore file file' fails fails' x A (λ y v. TakesWhile g order begun y l v a) r) is t
 
   -- nothing goes
   pub next_alone : (a : Sink) (r : Result ℕ TakeStop) → TakesWhile g order begun so_far gone (Ok tt) old
-      → ((b : Parts D) (x : List ℕ) → Takes g b 0 x (Ok tt) old → TakesMore file file' fails fails' x (λ y v. Takes g b 0 y v new) r)
-      → TakesNext g order file file' fails fails' begun so_far gone fit (record { before = a; after = a }) new r
+      → ((b : Parts D) (x : List ℕ) → Takes g b 0 x (Ok tt) old → TakesMore file file' fails fails' x A (λ y v. Takes g b 0 y v new) r)
+      → TakesNext g order file file' fails fails' begun so_far gone fit A (record { before = a; after = a }) new r
   next_alone a r takes step =
-      ([], tells_nothing, more_as gone (gone ++ []) new (sym (append-nil gone)) so_far r (lift_more g order file file' fails fails' gone begun old new so_far r takes step), λ no. refl)
+      ([], tells_nothing, more_as gone (gone ++ []) new (sym (append-nil gone)) so_far r (lift_more g order file file' fails fails' A gone begun old new so_far r takes step), λ no. refl)
 
   -- a look at whether more follow, and what it may stop a file for
   abbrev pub StopsBehind : TakeStop → Type 0
   StopsBehind File = ⊥
   StopsBehind (Refused f) = ⊥
   StopsBehind (Cut kept) = Unit {0}
-  StopsBehind (Length Short) = ⊥
-  StopsBehind (Length Long) = Unit {0}
+  StopsBehind (Differs Short) = ⊥
+  StopsBehind (Differs Long) = Unit {0}
+  StopsBehind (Differs Digest) = ⊥
 
-  went_on : (l : List (Going D)) → TakesWhile g order begun so_far l (Ok tt) old → (stop : TakeStop) → StopsBehind stop → (raw : List ℕ) × Consumes file file' raw × (0 < length raw) × (fails' ≡ fails) → TakesMore file file' fails fails' so_far (λ y v. TakesWhile g order begun y l v old) (Err stop)
+  went_on : (l : List (Going D)) → TakesWhile g order begun so_far l (Ok tt) old → (stop : TakeStop) → StopsBehind stop → (raw : List ℕ) × Consumes file file' raw × (0 < length raw) × (fails' ≡ fails) → TakesMore file file' fails fails' so_far A (λ y v. TakesWhile g order begun y l v old) (Err stop)
   went_on l takes File behind look = absurd behind
   went_on l takes (Refused f) behind look = absurd behind
   went_on l takes (Cut kept) behind (raw, c, some, same) = (raw, c, some, same, takes)
-  went_on l takes (Length Short) behind look = absurd behind
-  went_on l takes (Length Long) behind (raw, c, some, same) = (raw, c, some, same, takes)
+  went_on l takes (Differs Short) behind look = absurd behind
+  went_on l takes (Differs Digest) behind look = absurd behind
+  went_on l takes (Differs Long) behind (raw, c, some, same) = (raw, c, some, same, takes)
 
-  looked : (stop : TakeStop) → StopsBehind stop → (l : List (Going D)) → TakesWhile g order begun so_far l (Ok tt) old → (r : Result ℕ TakeStop) → LooksPast file file' fails fails' stop r → TakesMore file file' fails fails' so_far (λ y v. TakesWhile g order begun y l v old) r
-  looked stop behind l takes (Ok zero) (is, none, ends, same) = (none, ends, same, takes)
-  looked stop behind l takes (Ok (suc n)) (is, none, ends, same) = absurd (omega (arith, is))
-  looked stop behind l takes (Err why) (inl (is, none, rose)) = subst (λ (w : TakeStop). TakesMore file file' fails fails' so_far (λ y v. TakesWhile g order begun y l v old) (Err w)) (sym is) (none, rose, takes)
-  looked stop behind l takes (Err why) (inr (is, raw, c, some, same)) = subst (λ (w : TakeStop). TakesMore file file' fails fails' so_far (λ y v. TakesWhile g order begun y l v old) (Err w)) (sym is) (went_on l takes stop behind (raw, c, some, same))
+  looked : (stop : TakeStop) → StopsBehind stop → A [] → (l : List (Going D)) → TakesWhile g order begun so_far l (Ok tt) old → (r : Result ℕ TakeStop) → LooksPast file file' fails fails' stop r → TakesMore file file' fails fails' so_far A (λ y v. TakesWhile g order begun y l v old) r
+  looked stop behind added l takes (Ok zero) (is, none, ends, same) = (none, ends, same, takes, added)
+  looked stop behind added l takes (Ok (suc n)) (is, none, ends, same) = absurd (omega (arith, is))
+  looked stop behind added l takes (Err why) (inl (is, none, rose)) = subst (λ (w : TakeStop). TakesMore file file' fails fails' so_far A (λ y v. TakesWhile g order begun y l v old) (Err w)) (sym is) (none, rose, takes)
+  looked stop behind added l takes (Err why) (inr (is, raw, c, some, same)) = subst (λ (w : TakeStop). TakesMore file file' fails fails' so_far A (λ y v. TakesWhile g order begun y l v old) (Err w)) (sym is) (went_on l takes stop behind (raw, c, some, same))
 
-  pub look_next : (stop : TakeStop) → StopsBehind stop → (a : Sink) (r : Result ℕ TakeStop) → TakesWhile g order begun so_far gone (Ok tt) old → LooksPast file file' fails fails' stop r
-      → TakesNext g order file file' fails fails' begun so_far gone fit (record { before = a; after = a }) old r
-  look_next stop behind a r takes look = ([], tells_nothing, looked stop behind (gone ++ []) (subst (λ (l : List (Going D)). TakesWhile g order begun so_far l (Ok tt) old) (sym (append-nil gone)) takes) r look, λ no. refl)
+  pub look_next : (stop : TakeStop) → StopsBehind stop → A [] → (a : Sink) (r : Result ℕ TakeStop) → TakesWhile g order begun so_far gone (Ok tt) old → LooksPast file file' fails fails' stop r
+      → TakesNext g order file file' fails fails' begun so_far gone fit A (record { before = a; after = a }) old r
+  look_next stop behind added a r takes look = ([], tells_nothing, looked stop behind added (gone ++ []) (subst (λ (l : List (Going D)). TakesWhile g order begun so_far l (Ok tt) old) (sym (append-nil gone)) takes) r look, λ no. refl)
 
   -- cases may go
-  pub next_as : (a b : Sink) (r : Result ℕ TakeStop) → fit ≡ true → TakesNext g order file file' fails fails' begun so_far gone true (record { before = a; after = b }) new r
-      → TakesNext g order file file' fails fails' begun so_far gone fit (record { before = a; after = b }) new r
-  next_as a b r is next = subst (λ (f : Bool). TakesNext g order file file' fails fails' begun so_far gone f (record { before = a; after = b }) new r) (sym is) next
+  pub next_as : (a b : Sink) (r : Result ℕ TakeStop) → fit ≡ true → TakesNext g order file file' fails fails' begun so_far gone true A (record { before = a; after = b }) new r
+      → TakesNext g order file file' fails fails' begun so_far gone fit A (record { before = a; after = b }) new r
+  next_as a b r is next = subst (λ (f : Bool). TakesNext g order file file' fails fails' begun so_far gone f A (record { before = a; after = b }) new r) (sym is) next
 
   -- one byte is taken, and then cases go
-  room_then_next : (n : ℕ) (a b : Sink) (r : Result (Unit {0}) TakeStop) (first : TakesMore file file' fails fails' so_far (λ y v. TakesWhile g order begun y gone v mid) (Ok (suc n)))
-      → MakesRoom g order begun (so_far ++ first.0) gone (record { before = a; after = b }) new r → TakesNext g order file file' fails fails' begun so_far gone true (record { before = a; after = b }) new (first_then (suc n) r)
-  room_then_next n a b (Ok u) first room = (room.0, room.1, (first.0, first.1, first.2, first.3, room.2), λ no. absurd (true≢false no))
+  room_then_next : (n : ℕ) (a b : Sink) (r : Result (Unit {0}) TakeStop) (first : TakesMore file file' fails fails' so_far A (λ y v. TakesWhile g order begun y gone v mid) (Ok (suc n)))
+      → MakesRoom g order begun (so_far ++ first.0) gone (record { before = a; after = b }) new r → TakesNext g order file file' fails fails' begun so_far gone true A (record { before = a; after = b }) new (first_then (suc n) r)
+  room_then_next n a b (Ok u) first room = (room.0, room.1, (first.0, first.1, first.2, first.3, room.2, first.5), λ no. absurd (true≢false no))
   room_then_next n a b (Err File) first room = absurd room.2
   room_then_next n a b (Err (Cut kept)) first room = absurd room.2
-  room_then_next n a b (Err (Length f)) first room = absurd room.2
+  room_then_next n a b (Err (Differs f)) first room = absurd room.2
   room_then_next n a b (Err (Refused f)) first room = (room.0, room.1, (first.0, first.1, first.3, room.2), λ no. absurd (true≢false no))
 
   pub next_then : (n : ℕ) → (n ≡ 0 → ⊥) → (a b : Sink) (r : Result (Unit {0}) TakeStop) → TakesWhile g order begun so_far gone (Ok tt) old
-      → ((x : Parts D) (s : List ℕ) → Takes g x 0 s (Ok tt) old → TakesMore file file' fails fails' s (λ y v. Takes g x 0 y v mid) (Ok n))
+      → ((x : Parts D) (s : List ℕ) → Takes g x 0 s (Ok tt) old → TakesMore file file' fails fails' s A (λ y v. Takes g x 0 y v mid) (Ok n))
       → ((x : Parts D) (s : List ℕ) (l : List (Going D)) → TakesWhile g order x s l (Ok tt) mid → MakesRoom g order x s l (record { before = a; after = b }) new r)
-      → TakesNext g order file file' fails fails' begun so_far gone true (record { before = a; after = b }) new (first_then n r)
+      → TakesNext g order file file' fails fails' begun so_far gone true A (record { before = a; after = b }) new (first_then n r)
   next_then zero some a b r takes step room = absurd (some refl)
   next_then (suc n) some a b r takes step room =
-      let first = lift_more g order file file' fails fails' gone begun old mid so_far (Ok (suc n)) takes step in
+      let first = lift_more g order file file' fails fails' A gone begun old mid so_far (Ok (suc n)) takes step in
       room_then_next n a b r first (room begun (so_far ++ first.0) gone first.4)
 
 module _ {D : Type 0} (g : disk.Ghosts D) (order : Order) (begun : Parts D) (so_far : List ℕ) (gone : List (Going D)) (a b c : Sink) (new : Parts D) where

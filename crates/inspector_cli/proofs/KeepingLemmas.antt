@@ -25,7 +25,7 @@ use Rattle.inspector_cli.specs.Headline.{HasFlag, Moment, Line, Course, IsCrashS
 use Rattle.inspector_cli.specs.Kept.{Kept, IsKeptAs, HasThisLabel, HoldsKept, FindsKept, Spares, AllSpare, Command, IsSession, IsStore, IsCommand, AStopIsTakenUp, AReopeningIsTakenUp, AreNext, StaysFound, ASessionKeepsACase, ALineStoresACase, AStoreStoresACase, AStoreKeepsACase, relabelled, ALineLabelsACase, AStoreLabelsACase, AStorePinsACase}
 use Rattle.inspector_cli.specs.Session.{Streams}
 use Rattle.inspector_cli.specs.StoreHeadline.{IsStoreSafe, AddsCase, StoresOrNot, TellsStored, Gone, GoInTurn, StoreCourse, IsStoreCourse, moments_of, no_stream}
-use Rattle.inspector_cli.specs.Storing.{Options, retire_line, said_pin, said_label}
+use Rattle.inspector_cli.specs.Storing.{Options, retire_line, said_pin, said_label, stated_in}
 use Rattle.inspector_cli.specs.Told.{Answer, HasLine, what_of, parts_in}
 use Rattle.inspector_cli.proofs.FoundLemmas.{told_once}
 use Rattle.inspector_cli.proofs.KeptLemmas.{among_more, among_last, among_filtered, among_mapped, all_append, all_mapped, one_apart, has_line}
@@ -216,7 +216,7 @@ module _ {D : Type 0} (g : disk.Ghosts D) (k : Kept) where
 
   -- what a store leaves of the case
   module _ (asked : Option Policy) (found : Result StreamFacts (List ℕ)) (given : Options) (file file' : Option (List ℕ)) (c : StoreCourse D) (is : IsStoreCourse asked found given file file' c) where
-    case_stays : (stored : Option ℕ) (x y : Durable) → StoresOrNot found given.length file file' c.cut x stored y → HoldsKept k x → HoldsKept k y
+    case_stays : (stored : Option ℕ) (x y : Durable) → StoresOrNot found (stated_in given) file file' c.cut x stored y → HoldsKept k x → HoldsKept k y
     case_stays None x y stores holds = same k x y stores holds
     case_stays (Some n) x y stores holds = same k (with_case x (record stores.stream { len = length stores.image }) stores.blocks stores.image) y stores.adds (with_case_holds k x (record stores.stream { len = length stores.image }) stores.blocks stores.image holds)
 
@@ -447,7 +447,7 @@ module _ {D : Type 0} (g : disk.Ghosts D) (numbers : NumbersAreAbove) where
 
   pub stores_store : AStoreStoresACase g
   stores_store t asked found given before after answer s n stored =
-      let a : AddsCase found given.length t.input t.input' s.course.cut s.course.filled.holds n s.course.ended.holds = subst (λ (o : Option ℕ). StoresOrNot found given.length t.input t.input' s.course.cut s.course.filled.holds o s.course.ended.holds) stored s.is.stores in
+      let a : AddsCase found (stated_in given) t.input t.input' s.course.cut s.course.filled.holds n s.course.ended.holds = subst (λ (o : Option ℕ). StoresOrNot found (stated_in given) t.input t.input' s.course.cut s.course.filled.holds o s.course.ended.holds) stored s.is.stores in
       let told : s.course.reply ≡ end_reply (Ok n) = subst (λ (o : Option ℕ). TellsStored o s.course.first s.course.reply) stored s.is.tells in
       let none : s.is.doubts ≡ [] = ⊎_elim (λ is. is) (λ may. absurd (stored_apart n (codes "Disk") (sym told ∙ may.0))) s.is.doubted in (
         record { seq = n; stream = a.stream; image = a.image; label = Some [] },

@@ -10,6 +10,7 @@ pub mod SessionLemmas
 pub mod AskLemmas
 pub mod StageLemmas
 pub mod FeedLemmas
+pub mod StatedLemmas
 pub mod FitLemmas
 pub mod GoingLemmas
 pub mod SpentLemmas

@@ -26,10 +26,11 @@ use Rattle.inspector_cli.specs.declared.fitting.Need.{Need}
 use Rattle.inspector_cli.specs.declared.fitting.Need.TheVariants.{Block, Record}
 use Rattle.inspector_cli.specs.declared.session.Order.{Order}
 use Rattle.inspector_cli.specs.declared.store.TakeStop.{TakeStop}
-use Rattle.inspector_cli.specs.declared.store.TakeStop.TheVariants.{File, Refused, Cut, Length}
-use Rattle.inspector_cli.specs.declared.store.LengthFault.{LengthFault}
-use Rattle.inspector_cli.specs.declared.store.LengthFault.TheVariants.{Short, Long}
-use Rattle.inspector_cli.specs.Storing.{length_reason}
+use Rattle.inspector_cli.specs.declared.store.TakeStop.TheVariants.{File, Refused, Cut, Differs}
+use Rattle.inspector_cli.specs.declared.stated.Stated.{Stated}
+use Rattle.inspector_cli.specs.declared.stated.Difference.{Difference}
+use Rattle.inspector_cli.specs.declared.stated.Difference.TheVariants.{Short, Long, Digest}
+use Rattle.inspector_cli.specs.Storing.{difference_reason}
 use Rattle.inspector_cli.specs.Fitting.{EndsAt, IsNext, NoneMayGo, IsSpent, RefusedIfSpent, FillsWhole, IsServed, HasMadeRoom, FitsPart, Advances, AdvancesBy, ServesOn, DropsOne, DropsAll, FillsServed}
 use Rattle.inspector_cli.proofs.GoingLemmas.{next_may}
 use Rattle.inspector_cli.proofs.RoomLemmas.{states_agree}
@@ -112,7 +113,7 @@ made_then order need first s s' false is so_far step = (λ was. subst IsServed (
 pub stuck_then : (order : Order) (need : Need) (first s s' : ArchiveState) (stop : TakeStop) → DropsOne order need s (Err stop) s' → DropsAll order need first (Err stop) s'
 stuck_then order need first s s' File step = tt
 stuck_then order need first s s' (Cut kept) step = step
-stuck_then order need first s s' (Length f) step = step
+stuck_then order need first s s' (Differs f) step = step
 stuck_then order need first s s' (Refused f) step = step
 
 -- room that was made for a block
@@ -141,7 +142,7 @@ free_serves order most s s' (Ok (suc m)) some (n, few, fits, (x, may, never, blo
 free_serves order most s s' (Ok zero) some is = subst IsServed (sym is) (λ awake full. let free = some awake in absurd (omega (arith, free, full)))
 free_serves order most s s' (Err File) some is = tt
 free_serves order most s s' (Err (Cut kept)) some step = absurd step
-free_serves order most s s' (Err (Length f)) some step = absurd step
+free_serves order most s s' (Err (Differs f)) some step = absurd step
 free_serves order most s s' (Err (Refused SpaceFull)) some (inl reply) = absurd reply
 free_serves order most s s' (Err (Refused SpaceFull)) some (inr (n, few, fits, (x, may, full, is))) =
     let free = some may.0 in
@@ -180,7 +181,7 @@ abbrev pub OneServes : Order → Result ℕ TakeStop → ArchiveState → Type 0
 OneServes order (Ok zero) s = IsServed s
 OneServes order (Ok (suc n)) s = Unit {0}
 OneServes order (Err (Cut kept)) s = ⊥
-OneServes order (Err (Length f)) s = ⊥
+OneServes order (Err (Differs f)) s = ⊥
 OneServes order (Err File) s = Unit {0}
 OneServes order (Err (Refused f)) s = IsSpent order f s
 
@@ -190,7 +191,7 @@ one_numbers len n whole few some fills = some (omega arith)
 pub one_serves : (order : Order) (s s' : ArchiveState) (r : Result ℕ TakeStop) → IsServed s → Advances 1 s r s' → OneServes order r s'
 one_serves order s s' (Ok (suc m)) served step = tt
 one_serves order s s' (Err (Cut kept)) served step = absurd step
-one_serves order s s' (Err (Length f)) served step = absurd step
+one_serves order s s' (Err (Differs f)) served step = absurd step
 one_serves order s s' (Ok zero) served is = subst IsServed (sym is) served
 one_serves order s s' (Err File) served is = tt
 one_serves order s s' (Err (Refused SpaceFull)) served (inl reply) = absurd reply
@@ -207,14 +208,14 @@ pub room_serves : (order : Order) (s s' : ArchiveState) (r : Result (Unit {0}) T
 room_serves order s s' (Ok u) step = made_serves s' step.1
 room_serves order s s' (Err File) step = tt
 room_serves order s s' (Err (Cut kept)) step = absurd step
-room_serves order s s' (Err (Length f)) step = absurd step
+room_serves order s s' (Err (Differs f)) step = absurd step
 room_serves order s s' (Err (Refused f)) step = step
 
 -- a step that stops stops all
 pub stop_serves : (order : Order) (s : ArchiveState) (stop : TakeStop) → OneServes order (Err stop) s → ServesOn {A = ℕ} order (Err stop) s
 stop_serves order s File step = tt
 stop_serves order s (Cut kept) step = absurd step
-stop_serves order s (Length f) step = absurd step
+stop_serves order s (Differs f) step = absurd step
 stop_serves order s (Refused f) step = step
 
 pub end_serves : (order : Order) (s : ArchiveState) (count : ℕ) → count ≡ 0 → OneServes order (Ok count) s → ServesOn {A = ℕ} order (Ok 0) s
@@ -225,7 +226,7 @@ end_serves order s zero is step = step
 pub stop_as : (order : Order) (A : Type 0) (B : Type 0) (s : ArchiveState) (stop : TakeStop) → ServesOn {A = A} order (Err stop) s → ServesOn {A = B} order (Err stop) s
 stop_as order A B s File step = tt
 stop_as order A B s (Cut kept) step = step
-stop_as order A B s (Length f) step = step
+stop_as order A B s (Differs f) step = step
 stop_as order A B s (Refused f) step = step
 
 -- room for the record
@@ -233,7 +234,7 @@ pub record_serves : (order : Order) (s s' : ArchiveState) (r : Result (Unit {0})
 record_serves order s s' (Ok u) served step = (step.0 served, step.1)
 record_serves order s s' (Err File) served step = tt
 record_serves order s s' (Err (Cut kept)) served step = absurd step
-record_serves order s s' (Err (Length f)) served step = absurd step
+record_serves order s s' (Err (Differs f)) served step = absurd step
 record_serves order s s' (Err (Refused f)) served step = step
 
 -- Runs of blocks: whether a block before others begins one more.
@@ -389,22 +390,25 @@ file_unspent order s SpaceFull is = absurd (apart_by fourth_of (no_reply (codes 
 file_unspent order s JournalFull is = absurd (apart_by fourth_of (no_reply (codes "File")) (no_reply (codes "JournalFull")) refl is)
 file_unspent order s _ is = tt
 
--- and so is one of another length than was stated
-pub length_unspent : (order : Order) (f : LengthFault) (s : ArchiveState) → RefusedIfSpent order (no_reply (length_reason f)) s
-length_unspent order Short s SpaceFull is = absurd (apart_by fifth_of (no_reply (codes "Short")) (no_reply (codes "SpaceFull")) refl is)
-length_unspent order Short s JournalFull is = absurd (apart_by fourth_of (no_reply (codes "Short")) (no_reply (codes "JournalFull")) refl is)
-length_unspent order Short s _ is = tt
-length_unspent order Long s SpaceFull is = absurd (apart_by fifth_of (no_reply (codes "TooLong")) (no_reply (codes "SpaceFull")) refl is)
-length_unspent order Long s JournalFull is = absurd (apart_by fourth_of (no_reply (codes "TooLong")) (no_reply (codes "JournalFull")) refl is)
-length_unspent order Long s _ is = tt
+-- and so is one that is not as was stated
+pub difference_unspent : (order : Order) (f : Difference) (s : ArchiveState) → RefusedIfSpent order (no_reply (difference_reason f)) s
+difference_unspent order Short s SpaceFull is = absurd (apart_by fifth_of (no_reply (codes "Short")) (no_reply (codes "SpaceFull")) refl is)
+difference_unspent order Short s JournalFull is = absurd (apart_by fourth_of (no_reply (codes "Short")) (no_reply (codes "JournalFull")) refl is)
+difference_unspent order Short s _ is = tt
+difference_unspent order Long s SpaceFull is = absurd (apart_by fifth_of (no_reply (codes "TooLong")) (no_reply (codes "SpaceFull")) refl is)
+difference_unspent order Long s JournalFull is = absurd (apart_by fourth_of (no_reply (codes "TooLong")) (no_reply (codes "JournalFull")) refl is)
+difference_unspent order Long s _ is = tt
+difference_unspent order Digest s SpaceFull is = absurd (apart_by fourth_of (no_reply (codes "Differs")) (no_reply (codes "SpaceFull")) refl is)
+difference_unspent order Digest s JournalFull is = absurd (apart_by fourth_of (no_reply (codes "Differs")) (no_reply (codes "JournalFull")) refl is)
+difference_unspent order Digest s _ is = tt
 
--- a file that has ended, with its length or another
-pub end_serves_all : (order : Order) (want : Option ℕ) (taken : ℕ) (s : ArchiveState) (r : Result (Unit {0}) TakeStop) → EndsAt want taken r → IsServed s → ServesOn order r s
+-- a file that has ended, as was stated or not
+pub end_serves_all : (order : Order) (want : Stated) (taken : List ℕ) (s : ArchiveState) (r : Result (Unit {0}) TakeStop) → EndsAt want taken r → IsServed s → ServesOn order r s
 end_serves_all order want taken s (Ok u) ends served = served
 end_serves_all order want taken s (Err File) ends served = absurd ends
 end_serves_all order want taken s (Err (Refused f)) ends served = absurd ends
 end_serves_all order want taken s (Err (Cut kept)) ends served = absurd ends
-end_serves_all order want taken s (Err (Length f)) ends served = tt
+end_serves_all order want taken s (Err (Differs f)) ends served = tt
 
 -- and so is no reply
 pub silence_unspent : (order : Order) (s : ArchiveState) → RefusedIfSpent order [] s

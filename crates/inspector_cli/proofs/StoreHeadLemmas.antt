@@ -35,8 +35,9 @@ use Rattle.inspector_cli.specs.declared.session.SessionFault.TheVariants.{ReadFa
 use Rattle.inspector_cli.specs.declared.session.LifeFault.{LifeFault}
 use Rattle.inspector_cli.specs.declared.session.LifeFault.TheVariants as life
 use Rattle.inspector_cli.specs.declared.session.StoreOutcome.{StoreOutcome}
+use Rattle.inspector_cli.specs.declared.stated.Stated.{Stated}
 use Rattle.inspector_cli.specs.declared.store.TakeStop.{TakeStop}
-use Rattle.inspector_cli.specs.declared.store.TakeStop.TheVariants.{File, Refused, Cut, Length}
+use Rattle.inspector_cli.specs.declared.store.TakeStop.TheVariants.{File, Refused, Cut, Differs}
 use Rattle.inspector_cli.specs.Headline.{AreSafe, FindsSince, HasFlag, Leads, LeadsOn, Moment, WouldLeave, brief_of}
 use Rattle.archive_replies.specs.Texts.{dropped_line, end_reply, plain_reply}
 use Rattle.inspector_cli.specs.Fitting.{Going, IsGoing, IsNext, IsShort, NoneMayGo, TakesWhile, cut_of, going_text, gone_text, may_go}
@@ -49,7 +50,7 @@ use Rattle.inspector_cli.specs.Reply.{Begins, Ends, Takes}
 use Rattle.inspector_cli.specs.Session.{Streams}
 use Rattle.inspector_cli.specs.Stages.{Stage, Moves, MayLeave, mark_at, marks_of}
 use Rattle.inspector_cli.specs.StoreHeadline.{Gone, GoInTurn, IsCutShort, case_in, gone_line, moments_of, TellsStored, AddsCase, StoresOrNot, StoreCourse, IsStoreCourse, IsTold, IsAdmittedSafe, IsStoreSafe, StoresAreCrashSafe, BeginsEmpty, no_stream}
-use Rattle.inspector_cli.specs.Storing.{GoneStages, length_reason, FillsFile, FileReplies, KeepsOf, cut_text, RestReplies, RetiresFirst, IsChosen, PinsCase, LabelsCase, Options, Stores, StoreEnds, retire_line, said_pin, said_label}
+use Rattle.inspector_cli.specs.Storing.{GoneStages, difference_reason, FillsFile, FileReplies, KeepsOf, cut_text, RestReplies, RetiresFirst, IsChosen, PinsCase, LabelsCase, Options, Stores, StoreEnds, retire_line, said_pin, said_label, stated_in}
 use Rattle.inspector_cli.proofs.CaseLemmas.{is_found, briefs_are, cases_are}
 use Rattle.inspector_cli.proofs.ClearLemmas.{first_apart, plain_told, retire_told, retire_stops}
 use Rattle.inspector_cli.proofs.KeptLemmas.{LastingLaws}
@@ -168,7 +169,7 @@ module _ {D : Type 0} (g : disk.Ghosts D) (order : Order) (lasts : LastingLaws g
   retiring_stops old new (Some policy) told made ((r, call, answered), done) is = retire_stops (state_of old) (state_of new) policy r call.step (retire_told r (sym answered ∙ is))
 
   -- the case that the stream becomes
-  adds_case : (found : Result StreamFacts (List ℕ)) (want : Option ℕ) (file file' : Option (List ℕ)) (cut : Option ℕ) (raw : List ℕ) (retired mid : Parts D) (gone : List (Going D)) (filled : Parts D) (first : List ℕ) (x y : Durable) (n : ℕ) → BeginsEmpty found → Begins g retired 0 found first mid true
+  adds_case : (found : Result StreamFacts (List ℕ)) (want : Stated) (file file' : Option (List ℕ)) (cut : Option ℕ) (raw : List ℕ) (retired mid : Parts D) (gone : List (Going D)) (filled : Parts D) (first : List ℕ) (x y : Durable) (n : ℕ) → BeginsEmpty found → Begins g retired 0 found first mid true
       → KeepsOf want file file' cut raw → TakesWhile g order mid raw gone (Ok tt) filled → IsTrue (g.is_honest filled.disk) → x ≡ durable_of g.seen filled → n ≡ x.next
       → MayBeStored (state_of filled) (contents_of g.seen filled) (durable_of g.seen filled) 0 y → AddsCase found want file file' cut x n y
   adds_case (Ok stream) want file file' cut raw retired mid gone filled first x y n none (Ok u, call, told, accepts) reads takes honest same number may =
@@ -290,7 +291,7 @@ module _ {D : Type 0} (g : disk.Ghosts D) (order : Order) (lasts : LastingLaws g
       surely_filled ws t w.after filled takes.1 ss doubt (on w.answer ws takes.1 w.after filled (TakesWhile g order w.after takes.1 ws (Ok tt) filled) takes.5) all.6
       ∙ surely_gone s t w.seq went.0 (subst (λ (r : Result (Unit {0}) ArchiveFault). Moves g s (delete_of w.seq) (plain_reply r) t) went.1 all.4) ∙ all.1
 
-  module _ (laws : Laws g) (found : Result StreamFacts (List ℕ)) (none : BeginsEmpty found) (most want : Option ℕ) (file file' : Option (List ℕ)) (fails fails' : ℕ) (retired : Stage D) (honest : IsTrue (g.is_honest retired.archive.disk)) where
+  module _ (laws : Laws g) (found : Result StreamFacts (List ℕ)) (none : BeginsEmpty found) (most : Option ℕ) (want : Stated) (file file' : Option (List ℕ)) (fails fails' : ℕ) (retired : Stage D) (honest : IsTrue (g.is_honest retired.archive.disk)) where
     -- whether the case is stored, and what is in doubt
     record Stored (gone : List (Going D)) (cut : Option ℕ) (filled ended : Parts D) (first rest : List ℕ) (stored : Option ℕ) : Type 0 where
       filling : Filling g order gone retired filled
@@ -377,7 +378,7 @@ module _ {D : Type 0} (g : disk.Ghosts D) (order : Order) (lasts : LastingLaws g
         by (Err (Cut kept)) takes replies is =
             subst (λ (o : Option ℕ). Stored gone o filled ended first rest stored) (sym is)
             (is_ended mid gone (Some kept) takes.0 filled ended first rest stored begins begun takes.1 takes.2 replies)
-        by (Err (Length f)) takes replies is = none_refused takes.0 (Ok tt) (length_reason f) takes.2 replies
+        by (Err (Differs f)) takes replies is = none_refused takes.0 (Ok tt) (difference_reason f) takes.2 replies
         by (Err File) takes replies is = none_refused takes.0 (Ok tt) (codes "File") takes.3 replies
         by (Err (Refused f)) (inl takes) replies is = none_refused takes.0 (Err f) (reason_of f) takes.2 replies
         by (Err (Refused f)) (inr takes) replies is = none_refused takes.3 (Err f) (reason_of f) takes.5 replies
@@ -489,8 +490,8 @@ module _ {D : Type 0} (g : disk.Ghosts D) (lasts : LastingLaws g) (laws : Laws g
     begun : ChangesNoCase g s.retired s.stores.mid
     begun = begins_stays g s.retired s.stores.mid 0 found s.stores.first s.stores.accepted s.stores.begins
 
-    stored : Stored g options.order lasts laws found none options.cut options.length t.input t.input' t.fails t.fails' retired retiring_honest s.stores.gone s.stores.cut s.stores.filled s.ended s.stores.first s.stores.rest outcome.stored
-    stored = is_stored g options.order lasts laws found none options.cut options.length t.input t.input' t.fails t.fails' retired retiring_honest s.stores.mid s.stores.gone s.stores.cut s.stores.filled s.ended s.stores.first s.stores.accepted s.stores.rest outcome.stored s.stores.begins begun s.stores.goes_on
+    stored : Stored g options.order lasts laws found none options.cut (stated_in options) t.input t.input' t.fails t.fails' retired retiring_honest s.stores.gone s.stores.cut s.stores.filled s.ended s.stores.first s.stores.rest outcome.stored
+    stored = is_stored g options.order lasts laws found none options.cut (stated_in options) t.input t.input' t.fails t.fails' retired retiring_honest s.stores.mid s.stores.gone s.stores.cut s.stores.filled s.ended s.stores.first s.stores.accepted s.stores.rest outcome.stored s.stores.begins begun s.stores.goes_on
 
     -- nothing is in doubt where the archive is not stopped
     retiring_clear : (state_of s.retired).stopped ≡ false → retired.in_doubt ≡ []

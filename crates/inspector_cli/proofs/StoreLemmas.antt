@@ -35,12 +35,13 @@ use Rattle.inspector_cli.specs.declared.session.SessionFault.TheVariants.{WriteF
 use Rattle.inspector_cli.specs.declared.session.StoreOutcome.{StoreOutcome}
 use Rattle.retention.specs.declared.Policy.{Policy}
 use Rattle.inspector_cli.specs.declared.store.TakeStop.{TakeStop}
-use Rattle.inspector_cli.specs.declared.store.TakeStop.TheVariants.{File, Refused, Cut, Length}
-use Rattle.inspector_cli.specs.declared.store.LengthFault.TheVariants.{Short, Long}
+use Rattle.inspector_cli.specs.declared.store.TakeStop.TheVariants.{File, Refused, Cut, Differs}
+use Rattle.inspector_cli.specs.declared.stated.Stated.{Stated}
+use Rattle.inspector_cli.specs.declared.stated.Difference.TheVariants.{Short, Long, Digest}
 use Rattle.script_streams.specs.Replies.{Telling, TellsReply, TellsText}
 use Rattle.inspector_cli.specs.Stages.{Stage, mark_at, marks_of}
 use Rattle.inspector_cli.specs.Session.{Streams}
-use Rattle.inspector_cli.specs.Storing.{FillsAll, FillsFile, TakesNext, TakesAll, MakesRoom, FillsAndEnds, GoneStages, FileReplies, RestReplies, StoresStream, RetiresFirst, RetiresForStream, PinsCase, LabelsCase, Options, Stores, retire_line, said_pin, said_label, StoreStages, StoreEnds}
+use Rattle.inspector_cli.specs.Storing.{FillsAll, FillsFile, TakesNext, TakesAll, MakesRoom, FillsAndEnds, GoneStages, FileReplies, RestReplies, StoresStream, RetiresFirst, RetiresForStream, PinsCase, LabelsCase, Options, Stores, stated_in, retire_line, said_pin, said_label, StoreStages, StoreEnds}
 use Rattle.intake.specs.StayLaws.{stays_none, stays_as, stays_then}
 use Rattle.inspector_cli.proofs.StageLemmas.{Laws, Reaches, stage_of, ends_moves, deletes_moves, pins_moves, labels_moves, retires_moves, still, begins_stays}
 use Rattle.script_streams.specs.TellLaws.{tells_as, tells_then}
@@ -132,21 +133,23 @@ abbrev pub StopsAfter : Option ℕ → ℕ → TakeStop → Type 0
 StopsAfter want n File = Unit {0}
 StopsAfter want n (Refused fault) = Unit {0}
 StopsAfter want n (Cut kept) = (kept ≡ n) × (0 < kept) × IsUnder want kept
-StopsAfter want n (Length Short) = ⊥
-StopsAfter want n (Length Long) = want ≡ Some n
+StopsAfter want n (Differs Short) = ⊥
+StopsAfter want n (Differs Long) = want ≡ Some n
+StopsAfter want n (Differs Digest) = ⊥
 
 pub behind_after : (fit : Bool) (most want : Option ℕ) (taken n : ℕ) (s : ArchiveState) (stop : TakeStop) → taken ≡ n → CutsBehind {A = ℕ} fit most taken (Err stop) s → MeetsLength {A = ℕ} want taken (Err stop) → StopsAfter want n stop
 behind_after fit most want taken n s File is behind meets = tt
 behind_after fit most want taken n s (Refused fault) is behind meets = tt
 behind_after fit most want taken n s (Cut kept) is behind meets = (behind.0 ∙ is, behind.1, subst (IsUnder want) (sym behind.0) meets)
-behind_after fit most want taken n s (Length Short) is behind meets = absurd meets
-behind_after fit most want taken n s (Length Long) is behind meets = meets ∙ ap (λ (m : ℕ). Some m) is
+behind_after fit most want taken n s (Differs Short) is behind meets = absurd meets
+behind_after fit most want taken n s (Differs Digest) is behind meets = absurd meets
+behind_after fit most want taken n s (Differs Long) is behind meets = meets ∙ ap (λ (m : ℕ). Some m) is
 
 pub behind_well : (fit : Bool) (most : Option ℕ) (taken : ℕ) (s : ArchiveState) (stop : TakeStop) → CutsBehind {A = ℕ} fit most taken (Err stop) s → CutsWell {A = Unit {0}} fit most (Err stop) s
 behind_well fit most taken s File behind = tt
 behind_well fit most taken s (Refused fault) behind = tt
 behind_well fit most taken s (Cut kept) behind = (behind.2, behind.3, behind.4, behind.5)
-behind_well fit most taken s (Length f) behind = tt
+behind_well fit most taken s (Differs f) behind = tt
 
 -- no step but a look finds either
 pub uncut_behind : (fit : Bool) (most : Option ℕ) (taken : ℕ) (s : ArchiveState) (r : Result ℕ TakeStop) → IsUncut r → CutsBehind fit most taken r s
@@ -154,14 +157,14 @@ uncut_behind fit most taken s (Ok n) uncut = tt
 uncut_behind fit most taken s (Err File) uncut = tt
 uncut_behind fit most taken s (Err (Refused fault)) uncut = tt
 uncut_behind fit most taken s (Err (Cut kept)) uncut = absurd uncut
-uncut_behind fit most taken s (Err (Length f)) uncut = tt
+uncut_behind fit most taken s (Err (Differs f)) uncut = tt
 
 pub uncut_meets : (want : Option ℕ) (taken : ℕ) (r : Result ℕ TakeStop) → IsUncut r → MeetsLength want taken r
 uncut_meets want taken (Ok n) uncut = tt
 uncut_meets want taken (Err File) uncut = tt
 uncut_meets want taken (Err (Refused fault)) uncut = tt
 uncut_meets want taken (Err (Cut kept)) uncut = absurd uncut
-uncut_meets want taken (Err (Length f)) uncut = absurd uncut
+uncut_meets want taken (Err (Differs f)) uncut = absurd uncut
 
 -- what is not to be cut is not
 pub never_well : (fit : Bool) (most : Option ℕ) (s : ArchiveState) (r : Result (Unit {0}) TakeStop) → CutsWell fit None r s → CutsWell fit most r s
@@ -169,15 +172,15 @@ never_well fit most s (Ok u) well = tt
 never_well fit most s (Err File) well = tt
 never_well fit most s (Err (Refused fault)) well = tt
 never_well fit most s (Err (Cut kept)) well = absurd (let e : None ≡ Some well.0 = well.1 in cc)
-never_well fit most s (Err (Length f)) well = tt
+never_well fit most s (Err (Differs f)) well = tt
 
 -- a file that has ended is not cut
-pub end_well : (fit : Bool) (most want : Option ℕ) (taken : ℕ) (s : ArchiveState) (r : Result (Unit {0}) TakeStop) → EndsAt want taken r → CutsWell fit most r s
+pub end_well : (fit : Bool) (most : Option ℕ) (want : Stated) (taken : List ℕ) (s : ArchiveState) (r : Result (Unit {0}) TakeStop) → EndsAt want taken r → CutsWell fit most r s
 end_well fit most want taken s (Ok u) ends = tt
 end_well fit most want taken s (Err File) ends = tt
 end_well fit most want taken s (Err (Refused fault)) ends = tt
 end_well fit most want taken s (Err (Cut kept)) ends = absurd ends
-end_well fit most want taken s (Err (Length f)) ends = tt
+end_well fit most want taken s (Err (Differs f)) ends = tt
 
 -- bounds of no byte
 pub under_within : (bound : Option ℕ) → IsUnder bound 0 → IsWithin bound 0
@@ -191,7 +194,7 @@ within_none (Some n) = omega arith
 consumes_none : (a b c : Option (List ℕ)) (raw : List ℕ) → Consumes a b raw → Consumes b c [] → Consumes a c raw
 consumes_none a b c raw p q = subst (Consumes a c) (append-nil raw) (Consumes-trans a b c raw [] p q)
 
-module _ {D : Type 0} (g : disk.Ghosts D) (order : Order) (fit : Bool) (file mid file' : Option (List ℕ)) (fails fails' fails'' : ℕ) (a b c : Sink) (old now new : Parts D) (reads : ℕ) (want : Option ℕ)
+module _ {D : Type 0} (g : disk.Ghosts D) (order : Order) (fit : Bool) (file mid file' : Option (List ℕ)) (fails fails' fails'' : ℕ) (a b c : Sink) (old now new : Parts D) (reads : ℕ) (want : Stated) (A : List ℕ → Type 0)
     (so_far : FileAlong g order fit file mid fails fails' old reads (record { before = a; after = b }) now) where
   none_both : (more : List (Going D)) → (fit ≡ false → more ≡ []) → fit ≡ false → so_far.0 ++ more ≡ []
   none_both more none is = ap (λ (l : List (Going D)). l ++ more) (so_far.7 is) ∙ none is
@@ -199,34 +202,39 @@ module _ {D : Type 0} (g : disk.Ghosts D) (order : Order) (fit : Bool) (file mid
   told_both : (more : List (Going D)) → TellsText (record { before = b; after = c }) (flat_map going_text more) → TellsText (record { before = a; after = c }) (flat_map going_text (so_far.0 ++ more))
   told_both more tells = tells_as (sym (texts_more so_far.0 more)) (tells_then so_far.1 tells)
 
-  pub file_went_on : (count : ℕ) → (count ≡ 0 → ⊥) → TakesNext g order mid file' fails' fails'' old so_far.2 so_far.0 fit (record { before = b; after = c }) new (Ok count)
-      → (more : FileAlong g order fit file file' fails fails'' old (reads + 1) (record { before = a; after = c }) new) × (length more.2 ≡ length so_far.2 + count)
+  pub file_went_on : (count : ℕ) → (count ≡ 0 → ⊥) → TakesNext g order mid file' fails' fails'' old so_far.2 so_far.0 fit A (record { before = b; after = c }) new (Ok count)
+      → (more : FileAlong g order fit file file' fails fails'' old (reads + 1) (record { before = a; after = c }) new) × (length more.2 ≡ length so_far.2 + count) × (added : List ℕ) × (more.2 ≡ so_far.2 ++ added) × A added
   file_went_on (suc n) is (gone, tells, more, none) =
       let size = length-append so_far.2 more.0 in
       let count = so_far.4 in
       let some = more.2 in (
         (so_far.0 ++ gone, told_both gone tells, so_far.2 ++ more.0, Consumes-trans file mid file' so_far.2 more.0 so_far.3 more.1, omega (arith, count, some, size), more.3 ∙ so_far.5, more.4, none_both gone none),
         omega (arith, some, size),
+        more.0,
+        refl,
+        more.5,
       )
   file_went_on zero is more = absurd (is refl)
 
-  -- with the length that was stated, or before
+  -- as was stated, or not
   ended_so : (gone : List (Going D)) → TellsText (record { before = b; after = c }) (flat_map going_text gone) → Consumes mid file' [] → IsAtEnd file' → TakesWhile g order old so_far.2 (so_far.0 ++ gone) (Ok tt) new → (fit ≡ false → gone ≡ [])
-      → (r : Result (Unit {0}) TakeStop) → EndsAt want (length so_far.2) r → TakesAll g order fit want file file' fails fails'' old (record { before = a; after = c }) new r
+      → (r : Result (Unit {0}) TakeStop) → EndsAt want so_far.2 r → TakesAll g order fit want file file' fails fails'' old (record { before = a; after = c }) new r
   ended_so gone tells none ends takes unasked (Ok u) at = (so_far.0 ++ gone, told_both gone tells, (so_far.2, consumes_none file mid file' so_far.2 so_far.3 none, ends, takes, at), none_both gone unasked)
   ended_so gone tells none ends takes unasked (Err File) at = absurd at
   ended_so gone tells none ends takes unasked (Err (Refused fault)) at = absurd at
   ended_so gone tells none ends takes unasked (Err (Cut kept)) at = absurd at
-  ended_so gone tells none ends takes unasked (Err (Length Short)) at =
+  ended_so gone tells none ends takes unasked (Err (Differs Short)) at =
       (so_far.0 ++ gone, told_both gone tells, (so_far.2, (consumes_none file mid file' so_far.2 so_far.3 none, ends, at.0, at.1, at.2), takes), none_both gone unasked)
-  ended_so gone tells none ends takes unasked (Err (Length Long)) at = absurd at
+  ended_so gone tells none ends takes unasked (Err (Differs Long)) at = absurd at
+  ended_so gone tells none ends takes unasked (Err (Differs Digest)) at =
+      (so_far.0 ++ gone, told_both gone tells, (so_far.2, (consumes_none file mid file' so_far.2 so_far.3 none, ends, at), takes), none_both gone unasked)
 
-  pub file_ended : (count : ℕ) → count ≡ 0 → TakesNext g order mid file' fails' fails'' old so_far.2 so_far.0 fit (record { before = b; after = c }) new (Ok count)
-      → (r : Result (Unit {0}) TakeStop) → EndsAt want (length so_far.2) r → TakesAll g order fit want file file' fails fails'' old (record { before = a; after = c }) new r
+  pub file_ended : (count : ℕ) → count ≡ 0 → TakesNext g order mid file' fails' fails'' old so_far.2 so_far.0 fit A (record { before = b; after = c }) new (Ok count)
+      → (r : Result (Unit {0}) TakeStop) → EndsAt want so_far.2 r → TakesAll g order fit want file file' fails fails'' old (record { before = a; after = c }) new r
   file_ended (suc n) is more r at = absurd (omega (arith, is))
   file_ended zero is (gone, tells, more, none) r at = ended_so gone tells more.0 more.1 more.3 none r at
 
-  pub file_stopped : (stop : TakeStop) → StopsAfter want (length so_far.2) stop → TakesNext g order mid file' fails' fails'' old so_far.2 so_far.0 fit (record { before = b; after = c }) new (Err stop)
+  pub file_stopped : (stop : TakeStop) → StopsAfter want.length (length so_far.2) stop → TakesNext g order mid file' fails' fails'' old so_far.2 so_far.0 fit A (record { before = b; after = c }) new (Err stop)
       → TakesAll g order fit want file file' fails fails'' old (record { before = a; after = c }) new (Err stop)
   file_stopped (Cut kept) behind (gone, tells, more, none) = (
     so_far.0 ++ gone,
@@ -234,8 +242,9 @@ module _ {D : Type 0} (g : disk.Ghosts D) (order : Order) (fit : Bool) (file mid
     (so_far.2, (more.0, Consumes-trans file mid file' so_far.2 more.0 so_far.3 more.1, more.2, sym behind.0, behind.1, behind.2), more.4),
     none_both gone none,
   )
-  file_stopped (Length Short) behind more = absurd behind
-  file_stopped (Length Long) behind (gone, tells, more, none) = (
+  file_stopped (Differs Short) behind more = absurd behind
+  file_stopped (Differs Digest) behind more = absurd behind
+  file_stopped (Differs Long) behind (gone, tells, more, none) = (
     so_far.0 ++ gone,
     told_both gone tells,
     (so_far.2, (more.0, Consumes-trans file mid file' so_far.2 more.0 so_far.3 more.1, more.2, behind), more.4),
@@ -257,7 +266,7 @@ cut_there g order fit most old at raw first later kept takes same well =
     record { n = well.0; asked = well.1; within = well.2; at = at; raw = raw; first = first; later = later; all = refl; takes = takes; length = same; no_more = well.3 }
 
 -- nothing goes for the record
-pub filled_as : {D : Type 0} (g : disk.Ghosts D) (order : Order) (fit : Bool) (most want : Option ℕ) (file file' : Option (List ℕ)) (fails fails' : ℕ) (t : Telling) (old new : Parts D) (r : Result (Unit {0}) TakeStop)
+pub filled_as : {D : Type 0} (g : disk.Ghosts D) (order : Order) (fit : Bool) (most : Option ℕ) (want : Stated) (file file' : Option (List ℕ)) (fails fails' : ℕ) (t : Telling) (old new : Parts D) (r : Result (Unit {0}) TakeStop)
     → TakesAll g order fit want file file' fails fails' old t new r → CutsWell fit most r (state_of new) → FillsAll g order fit most want file file' fails fails' old t new r
 filled_as g order fit most want file file' fails fails' t old new (Ok u) (gone, tells, takes, none) well = (gone, tells, takes, none, tt)
 filled_as g order fit most want file file' fails fails' t old new (Err File) (gone, tells, takes, none) well = (gone, tells, takes, none, tt)
@@ -269,14 +278,14 @@ filled_as g order fit most want file file' fails fails' t old new (Err (Cut kept
   none,
   subst (λ (l : List (Going _)). IsShort g order fit most old l (Some kept)) (append-nil gone) (cut_there g order fit most old new takes.0 gone [] kept takes.2 takes.1.3 well),
 )
-filled_as g order fit most want file file' fails fails' t old new (Err (Length f)) (gone, tells, takes, none) well = (gone, tells, takes, none, tt)
+filled_as g order fit most want file file' fails fails' t old new (Err (Differs f)) (gone, tells, takes, none) well = (gone, tells, takes, none, tt)
 
 -- the answer where room is made for the record of a file that is cut
 abbrev pub then_cut : ℕ → Result (Unit {0}) TakeStop → Result (Unit {0}) TakeStop
 then_cut kept (Ok u) = Err (Cut kept)
 then_cut kept (Err stop) = Err stop
 
-pub room_at_cut : {D : Type 0} (g : disk.Ghosts D) (order : Order) (fit : Bool) (most want : Option ℕ) (file file' : Option (List ℕ)) (fails fails' : ℕ) (a b c : Sink) (old mid new : Parts D) (kept : ℕ) → fit ≡ true
+pub room_at_cut : {D : Type 0} (g : disk.Ghosts D) (order : Order) (fit : Bool) (most : Option ℕ) (want : Stated) (file file' : Option (List ℕ)) (fails fails' : ℕ) (a b c : Sink) (old mid new : Parts D) (kept : ℕ) → fit ≡ true
     → TakesAll g order fit want file file' fails fails' old (record { before = a; after = b }) mid (Err (Cut kept)) → CutsWell {A = Unit {0}} fit most (Err (Cut kept)) (state_of mid) → (r : Result (Unit {0}) TakeStop)
     → ((begun : Parts D) (so_far : List ℕ) (gone : List (Going D)) → TakesWhile g order begun so_far gone (Ok tt) mid → MakesRoom g order begun so_far gone (record { before = b; after = c }) new r)
     → FillsAll g order fit most want file file' fails fails' old (record { before = a; after = c }) new (then_cut kept r)
@@ -293,12 +302,12 @@ room_at_cut {D} g order fit most want file file' fails fails' a b c old mid new 
     )
     made (Err File) (more, told, takes) = absurd takes
     made (Err (Cut other)) (more, told, takes) = absurd takes
-    made (Err (Length f)) (more, told, takes) = absurd takes
+    made (Err (Differs f)) (more, told, takes) = absurd takes
     made (Err (Refused fault)) (more, told, takes) =
         (gone ++ more, tells_as (sym (texts_more gone more)) (tells_then tells told), inr (well.0, well.1, kept, taken.0, taken.1, takes), λ never. absurd (true≢false (sym asked ∙ never)), tt)
 
 -- room for the record, once all bytes are taken
-pub room_at_end : {D : Type 0} (g : disk.Ghosts D) (order : Order) (fit : Bool) (most want : Option ℕ) (file file' : Option (List ℕ)) (fails fails' : ℕ) (a b c : Sink) (old mid new : Parts D) → fit ≡ true
+pub room_at_end : {D : Type 0} (g : disk.Ghosts D) (order : Order) (fit : Bool) (most : Option ℕ) (want : Stated) (file file' : Option (List ℕ)) (fails fails' : ℕ) (a b c : Sink) (old mid new : Parts D) → fit ≡ true
     → TakesAll g order fit want file file' fails fails' old (record { before = a; after = b }) mid (Ok tt) → (r : Result (Unit {0}) TakeStop)
     → ((begun : Parts D) (so_far : List ℕ) (gone : List (Going D)) → TakesWhile g order begun so_far gone (Ok tt) mid → MakesRoom g order begun so_far gone (record { before = b; after = c }) new r)
     → FillsAll g order fit most want file file' fails fails' old (record { before = a; after = c }) new r
@@ -310,13 +319,13 @@ room_at_end g order fit most want file file' fails fails' a b c old mid new aske
         (gone ++ more, tells_as (sym (texts_more gone more)) (tells_then tells told), (taken.0, taken.1, taken.2, takes, taken.4), λ never. absurd (true≢false (sym asked ∙ never)), tt)
     made (Err File) (more, told, takes) = absurd takes
     made (Err (Cut kept)) (more, told, takes) = absurd takes
-    made (Err (Length f)) (more, told, takes) = absurd takes
+    made (Err (Differs f)) (more, told, takes) = absurd takes
     made (Err (Refused fault)) (more, told, takes) =
         (gone ++ more, tells_as (sym (texts_more gone more)) (tells_then tells told), inl (taken.0, taken.1, takes), λ never. absurd (true≢false (sym asked ∙ never)), tt)
 
 module _ {D : Type 0} (g : disk.Ghosts D) (order : Order) where
   -- a stream that is begun, and its file
-  pub stores : (fit : Bool) (most want : Option ℕ) (found : Result StreamFacts (List ℕ)) (file file' : Option (List ℕ)) (fails fails' : ℕ) (o p q : Sink) (old mid new : Parts D) (stored : Option ℕ)
+  pub stores : (fit : Bool) (most : Option ℕ) (want : Stated) (found : Result StreamFacts (List ℕ)) (file file' : Option (List ℕ)) (fails fails' : ℕ) (o p q : Sink) (old mid new : Parts D) (stored : Option ℕ)
       → TellsReply (record { before = o; after = p }) (λ text. Begins g old 0 found text mid true)
       → IsServed (state_of mid)
       → TellsReply (record { before = p; after = q }) (λ text. FillsAndEnds g order fit most want file file' fails fails' mid text new stored)
@@ -341,7 +350,7 @@ module _ {D : Type 0} (g : disk.Ghosts D) (order : Order) where
     tells_then first.2 rest.2,
   )
 
-  pub stores_none : (fit : Bool) (most want : Option ℕ) (found : Result StreamFacts (List ℕ)) (file : Option (List ℕ)) (fails : ℕ) (t : Telling) (old new : Parts D)
+  pub stores_none : (fit : Bool) (most : Option ℕ) (want : Stated) (found : Result StreamFacts (List ℕ)) (file : Option (List ℕ)) (fails : ℕ) (t : Telling) (old new : Parts D)
       → TellsReply t (λ text. Begins g old 0 found text new false)
       → TellsReply t (λ text. StoresStream g order fit most want file file fails fails old found text new None)
   stores_none fit most want found file fails t old new first = (
@@ -381,13 +390,13 @@ module _ {D : Type 0} (g : disk.Ghosts D) (order : Order) where
       (stage_of w.before old.in_doubt ∷ stage_of w.after (d.0 ++ old.in_doubt) ∷ m.0, m.1, (takes.3.stays, refl, refl, takes.4, d.1, refl, m.2))
 
   -- bytes that are taken, or refused, from any stage on
-  file_filling : (laws : Laws g) (most want : Option ℕ) (file file' : Option (List ℕ)) (fails fails' : ℕ) (gone : List (Going D)) (old : Stage D) (filled : Parts D) (r : Result (Unit {0}) TakeStop) → FillsFile most want file file' fails fails' (λ raw v. TakesWhile g order old.archive raw gone v filled) r → Filling gone old filled
+  file_filling : (laws : Laws g) (most : Option ℕ) (want : Stated) (file file' : Option (List ℕ)) (fails fails' : ℕ) (gone : List (Going D)) (old : Stage D) (filled : Parts D) (r : Result (Unit {0}) TakeStop) → FillsFile most want file file' fails fails' (λ raw v. TakesWhile g order old.archive raw gone v filled) r → Filling gone old filled
   file_filling laws most want file file' fails fails' gone old filled (Ok u) takes = filling laws gone old takes.0 (Ok tt) filled takes.3
   file_filling laws most want file file' fails fails' gone old filled (Err File) takes = filling laws gone old takes.0 (Ok tt) filled takes.3
   file_filling laws most want file file' fails fails' gone old filled (Err (Refused fault)) (inl takes) = filling laws gone old takes.0 (Err fault) filled takes.2
   file_filling laws most want file file' fails fails' gone old filled (Err (Refused fault)) (inr takes) = filling laws gone old takes.3 (Err fault) filled takes.5
   file_filling laws most want file file' fails fails' gone old filled (Err (Cut kept)) takes = filling laws gone old takes.0 (Ok tt) filled takes.2
-  file_filling laws most want file file' fails fails' gone old filled (Err (Length f)) takes = filling laws gone old takes.0 (Ok tt) filled takes.2
+  file_filling laws most want file file' fails fails' gone old filled (Err (Differs f)) takes = filling laws gone old takes.0 (Ok tt) filled takes.2
 
   -- the same from a stage before on that has the same cases
   pub earlier : (gone : List (Going D)) (old : Stage D) (mid filled : Parts D) → ChangesNoCase g old.archive mid → Filling gone (stage_of mid old.in_doubt) filled → Filling gone old filled
@@ -415,7 +424,7 @@ module _ {D : Type 0} (g : disk.Ghosts D) (order : Order) where
     end_reaches : (r : Result (Unit {0}) TakeStop) (reply : List ℕ) (stored : Option ℕ) → FileReplies g old.archive r reply new stored → Reaches g laws old new (end_of 0) reply
     end_reaches (Ok u) reply stored ends = ends_moves g laws old new 0 reply stored ends
     end_reaches (Err File) reply stored ends = still g laws old new (end_of 0) reply (stays_as g old.archive new ends.1)
-    end_reaches (Err (Length f)) reply stored ends = still g laws old new (end_of 0) reply (stays_as g old.archive new ends.1)
+    end_reaches (Err (Differs f)) reply stored ends = still g laws old new (end_of 0) reply (stays_as g old.archive new ends.1)
     end_reaches (Err (Cut kept)) reply stored ends = ends_moves g laws old new 0 reply stored ends
     end_reaches (Err (Refused fault)) reply stored ends = still g laws old new (end_of 0) reply (stays_as g old.archive new ends.1)
 
@@ -436,7 +445,7 @@ module _ {D : Type 0} (g : disk.Ghosts D) (order : Order) where
     pin_moves (Some seq) false last done pins = still g laws old new silence last (stays_as g old.archive new pins.1)
     pin_moves None pin last done pins = still g laws old new silence last (stays_as g old.archive new pins.1)
 
-  rest_moves : (laws : Laws g) (most want : Option ℕ) (file file' : Option (List ℕ)) (fails fails' : ℕ) (old : Stage D) (mid : Parts D) (gone : List (Going D)) (cut : Option ℕ) (filled new : Parts D) (accepted : Bool) (rest : List ℕ) (stored : Option ℕ) → ChangesNoCase g old.archive mid
+  rest_moves : (laws : Laws g) (most : Option ℕ) (want : Stated) (file file' : Option (List ℕ)) (fails fails' : ℕ) (old : Stage D) (mid : Parts D) (gone : List (Going D)) (cut : Option ℕ) (filled new : Parts D) (accepted : Bool) (rest : List ℕ) (stored : Option ℕ) → ChangesNoCase g old.archive mid
       → RestReplies g order most want file file' fails fails' mid accepted gone cut filled rest new stored → (f : Filling gone old filled) × Reaches g laws (stage_of filled f.1) new (end_of 0) rest
   rest_moves laws most want file file' fails fails' old mid gone cut filled new true rest stored begun goes =
       let f = earlier gone old mid filled begun (file_filling laws most want file file' fails fails' gone (stage_of mid old.in_doubt) filled goes.0 goes.1) in (
@@ -458,7 +467,7 @@ module _ {D : Type 0} (g : disk.Ghosts D) where
       let t = s.stores in
       let doubts : List Durable = r.0 ++ old.in_doubt in
       let m =
-      rest_moves g options.order laws options.cut options.length file file' fails fails' (stage_of s.retired doubts) t.mid t.gone t.cut t.filled s.ended t.accepted t.rest outcome.stored
+      rest_moves g options.order laws options.cut (stated_in options) file file' fails fails' (stage_of s.retired doubts) t.mid t.gone t.cut t.filled s.ended t.accepted t.rest outcome.stored
       (begins_stays g s.retired t.mid 0 found t.first t.accepted t.begins) t.goes_on in
       let later : List Durable = m.1.0 ++ m.0.1 in
       let l = label_moves g options.order laws (stage_of s.ended later) s.labelled outcome.stored options.label s.named outcome.labelled s.labels in
@@ -486,7 +495,7 @@ module _ {D : Type 0} (g : disk.Ghosts D) where
   pub stores_all : (file file' : Option (List ℕ)) (fails fails' : ℕ) (o p q r z : Sink) (old retired ended named new : Parts D) (asked : Option Policy) (found : Result StreamFacts (List ℕ)) (options : Options)
       (made : Bool) (stored : Option ℕ) (labelled pinned : Bool)
       → TellsReply (record { before = o; after = p }) (λ text. RetiresForStream g old asked found text retired made)
-      → TellsReply (record { before = p; after = q }) (λ text. StoresStream g options.order options.fit options.cut options.length file file' fails fails' retired found text ended stored)
+      → TellsReply (record { before = p; after = q }) (λ text. StoresStream g options.order options.fit options.cut (stated_in options) file file' fails fails' retired found text ended stored)
       → TellsReply (record { before = q; after = r }) (λ text. LabelsCase g ended stored options.label text named labelled)
       → TellsReply (record { before = r; after = z }) (λ text. PinsCase g named stored options.pin text new pinned)
       → TellsReply (record { before = o; after = z })

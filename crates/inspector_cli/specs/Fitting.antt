@@ -19,8 +19,10 @@ use Rattle.inspector_cli.specs.declared.fitting.Need.TheVariants.{Block, Record}
 use Rattle.inspector_cli.specs.declared.session.Order.{Order}
 use Rattle.inspector_cli.specs.declared.session.Order.TheVariants.{Oldest, Fair}
 use Rattle.inspector_cli.specs.declared.store.TakeStop.{TakeStop}
-use Rattle.inspector_cli.specs.declared.store.TakeStop.TheVariants.{File, Refused, Cut, Length}
-use Rattle.inspector_cli.specs.declared.store.LengthFault.TheVariants.{Short, Long}
+use Rattle.inspector_cli.specs.declared.store.TakeStop.TheVariants.{File, Refused, Cut, Differs}
+use Rattle.inspector_cli.specs.declared.stated.Difference.TheVariants.{Short, Long, Digest}
+use Rattle.inspector_cli.specs.declared.stated.Stated.{Stated}
+use Rattle.inspector_cli.specs.Stated.{HasOtherDigest, IsStated}
 use Rattle.script_streams.specs.Replies.{no_reply}
 use Rattle.archive_replies.specs.Reasons.{reason_of}
 use Rattle.archive_replies.specs.Texts.{dropped_line}
@@ -163,7 +165,7 @@ Advances most s (Ok (suc n)) s' = AdvancesBy most s (Ok tt) s'
 Advances most s (Err File) s' = s' ≡ s
 Advances most s (Err (Refused fault)) s' = RoomReply s 0 (Err fault) ⊎ AdvancesBy most s (Err fault) s'
 Advances most s (Err (Cut kept)) s' = ⊥
-Advances most s (Err (Length f)) s' = ⊥
+Advances most s (Err (Differs f)) s' = ⊥
 
 -- a step for a stream that is so far served: it is so then too, or it is refused as it may be
 abbrev pub ServesOn : {A : Type 0} → Order → Result A TakeStop → ArchiveState → Type 0
@@ -171,7 +173,7 @@ ServesOn order (Ok x) s = IsServed s
 ServesOn order (Err File) s = Unit {0}
 ServesOn order (Err (Refused fault)) s = IsSpent order fault s
 ServesOn order (Err (Cut kept)) s = IsServed s
-ServesOn order (Err (Length f)) s = Unit {0}
+ServesOn order (Err (Differs f)) s = Unit {0}
 
 -- A case goes, if there is no room for this and one may: there are fewer then.
 abbrev pub DropsOne : Order → Need → ArchiveState → Result Bool TakeStop → ArchiveState → Type 0
@@ -180,7 +182,7 @@ DropsOne order need s (Ok false) s' = (s' ≡ s) × HasMadeRoom need s'
 DropsOne order need s (Err File) s' = Unit {0}
 DropsOne order need s (Err (Refused fault)) s' = IsSpent order fault s'
 DropsOne order need s (Err (Cut kept)) s' = ⊥
-DropsOne order need s (Err (Length f)) s' = ⊥
+DropsOne order need s (Err (Differs f)) s' = ⊥
 
 -- cases go until there is room for this, or none may go any more
 abbrev pub DropsAll : Order → Need → ArchiveState → Result (Unit {0}) TakeStop → ArchiveState → Type 0
@@ -188,7 +190,7 @@ DropsAll order need s (Ok u) s' = (IsServed s → IsServed s') × HasMadeRoom ne
 DropsAll order need s (Err File) s' = Unit {0}
 DropsAll order need s (Err (Refused fault)) s' = IsSpent order fault s'
 DropsAll order need s (Err (Cut kept)) s' = ⊥
-DropsAll order need s (Err (Length f)) s' = ⊥
+DropsAll order need s (Err (Differs f)) s' = ⊥
 
 -- all bytes are taken: a block for the last ones is there, and room for the record, unless no case may go any more
 abbrev pub FillsServed : Order → Result (Unit {0}) TakeStop → ArchiveState → Type 0
@@ -196,15 +198,15 @@ FillsServed order (Ok u) s = IsServed s × HasMadeRoom Record s
 FillsServed order (Err File) s = Unit {0}
 FillsServed order (Err (Refused fault)) s = IsSpent order fault s
 FillsServed order (Err (Cut kept)) s = IsServed s × HasMadeRoom Record s
-FillsServed order (Err (Length f)) s = Unit {0}
+FillsServed order (Err (Differs f)) s = Unit {0}
 
--- no file is cut, and none differs from the length that was stated
+-- no file is cut, and none differs from what was stated
 abbrev pub IsUncut : {A : Type 0} → Result A TakeStop → Type 0
 IsUncut (Ok x) = Unit {0}
 IsUncut (Err File) = Unit {0}
 IsUncut (Err (Refused fault)) = Unit {0}
 IsUncut (Err (Cut kept)) = ⊥
-IsUncut (Err (Length f)) = ⊥
+IsUncut (Err (Differs f)) = ⊥
 
 -- how many bytes of a file are kept, if it is cut
 abbrev pub cut_of : {A : Type 0} → Result A TakeStop → Option ℕ
@@ -212,7 +214,7 @@ cut_of (Ok x) = None
 cut_of (Err File) = None
 cut_of (Err (Refused fault)) = None
 cut_of (Err (Cut kept)) = Some kept
-cut_of (Err (Length f)) = None
+cut_of (Err (Differs f)) = None
 
 -- a case that is not pinned, and has bytes: data blocks become free if it goes
 abbrev pub may_free : Case → Bool
@@ -245,18 +247,13 @@ abbrev pub IsUnder : Option ℕ → ℕ → Type 0
 IsUnder None taken = Unit {0}
 IsUnder (Some n) taken = taken < n
 
--- as many as were stated, if that was done
-abbrev pub IsStated : Option ℕ → ℕ → Type 0
-IsStated None taken = Unit {0}
-IsStated (Some n) taken = taken ≡ n
-
 -- If a file is cut by this step, it is so behind the bytes that were taken, which are some, and no more of it is kept.
 abbrev pub CutsBehind : {A : Type 0} → Bool → Option ℕ → ℕ → Result A TakeStop → ArchiveState → Type 0
 CutsBehind fit most taken (Ok x) s = Unit {0}
 CutsBehind fit most taken (Err File) s = Unit {0}
 CutsBehind fit most taken (Err (Refused fault)) s = Unit {0}
 CutsBehind fit most taken (Err (Cut kept)) s = (kept ≡ taken) × (0 < kept) × (n : ℕ) × (most ≡ Some n) × (kept ≤ n) × HasNoMore fit n kept s
-CutsBehind fit most taken (Err (Length f)) s = Unit {0}
+CutsBehind fit most taken (Err (Differs f)) s = Unit {0}
 
 -- the same of all steps
 abbrev pub CutsWell : {A : Type 0} → Bool → Option ℕ → Result A TakeStop → ArchiveState → Type 0
@@ -264,7 +261,7 @@ CutsWell fit most (Ok x) s = Unit {0}
 CutsWell fit most (Err File) s = Unit {0}
 CutsWell fit most (Err (Refused fault)) s = Unit {0}
 CutsWell fit most (Err (Cut kept)) s = (n : ℕ) × (most ≡ Some n) × (kept ≤ n) × HasNoMore fit n kept s
-CutsWell fit most (Err (Length f)) s = Unit {0}
+CutsWell fit most (Err (Differs f)) s = Unit {0}
 
 -- If a step finds that a file has more bytes than were stated, so many were taken. None that is cut has as many.
 abbrev pub MeetsLength : {A : Type 0} → Option ℕ → ℕ → Result A TakeStop → Type 0
@@ -272,17 +269,19 @@ MeetsLength want taken (Ok x) = Unit {0}
 MeetsLength want taken (Err File) = Unit {0}
 MeetsLength want taken (Err (Refused fault)) = Unit {0}
 MeetsLength want taken (Err (Cut kept)) = IsUnder want taken
-MeetsLength want taken (Err (Length Short)) = ⊥
-MeetsLength want taken (Err (Length Long)) = want ≡ Some taken
+MeetsLength want taken (Err (Differs Short)) = ⊥
+MeetsLength want taken (Err (Differs Long)) = want ≡ Some taken
+MeetsLength want taken (Err (Differs Digest)) = ⊥
 
--- A file has ended behind the bytes that were taken: they are as many as were stated, or fewer.
-abbrev pub EndsAt : Option ℕ → ℕ → Result (Unit {0}) TakeStop → Type 0
-EndsAt want taken (Ok u) = IsStated want taken
-EndsAt want taken (Err File) = ⊥
-EndsAt want taken (Err (Refused fault)) = ⊥
-EndsAt want taken (Err (Cut kept)) = ⊥
-EndsAt want taken (Err (Length Short)) = (n : ℕ) × (want ≡ Some n) × (taken < n)
-EndsAt want taken (Err (Length Long)) = ⊥
+-- A file has ended behind the bytes that were taken: they are as was stated; or they are fewer; or they have another digest.
+abbrev pub EndsAt : Stated → List ℕ → Result (Unit {0}) TakeStop → Type 0
+EndsAt want raw (Ok u) = IsStated want raw
+EndsAt want raw (Err File) = ⊥
+EndsAt want raw (Err (Refused fault)) = ⊥
+EndsAt want raw (Err (Cut kept)) = ⊥
+EndsAt want raw (Err (Differs Short)) = (n : ℕ) × (want.length ≡ Some n) × (length raw < n)
+EndsAt want raw (Err (Differs Long)) = ⊥
+EndsAt want raw (Err (Differs Digest)) = HasOtherDigest want raw
 
 -- Where a file is cut, if it is: only if so many bytes may be kept at most. The archive is `at` then, with the bytes that are kept, and the cases
 -- that went so far. Those that go later go for the record of its case.

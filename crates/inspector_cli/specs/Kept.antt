@@ -17,7 +17,7 @@ use Rattle.inspector_cli.specs.declared.session.StoreOutcome.{StoreOutcome}
 use Rattle.inspector_cli.specs.Headline.{Line, IsCrashSafe, HasFlag, answers_of, answer_of, begins_as, begun_in, last_moment}
 use Rattle.inspector_cli.specs.Session.{Streams}
 use Rattle.inspector_cli.specs.StoreHeadline.{Gone, IsStoreSafe}
-use Rattle.inspector_cli.specs.Storing.{KeepsOf, Options, retire_line, said_label}
+use Rattle.inspector_cli.specs.Storing.{KeepsOf, Options, retire_line, said_label, stated_in}
 use Rattle.inspector_cli.specs.Told.{Answer, MayDrop, what_of, parts_in}
 
 -- a case as it was stored: its number, its stream as it began, and its image; and its label, if one is named
@@ -144,11 +144,11 @@ ALineStoresACase {D} g = (naming : Naming) (t : Streams) (before after : D) (ans
     → (k : Kept) × (k.seq ≡ told) × (begun_in (begins_as naming) slot (map answer_of front) ≡ Some k.stream) × (parts_in slot (map answer_of front) ≡ Some k.image)
     × (k.label ≡ Some []) × HoldsKept k line.after.holds × (line.after.in_doubt ≡ [])
 
--- The same for a store: the case is the stream that was begun, with the bytes of FILE, or its first ones, if it was cut.
+-- The same for a store: the case is the stream that was begun, with the bytes of FILE, which are as was stated, or its first ones, if it was cut.
 abbrev pub AStoreStoresACase : {D : Type 0} → disk.Ghosts D → Type 0
 AStoreStoresACase {D} g = (t : Streams) (asked : Option Policy) (found : Result StreamFacts (List ℕ)) (given : Options) (before after : D) (answer : Result StoreOutcome LifeFault) (s : IsStoreSafe g t asked found given before after answer)
     (n : ℕ) → s.course.stored ≡ Some n
-    → (k : Kept) × (k.seq ≡ n) × (found ≡ Ok k.stream) × KeepsOf given.length t.input t.input' s.course.cut k.image × (k.label ≡ Some []) × HoldsKept k s.course.ended.holds × (s.course.ended.in_doubt ≡ [])
+    → (k : Kept) × (k.seq ≡ n) × (found ≡ Ok k.stream) × KeepsOf (stated_in given) t.input t.input' s.course.cut k.image × (k.label ≡ Some []) × HoldsKept k s.course.ended.holds × (s.course.ended.in_doubt ≡ [])
 
 -- A case that a store leaves, with nothing in doubt, is found whenever the machine stops from then on: after the case's end, if the
 -- label spares it, after the label, and after the pin.

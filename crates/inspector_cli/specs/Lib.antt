@@ -17,6 +17,7 @@ pub mod Headline
 pub mod StoreHeadline
 pub mod Kept
 pub mod Agreement
+pub mod Stated
 pub mod Fitting
 pub mod Bursts
 pub mod Deleting

@@ -13,6 +13,7 @@ use Rattle.script_streams.specs.Replies.{no_reply}
 use Rattle.journal_layout.specs.Case.{Case}
 use Rattle.inspector_cli.specs.Bursts.{admitted}
 use Rattle.inspector_cli.specs.declared.session.Order.{Order}
+use Rattle.inspector_cli.specs.declared.stated.Stated.{Stated}
 use Rattle.inspector_cli.specs.Fitting.{IsNext, may_go}
 use Rattle.inspector_cli.specs.Told.{is_no}
 use Rattle.inspector_cli.specs.declared.session.LifeFault.{LifeFault}
@@ -21,11 +22,11 @@ use Rattle.inspector_cli.specs.declared.session.StoreOutcome.{StoreOutcome}
 use Rattle.inspector_cli.specs.Headline.{Moment, LeadsOn, AreSafe, FindsSince}
 use Rattle.inspector_cli.specs.Life.{LifeEnds, StoresOver}
 use Rattle.inspector_cli.specs.Session.{Streams}
-use Rattle.inspector_cli.specs.Storing.{KeepsOf, Options, cut_text, retire_line, said_pin, said_label}
+use Rattle.inspector_cli.specs.Storing.{KeepsOf, Options, cut_text, retire_line, said_pin, said_label, stated_in}
 
--- A case is added after x: the one that the stream was begun as. Its image is all bytes of FILE, as many as were stated, if that
--- was done; or, if FILE is cut, so many of its first ones.
-pub record AddsCase (found : Result StreamFacts (List ℕ)) (want : Option ℕ) (file file' : Option (List ℕ)) (cut : Option ℕ) (x : Durable) (n : ℕ) (y : Durable) : Type 0 where
+-- A case is added after x: the one that the stream was begun as. Its image is all bytes of FILE, as many as were stated and with the
+-- SHA-256 that was, if that was done; or, if FILE is cut, so many of its first ones.
+pub record AddsCase (found : Result StreamFacts (List ℕ)) (want : Stated) (file file' : Option (List ℕ)) (cut : Option ℕ) (x : Durable) (n : ℕ) (y : Durable) : Type 0 where
   pub stream : StreamFacts
   pub begun : found ≡ Ok stream
   pub image : List ℕ
@@ -35,7 +36,7 @@ pub record AddsCase (found : Result StreamFacts (List ℕ)) (want : Option ℕ) 
   pub adds : y ≡ with_case x (record stream { len = length image }) blocks image
 
 -- the case of the number that is printed, or none
-abbrev pub StoresOrNot : Result StreamFacts (List ℕ) → Option ℕ → Option (List ℕ) → Option (List ℕ) → Option ℕ → Durable → Option ℕ → Durable → Type 0
+abbrev pub StoresOrNot : Result StreamFacts (List ℕ) → Stated → Option (List ℕ) → Option (List ℕ) → Option ℕ → Durable → Option ℕ → Durable → Type 0
 StoresOrNot found want file file' cut x (Some n) y = AddsCase found want file file' cut x n y
 StoresOrNot found want file file' cut x None y = y ≡ x
 
@@ -110,7 +111,7 @@ pub record IsStoreCourse {D : Type 0} (asked : Option Policy) (found : Result St
   pub goes : GoInTurn options.order c.retired c.gone c.filled
   -- nothing goes unless that is asked for
   pub unasked : options.fit ≡ false → c.gone ≡ []
-  pub stores : StoresOrNot found options.length file file' c.cut c.filled.holds c.stored c.ended.holds
+  pub stores : StoresOrNot found (stated_in options) file file' c.cut c.filled.holds c.stored c.ended.holds
   -- a case is stored only if nothing is in doubt
   pub sure : (n : ℕ) → c.stored ≡ Some n → c.filled.in_doubt ≡ []
   pub tells : TellsStored c.stored c.first c.reply
@@ -121,7 +122,7 @@ pub record IsStoreCourse {D : Type 0} (asked : Option Policy) (found : Result St
   -- only where the end is answered `no Disk` is a case in doubt
   pub doubts : List Durable
   pub in_doubt : c.ended.in_doubt ≡ doubts ++ c.filled.in_doubt
-  pub doubted : (doubts ≡ []) ⊎ ((c.reply ≡ no_reply (codes "Disk")) × AllByRecursion (λ (z : Durable). (n : ℕ) × AddsCase found options.length file file' c.cut c.filled.holds n z) doubts)
+  pub doubted : (doubts ≡ []) ⊎ ((c.reply ≡ no_reply (codes "Disk")) × AllByRecursion (λ (z : Durable). (n : ℕ) × AddsCase found (stated_in options) file file' c.cut c.filled.holds n z) doubts)
   pub gives_label : LeadsOn no_stream [] c.ended (said_label c.stored options.label) c.labels c.labelled
   pub gives_pin : LeadsOn no_stream [] c.labelled (said_pin c.stored options.pin) c.pins c.end
 

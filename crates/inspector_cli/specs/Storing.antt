@@ -23,12 +23,14 @@ use Rattle.inspector_cli.specs.declared.session.StoreOutcome.{StoreOutcome}
 use Rattle.inspector_cli.specs.declared.session.StoreOptions.{StoreOptions}
 use Rattle.inspector_cli.specs.declared.session.SessionFault.TheVariants.{ReadFailed, WriteFailed, TooManyReads}
 use Rattle.inspector_cli.specs.declared.store.TakeStop.{TakeStop}
-use Rattle.inspector_cli.specs.declared.store.TakeStop.TheVariants.{File, Refused, Cut, Length}
-use Rattle.inspector_cli.specs.declared.store.LengthFault.{LengthFault}
-use Rattle.inspector_cli.specs.declared.store.LengthFault.TheVariants.{Short, Long}
+use Rattle.inspector_cli.specs.declared.store.TakeStop.TheVariants.{File, Refused, Cut, Differs}
+use Rattle.inspector_cli.specs.declared.stated.Stated.{Stated}
+use Rattle.inspector_cli.specs.declared.stated.Difference.{Difference}
+use Rattle.inspector_cli.specs.declared.stated.Difference.TheVariants.{Short, Long, Digest}
 use Rattle.retention.specs.declared.Policy.{Policy}
 use Rattle.script_lines.specs.Said.{Said, silence, begin_exec, begin_core, end_of, delete_of, pin_of, label_of, retire_by, long_line}
-use Rattle.inspector_cli.specs.Fitting.{Going, IsGoing, IsServed, IsShort, IsStated, IsUnder, RefusedIfSpent, TakesWhile, cut_of, going_text}
+use Rattle.inspector_cli.specs.Stated.{HasOtherDigest, IsStated}
+use Rattle.inspector_cli.specs.Fitting.{Going, IsGoing, IsServed, IsShort, IsUnder, RefusedIfSpent, TakesWhile, cut_of, going_text}
 use Rattle.inspector_cli.specs.Session.{Streams}
 use Rattle.inspector_cli.specs.Stages.{Stage, Moves, IsFoundAfterAStop}
 use Rattle.script_streams.specs.Replies.{Telling, TellsText, no_reply}
@@ -48,49 +50,55 @@ line_stream naming _ = Err (codes "BadLine")
 abbrev pub Taking : Type 1
 Taking = List ℕ → Result (Unit {0}) ArchiveFault → Type 0
 
--- The bytes that are read of a file of which these bytes are kept: they are all, and it has ended, with the length that was stated, if one was.
--- Or it is cut: they are as many as is printed, some at least, and more follow; they are fewer than were stated.
-abbrev pub KeepsOf : Option ℕ → Option (List ℕ) → Option (List ℕ) → Option ℕ → List ℕ → Type 0
-KeepsOf want file file' None raw = Consumes file file' raw × IsAtEnd file' × IsStated want (length raw)
-KeepsOf want file file' (Some kept) raw = (more : List ℕ) × Consumes file file' (raw ++ more) × (0 < length more) × (length raw ≡ kept) × (0 < kept) × IsUnder want kept
+-- what is true of bytes that are taken in one step
+abbrev pub Adding : Type 1
+Adding = List ℕ → Type 0
 
--- How a file's length differs from the one that was stated. It ends with these bytes, which are fewer; or these are as many, and more
--- follow.
-abbrev pub Differs : Option ℕ → Option (List ℕ) → Option (List ℕ) → List ℕ → LengthFault → Type 0
-Differs want file file' raw Short = Consumes file file' raw × IsAtEnd file' × (n : ℕ) × (want ≡ Some n) × (length raw < n)
-Differs want file file' raw Long = (more : List ℕ) × Consumes file file' (raw ++ more) × (0 < length more) × (want ≡ Some (length raw))
+-- The bytes that are read of a file of which these bytes are kept: they are all, and it has ended, with the length and the SHA-256 that were
+-- stated, if that was done. Or it is cut: they are as many as is printed, some at least, and more follow; they are fewer than were stated.
+abbrev pub KeepsOf : Stated → Option (List ℕ) → Option (List ℕ) → Option ℕ → List ℕ → Type 0
+KeepsOf want file file' None raw = Consumes file file' raw × IsAtEnd file' × IsStated want raw
+KeepsOf want file file' (Some kept) raw = (more : List ℕ) × Consumes file file' (raw ++ more) × (0 < length more) × (length raw ≡ kept) × (0 < kept) × IsUnder want.length kept
+
+-- How a file differs from what was stated of it. It ends with these bytes, which are fewer; or these are as many, and more follow; or it ends
+-- with these, which are as many, if that was stated, and have another SHA-256.
+abbrev pub DiffersBy : Stated → Option (List ℕ) → Option (List ℕ) → List ℕ → Difference → Type 0
+DiffersBy want file file' raw Short = Consumes file file' raw × IsAtEnd file' × (n : ℕ) × (want.length ≡ Some n) × (length raw < n)
+DiffersBy want file file' raw Long = (more : List ℕ) × Consumes file file' (raw ++ more) × (0 < length more) × (want.length ≡ Some (length raw))
+DiffersBy want file file' raw Digest = Consumes file file' raw × IsAtEnd file' × HasOtherDigest want raw
 
 -- the bytes of a file are taken to its end; or to the first that are refused; or it could not be read on, or 2^40 reads
--- were made and each gave a byte, and those that were read are taken; or it is cut, and those before the cut are taken; or its
--- length is not the one that was stated, and those before its end, or before the first that is too many, are taken
-abbrev pub TakesFile : Option ℕ → Option (List ℕ) → Option (List ℕ) → ℕ → ℕ → Taking → Result (Unit {0}) TakeStop → Type 0
+-- were made and each gave a byte, and those that were read are taken; or it is cut, and those before the cut are taken; or it is
+-- not the one that was stated, and those before its end, or before the first that is too many, are taken
+abbrev pub TakesFile : Stated → Option (List ℕ) → Option (List ℕ) → ℕ → ℕ → Taking → Result (Unit {0}) TakeStop → Type 0
 TakesFile want file file' fails fails' T (Ok u) =
-    (raw : List ℕ) × Consumes file file' raw × IsAtEnd file' × T raw (Ok tt) × IsStated want (length raw)
+    (raw : List ℕ) × Consumes file file' raw × IsAtEnd file' × T raw (Ok tt) × IsStated want raw
 TakesFile want file file' fails fails' T (Err File) =
     (raw : List ℕ) × Consumes file file' raw × (HasRisen fails fails' ⊎ (2 ^ 40 ≤ length raw)) × T raw (Ok tt)
 TakesFile want file file' fails fails' T (Err (Refused fault)) =
     (raw : List ℕ) × Consumes file file' raw × T raw (Err fault)
 TakesFile want file file' fails fails' T (Err (Cut kept)) =
     (raw : List ℕ) × KeepsOf want file file' (Some kept) raw × T raw (Ok tt)
-TakesFile want file file' fails fails' T (Err (Length f)) =
-    (raw : List ℕ) × Differs want file file' raw f × T raw (Ok tt)
+TakesFile want file file' fails fails' T (Err (Differs f)) =
+    (raw : List ℕ) × DiffersBy want file file' raw f × T raw (Ok tt)
 
 -- the next bytes of a file are taken after those so far, as many as is said, or there are none; or they are refused, or could not be
 -- read; or they are there, and are not taken
-abbrev pub TakesMore : Option (List ℕ) → Option (List ℕ) → ℕ → ℕ → List ℕ → Taking → Result ℕ TakeStop → Type 0
-TakesMore file file' fails fails' so_far T (Ok zero) =
-    Consumes file file' [] × IsAtEnd file' × (fails' ≡ fails) × T so_far (Ok tt)
-TakesMore file file' fails fails' so_far T (Ok (suc n)) =
-    (raw : List ℕ) × Consumes file file' raw × (length raw ≡ suc n) × (fails' ≡ fails) × T (so_far ++ raw) (Ok tt)
-TakesMore file file' fails fails' so_far T (Err File) =
+abbrev pub TakesMore : Option (List ℕ) → Option (List ℕ) → ℕ → ℕ → List ℕ → Adding → Taking → Result ℕ TakeStop → Type 0
+TakesMore file file' fails fails' so_far A T (Ok zero) =
+    Consumes file file' [] × IsAtEnd file' × (fails' ≡ fails) × T so_far (Ok tt) × A []
+TakesMore file file' fails fails' so_far A T (Ok (suc n)) =
+    (raw : List ℕ) × Consumes file file' raw × (length raw ≡ suc n) × (fails' ≡ fails) × T (so_far ++ raw) (Ok tt) × A raw
+TakesMore file file' fails fails' so_far A T (Err File) =
     Consumes file file' [] × HasRisen fails fails' × T so_far (Ok tt)
-TakesMore file file' fails fails' so_far T (Err (Refused fault)) =
+TakesMore file file' fails fails' so_far A T (Err (Refused fault)) =
     (raw : List ℕ) × Consumes file file' raw × (fails' ≡ fails) × T (so_far ++ raw) (Err fault)
-TakesMore file file' fails fails' so_far T (Err (Cut kept)) =
+TakesMore file file' fails fails' so_far A T (Err (Cut kept)) =
     (raw : List ℕ) × Consumes file file' raw × (0 < length raw) × (fails' ≡ fails) × T so_far (Ok tt)
-TakesMore file file' fails fails' so_far T (Err (Length Short)) = ⊥
-TakesMore file file' fails fails' so_far T (Err (Length Long)) =
+TakesMore file file' fails fails' so_far A T (Err (Differs Short)) = ⊥
+TakesMore file file' fails fails' so_far A T (Err (Differs Long)) =
     (raw : List ℕ) × Consumes file file' raw × (0 < length raw) × (fails' ≡ fails) × T so_far (Ok tt)
+TakesMore file file' fails fails' so_far A T (Err (Differs Digest)) = ⊥
 
 -- Whether a file goes on, which stops it for this reason; nothing is taken of it.
 abbrev pub LooksPast : Option (List ℕ) → Option (List ℕ) → ℕ → ℕ → TakeStop → Result ℕ TakeStop → Type 0
@@ -105,7 +113,7 @@ AfterRoom T so_far (Ok u) = T so_far (Ok tt)
 AfterRoom T so_far (Err File) = ⊥
 AfterRoom T so_far (Err (Refused fault)) = T so_far (Err fault)
 AfterRoom T so_far (Err (Cut kept)) = ⊥
-AfterRoom T so_far (Err (Length f)) = ⊥
+AfterRoom T so_far (Err (Differs f)) = ⊥
 
 -- Cases go, and are printed, while this much was taken.
 abbrev pub MakesRoom : {D : Type 0} → disk.Ghosts D → Order → Parts D → List ℕ → List (Going D) → Telling → Parts D → Result (Unit {0}) TakeStop → Type 0
@@ -122,35 +130,36 @@ abbrev pub GoesNext : {D : Type 0} → disk.Ghosts D → Order → Parts D → L
 GoesNext g order begun so_far gone t new r = MakesRoom g order begun so_far gone t new (stop_of r)
 
 -- the next bytes of a file are taken, and cases go, and are printed
-abbrev pub TakesNext : {D : Type 0} → disk.Ghosts D → Order → Option (List ℕ) → Option (List ℕ) → ℕ → ℕ → Parts D → List ℕ → List (Going D) → Bool → Telling → Parts D → Result ℕ TakeStop → Type 0
-TakesNext {D} g order file file' fails fails' begun so_far gone fit t new r =
-    (more : List (Going D)) × TellsText t (flat_map going_text more) × TakesMore file file' fails fails' so_far (λ raw v. TakesWhile g order begun raw (gone ++ more) v new) r × (fit ≡ false → more ≡ [])
+abbrev pub TakesNext : {D : Type 0} → disk.Ghosts D → Order → Option (List ℕ) → Option (List ℕ) → ℕ → ℕ → Parts D → List ℕ → List (Going D) → Bool → Adding → Telling → Parts D → Result ℕ TakeStop → Type 0
+TakesNext {D} g order file file' fails fails' begun so_far gone fit A t new r =
+    (more : List (Going D)) × TellsText t (flat_map going_text more) × TakesMore file file' fails fails' so_far A (λ raw v. TakesWhile g order begun raw (gone ++ more) v new) r × (fit ≡ false → more ≡ [])
 
 -- all bytes of a file are taken, or the first that are refused, and cases go, and are printed, if that is asked for
-abbrev pub TakesAll : {D : Type 0} → disk.Ghosts D → Order → Bool → Option ℕ → Option (List ℕ) → Option (List ℕ) → ℕ → ℕ → Parts D → Telling → Parts D → Result (Unit {0}) TakeStop → Type 0
+abbrev pub TakesAll : {D : Type 0} → disk.Ghosts D → Order → Bool → Stated → Option (List ℕ) → Option (List ℕ) → ℕ → ℕ → Parts D → Telling → Parts D → Result (Unit {0}) TakeStop → Type 0
 TakesAll {D} g order fit want file file' fails fails' old t new r =
     (gone : List (Going D)) × TellsText t (flat_map going_text gone) × TakesFile want file file' fails fails' (λ raw v. TakesWhile g order old raw gone v new) r × (fit ≡ false → gone ≡ [])
 
 -- the bytes of a file are taken, and then cases may go for the record of its case: of a file that was cut, one may not be deleted then
-abbrev pub FillsFile : Option ℕ → Option ℕ → Option (List ℕ) → Option (List ℕ) → ℕ → ℕ → Taking → Result (Unit {0}) TakeStop → Type 0
+abbrev pub FillsFile : Option ℕ → Stated → Option (List ℕ) → Option (List ℕ) → ℕ → ℕ → Taking → Result (Unit {0}) TakeStop → Type 0
 FillsFile most want file file' fails fails' T (Ok u) = TakesFile want file file' fails fails' T (Ok u)
 FillsFile most want file file' fails fails' T (Err File) = TakesFile want file file' fails fails' T (Err File)
 FillsFile most want file file' fails fails' T (Err (Cut kept)) = TakesFile want file file' fails fails' T (Err (Cut kept))
-FillsFile most want file file' fails fails' T (Err (Length f)) = TakesFile want file file' fails fails' T (Err (Length f))
+FillsFile most want file file' fails fails' T (Err (Differs f)) = TakesFile want file file' fails fails' T (Err (Differs f))
 FillsFile most want file file' fails fails' T (Err (Refused fault)) =
     TakesFile want file file' fails fails' T (Err (Refused fault))
     ⊎ ((n : ℕ) × (most ≡ Some n) × (kept : ℕ) × (raw : List ℕ) × KeepsOf want file file' (Some kept) raw × T raw (Err fault))
 
 -- all of that, with the cases that go, and are printed
-abbrev pub FillsAll : {D : Type 0} → disk.Ghosts D → Order → Bool → Option ℕ → Option ℕ → Option (List ℕ) → Option (List ℕ) → ℕ → ℕ → Parts D → Telling → Parts D → Result (Unit {0}) TakeStop → Type 0
+abbrev pub FillsAll : {D : Type 0} → disk.Ghosts D → Order → Bool → Option ℕ → Stated → Option (List ℕ) → Option (List ℕ) → ℕ → ℕ → Parts D → Telling → Parts D → Result (Unit {0}) TakeStop → Type 0
 FillsAll {D} g order fit most want file file' fails fails' old t new r =
     (gone : List (Going D)) × TellsText t (flat_map going_text gone) × FillsFile most want file file' fails fails' (λ raw v. TakesWhile g order old raw gone v new) r × (fit ≡ false → gone ≡ [])
     × IsShort g order fit most old gone (cut_of r)
 
--- why a stream is refused whose length is not the one that was stated
-abbrev pub length_reason : LengthFault → List ℕ
-length_reason Short = codes "Short"
-length_reason Long = codes "TooLong"
+-- why a stream is refused that is not the one that was stated
+abbrev pub difference_reason : Difference → List ℕ
+difference_reason Short = codes "Short"
+difference_reason Long = codes "TooLong"
+difference_reason Digest = codes "Differs"
 
 -- the reply after the bytes, and the case's number if it is stored
 abbrev pub FileReplies : {D : Type 0} → disk.Ghosts D → Parts D → Result (Unit {0}) TakeStop → List ℕ → Parts D → Option ℕ → Type 0
@@ -158,7 +167,7 @@ FileReplies g old (Ok u) reply new stored = Ends g old 0 reply new stored
 FileReplies g old (Err File) reply new stored = (reply ≡ no_reply (codes "File")) × (new ≡ old) × (stored ≡ None)
 FileReplies g old (Err (Refused fault)) reply new stored = (reply ≡ no_reply (reason_of fault)) × (new ≡ old) × (stored ≡ None)
 FileReplies g old (Err (Cut kept)) reply new stored = Ends g old 0 reply new stored
-FileReplies g old (Err (Length f)) reply new stored = (reply ≡ no_reply (length_reason f)) × (new ≡ old) × (stored ≡ None)
+FileReplies g old (Err (Differs f)) reply new stored = (reply ≡ no_reply (difference_reason f)) × (new ≡ old) × (stored ≡ None)
 
 -- `cut KEPT`
 abbrev pub cut_line : ℕ → List ℕ
@@ -172,21 +181,21 @@ cut_text None stored = []
 
 -- a file after a first line that was accepted or not, with the cases that go meanwhile, the place at which it is cut, if it is, and the archive
 -- when its bytes are taken: if the line was not accepted, none is read
-abbrev pub RestReplies : {D : Type 0} → disk.Ghosts D → Order → Option ℕ → Option ℕ → Option (List ℕ) → Option (List ℕ) → ℕ → ℕ → Parts D → Bool → List (Going D) → Option ℕ → Parts D → List ℕ → Parts D → Option ℕ → Type 0
+abbrev pub RestReplies : {D : Type 0} → disk.Ghosts D → Order → Option ℕ → Stated → Option (List ℕ) → Option (List ℕ) → ℕ → ℕ → Parts D → Bool → List (Going D) → Option ℕ → Parts D → List ℕ → Parts D → Option ℕ → Type 0
 RestReplies g order most want file file' fails fails' old true gone cut filled reply new stored =
     (taken : Result (Unit {0}) TakeStop) × FillsFile most want file file' fails fails' (λ raw r. TakesWhile g order old raw gone r filled) taken × FileReplies g filled taken reply new stored × (cut ≡ cut_of taken)
 RestReplies g order most want file file' fails fails' old false gone cut filled reply new stored =
     (file' ≡ file) × (fails' ≡ fails) × (filled ≡ old) × (reply ≡ []) × (new ≡ old) × (stored ≡ None) × (gone ≡ []) × (cut ≡ None)
 
 -- all of that for a stream that has begun: the cases that go are printed, then a cut, and then the reply
-abbrev pub FillsAndEnds : {D : Type 0} → disk.Ghosts D → Order → Bool → Option ℕ → Option ℕ → Option (List ℕ) → Option (List ℕ) → ℕ → ℕ → Parts D → List ℕ → Parts D → Option ℕ → Type 0
+abbrev pub FillsAndEnds : {D : Type 0} → disk.Ghosts D → Order → Bool → Option ℕ → Stated → Option (List ℕ) → Option (List ℕ) → ℕ → ℕ → Parts D → List ℕ → Parts D → Option ℕ → Type 0
 FillsAndEnds {D} g order fit most want file file' fails fails' old text new stored =
     (gone : List (Going D)) × (cut : Option ℕ) × (filled : Parts D) × (rest : List ℕ) × (text ≡ flat_map going_text gone ++ (cut_text cut stored ++ rest)) × (fit ≡ false → gone ≡ [])
     × RestReplies g order most want file file' fails fails' old true gone cut filled rest new stored
     × (fit ≡ true → IsServed (state_of old) → RefusedIfSpent order rest (state_of filled)) × IsShort g order fit most old gone cut
 
 -- a stream that is begun, or why it is not, and its file: the replies, and the case's number if it is stored
-pub record StoresStream {D : Type 0} (g : disk.Ghosts D) (order : Order) (fit : Bool) (most want : Option ℕ) (file file' : Option (List ℕ)) (fails fails' : ℕ) (old : Parts D) (found : Result StreamFacts (List ℕ))
+pub record StoresStream {D : Type 0} (g : disk.Ghosts D) (order : Order) (fit : Bool) (most : Option ℕ) (want : Stated) (file file' : Option (List ℕ)) (fails fails' : ℕ) (old : Parts D) (found : Result StreamFacts (List ℕ))
     (replies : List ℕ) (new : Parts D) (stored : Option ℕ) : Type 0 where
   pub first : List ℕ
   pub mid : Parts D
@@ -272,11 +281,17 @@ pub record Options : Type 0 where
   pub cut : Option ℕ
   -- how many bytes the stream has, if that is stated
   pub length : Option ℕ
+  -- and their SHA-256
+  pub digest : Option (List ℕ)
   -- how many cores of one program may be stored
   pub burst : Option Burst
 
 abbrev pub options_asked : StoreOptions → Options
-options_asked options = record { label = label_asked options.label; pin = options.pin; fit = options.fit; order = options.order; cut = options.cut; length = options.length; burst = options.burst }
+options_asked options = record { label = label_asked options.label; pin = options.pin; fit = options.fit; order = options.order; cut = options.cut; length = options.length; digest = options.digest; burst = options.burst }
+
+-- what they state of the stream
+abbrev pub stated_in : Options → Stated
+stated_in options = record { length = options.length; digest = options.digest }
 
 -- the retirement for a stream by a policy, the stream with its file, and then the label and the pin of its case
 pub record Stores {D : Type 0} (g : disk.Ghosts D) (file file' : Option (List ℕ)) (fails fails' : ℕ) (old : Parts D) (asked : Option Policy) (found : Result StreamFacts (List ℕ)) (options : Options)
@@ -288,7 +303,7 @@ pub record Stores {D : Type 0} (g : disk.Ghosts D) (file file' : Option (List �
   pub more : List ℕ
   -- when the case is stored, or the stream is refused
   pub ended : Parts D
-  pub stores : StoresStream g options.order options.fit options.cut options.length file file' fails fails' retired found more ended outcome.stored
+  pub stores : StoresStream g options.order options.fit options.cut (stated_in options) file file' fails fails' retired found more ended outcome.stored
   pub named : List ℕ
   -- when the case has its label, if it is to have one
   pub labelled : Parts D

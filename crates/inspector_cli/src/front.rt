@@ -1,18 +1,21 @@
-// The bytes of a file: all, or its first ones, if it is cut; as many as were stated.
+// The bytes of a file: all, or its first ones, if it is cut; those that were stated.
 ghost use Rattle.std.specs.Prelude.{◌≡◌, ◌+◌, ◌<◌, ◌≤◌, ◌++◌, ℕ, true, false, List, [], Ok, Some, IfOk};
 ghost use Rattle.intake.specs.Parts.{Parts, state_of};
-ghost use Rattle.inspector_cli.specs.Fitting.{CutsBehind, CutsWell, EndsAt, Going, IsServed, IsUnder, IsWalled, IsWithin, MeetsLength, ServesOn, TakesWhile};
+ghost use Rattle.inspector_cli.specs.Fitting.{CutsBehind, CutsWell, Going, IsServed, IsUnder, IsWalled, IsWithin, MeetsLength, ServesOn, TakesWhile};
 ghost use Rattle.inspector_cli.specs.Reply.{Ends, Takes};
 ghost use Rattle.script_streams.specs.Replies.{TellsReply, TellsText, telling};
+ghost use Rattle.inspector_cli.specs.Stated.{HashesOn};
 ghost use Rattle.inspector_cli.specs.Storing.{LooksPast, TakesAll, TakesNext, cut_line, cut_text};
 
 use crate::fitting::{lacks_block, may_free};
 use crate::session::Order;
-use crate::store::{LengthFault, MOST_BYTES, MOST_READS, TakeStop, take_next};
+use crate::stated::{Difference, Stated, end_at, hasher_for};
+use crate::store::{MOST_BYTES, MOST_READS, TakeStop, take_next};
 use archive_replies::tell_stored;
 use disk_model::Disk;
 use intake::Archive;
 use script_streams::{Input, Output, Reply};
+use sha2::Sha256;
 
 // Makes the stream in slot 0 a case, of a file that was cut after these bytes. Returns its number, if it is stored: then the cut is printed
 // before that.
@@ -47,43 +50,43 @@ fn tell_cut<O: Output>(reply: &mut Reply<'_, O>, kept: u64)
 }
 
 // Takes the bytes of a file into the stream in slot 0, for which cases go, if they may. If it may be cut, it is so where no more may be
-// taken, or no more find room. If its length is stated, it has to have that, or be cut before.
+// taken, or no more find room. If its length is stated, or its digest, it has to have that, or be cut before.
 pub(crate) fn take_file<I: Input, O: Output, D: Disk>(
     fit: bool,
     order: Order,
     cut: Option<u64>,
-    length: Option<u64>,
+    stated: Stated,
     file: &mut I,
     reply: &mut Reply<'_, O>,
     archive: &mut Archive<D>,
 ) -> Result<(), TakeStop>
     requires takes { Takes D.Disk archive.old 0 [] (Ok tt) archive.old }
     requires some { IsUnder cut 0 }
-    ensures all { TakesAll D.Disk order fit length (I.remaining file.old) (I.remaining file.new) (I.failures file.old) (I.failures file.new)
+    ensures all { TakesAll D.Disk order fit stated (I.remaining file.old) (I.remaining file.new) (I.failures file.old) (I.failures file.new)
         archive.old (telling O.Output reply.old reply.new) archive.new result }
     ensures served { fit ≡ true → IsServed (state_of archive.old) → ServesOn order result (state_of archive.new) }
     ensures well { CutsWell fit cut result (state_of archive.new) }
 {
     let mut taken: u64 = 0;
+    let mut hasher = hasher_for(stated.digest);
     for _ in 0..MOST_READS {
-        let count = take_step(fit, order, cut, length, taken, file, reply, archive)?;
+        let count = take_step(
+            fit,
+            order,
+            cut,
+            stated.length,
+            taken,
+            &mut hasher,
+            file,
+            reply,
+            archive,
+        )?;
         if count == 0 {
-            return end_at(length, taken);
+            return end_at(stated, taken, hasher);
         }
         taken += count as u64;
     }
     Err(TakeStop::File)
-}
-
-// Whether a file that ended behind so many bytes has the length that was stated, if one was.
-fn end_at(length: Option<u64>, taken: u64) -> Result<(), TakeStop>
-    requires { IsWithin length taken }
-    ensures { EndsAt length taken result }
-{
-    match length {
-        Some(stated) if taken < stated => Err(TakeStop::Length(LengthFault::Short)),
-        _ => Ok(()),
-    }
 }
 
 // Takes the next bytes of a file into the stream in slot 0, which has taken so many; or finds that it is to be cut, or is longer than was
@@ -94,6 +97,7 @@ fn take_step<I: Input, O: Output, D: Disk>(
     cut: Option<u64>,
     length: Option<u64>,
     taken: u64,
+    hasher: &mut Option<Sha256>,
     file: &mut I,
     reply: &mut Reply<'_, O>,
     archive: &mut Archive<D>,
@@ -104,7 +108,7 @@ fn take_step<I: Input, O: Output, D: Disk>(
     ensures next { (begun : Parts D) (so_far : List ℕ) (gone : List (Going D))
         → TakesWhile D.Disk order begun so_far gone (Ok tt) archive.old
         → TakesNext D.Disk order (I.remaining file.old) (I.remaining file.new) (I.failures file.old) (I.failures file.new)
-        begun so_far gone fit (telling O.Output reply.old reply.new) archive.new result }
+        begun so_far gone fit (HashesOn hasher.old hasher.new) (telling O.Output reply.old reply.new) archive.new result }
     ensures served { fit ≡ true → IsServed (state_of archive.old) → ServesOn order result (state_of archive.new) }
     ensures behind { CutsBehind fit cut taken result (state_of archive.new) }
     ensures meets { MeetsLength length taken result }
@@ -113,13 +117,13 @@ fn take_step<I: Input, O: Output, D: Disk>(
     ensures few { IfOk result (λ n. n ≤ 4096) }
 {
     if is_reached(length, taken) {
-        return look_past(TakeStop::Length(LengthFault::Long), file);
+        return look_past(TakeStop::Differs(Difference::Long), file);
     }
     if is_reached(cut, taken) || cut.is_some() && is_walled(fit, taken, archive) {
         return look_past(TakeStop::Cut(taken), file);
     }
     let size = left_of(cut, taken).min(left_of(length, taken));
-    take_next(fit, order, size, file, reply, archive)
+    take_next(fit, order, size, hasher, file, reply, archive)
 }
 
 // Whether so many bytes are those of a bound, if there is one.

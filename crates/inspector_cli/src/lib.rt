@@ -18,6 +18,7 @@ mod retiring;
 mod run;
 mod script;
 mod session;
+mod stated;
 mod store;
 mod store_life;
 mod stored;

@@ -31,6 +31,8 @@ pub struct StoreOptions {
     /// How many bytes the stream has, if that is known before. One that ends earlier, and is not cut before, is refused as `Short`, and one
     /// that goes on as `TooLong`.
     pub length: Option<u64>,
+    /// The SHA-256 of the stream's bytes, if that is known before. One that has another, and is not cut before, is refused as `Differs`.
+    pub digest: Option<[u8; 32]>,
     /// A core is not stored if that would be one too many of its program: the reason is `Burst`.
     pub burst: Option<Burst>,
 }

@@ -8,7 +8,8 @@ ghost use Rattle.inspector_cli.specs.Bursts.{admitted};
 ghost use Rattle.inspector_cli.specs.Reply.{Begins, Takes};
 ghost use Rattle.script_streams.specs.Replies.{TellsReply, telling};
 ghost use Rattle.inspector_cli.specs.Session.{streams_of};
-ghost use Rattle.inspector_cli.specs.Storing.{StoreEnds, Stores, StoresStream, FillsAndEnds, PinsCase, LabelsCase, label_asked, options_asked, FillsAll, TakesAll, TakesNext, TakesMore, IsSlotQuiet, length_reason};
+ghost use Rattle.inspector_cli.specs.Stated.{HashesOn};
+ghost use Rattle.inspector_cli.specs.Storing.{StoreEnds, Stores, StoresStream, FillsAndEnds, PinsCase, LabelsCase, label_asked, options_asked, FillsAll, TakesAll, TakesNext, TakesMore, IsSlotQuiet, difference_reason};
 
 use crate::answers::{answer_end, answer_label, answer_pin};
 use crate::begin::answer_begin;
@@ -17,12 +18,14 @@ use crate::fitting::{Need, lacks_block, make_room};
 use crate::front::{answer_front, take_file};
 use crate::retiring::retire_first;
 use crate::session::{Order, SessionFault, StoreOptions, StoreOutcome};
+use crate::stated::{Difference, Stated, hash_on};
 use archive_replies::reason;
 use arrayvec::ArrayVec;
 use disk_model::Disk;
 use intake::{Archive, ArchiveFault, calls_lead_from_mark_to_mark, found_after_a_stop};
 use retention::Policy;
 use script_streams::{Input, Output, Reply, tell_no};
+use sha2::Sha256;
 use stream_names::NewStream;
 
 // The most bytes that one read takes: those of a block.
@@ -40,17 +43,8 @@ pub(crate) enum TakeStop {
     Refused(ArchiveFault),
     /// So many were taken, and are kept. More follow.
     Cut(u64),
-    /// It has not the length that was stated.
-    Length(LengthFault),
-}
-
-/// How a file's length differs from the one that was stated.
-#[derive(Clone, Copy)]
-pub(crate) enum LengthFault {
-    /// The file ends before it.
-    Short,
-    /// The file goes on behind it.
-    Long,
+    /// It is not the one that was stated.
+    Differs(Difference),
 }
 
 /// Stores one stream, with these options. A policy, if one is given, is carried out before it.
@@ -73,6 +67,8 @@ pub(crate) enum LengthFault {
 /// - If the length of `file` is stated, a case is stored only if its image has it, or `file` was cut before. A `file` that ends earlier is a
 /// step that is refused with the reply `no Short`. One that goes on is one with `no TooLong`: its first byte that is too many is read, and
 ///   none after it.
+/// - If the SHA-256 of `file` is stated (FIPS 180-4), a case is stored only if its image has it, or `file` was cut before. A `file` that ends
+///   with another one, and with the length that was stated, if that was done, is a step that is refused with the reply `no Differs`.
 /// - Once the case is stored, it gets its label as by the line `label` of a session, and then it is pinned as by the line `pin`.
 ///   A case whose label or pin is refused stays.
 ///
@@ -123,7 +119,10 @@ fn answer_all<I: Input, O: Output, D: Disk>(
         options.fit,
         options.order,
         options.cut,
-        options.length,
+        Stated {
+            length: options.length,
+            digest: options.digest,
+        },
         found,
         file,
         reply,
@@ -180,20 +179,20 @@ fn answer_store<I: Input, O: Output, D: Disk>(
     fit: bool,
     order: Order,
     cut: Option<u64>,
-    length: Option<u64>,
+    stated: Stated,
     found: Result<NewStream, &'static [u8]>,
     file: &mut I,
     reply: &mut Reply<'_, O>,
     archive: &mut Archive<D>,
 ) -> Option<u32>
-    ensures { TellsReply (telling O.Output reply.old reply.new) (λ text. StoresStream D.Disk order fit cut length (I.remaining file.old) (I.remaining file.new) (I.failures file.old) (I.failures file.new)
+    ensures { TellsReply (telling O.Output reply.old reply.new) (λ text. StoresStream D.Disk order fit cut stated (I.remaining file.old) (I.remaining file.new) (I.failures file.old) (I.failures file.new)
         archive.old (stream_found found.entry) text archive.new result) }
 {
     let is_begun = answer_first(found, reply, archive);
     if !is_begun {
         return None;
     }
-    answer_file(fit, order, cut, length, file, reply, archive)
+    answer_file(fit, order, cut, stated, file, reply, archive)
 }
 
 // Begins this stream, or is refused for this reason. Says whether it has begun: then it has no bytes yet.
@@ -214,16 +213,16 @@ fn answer_file<I: Input, O: Output, D: Disk>(
     fit: bool,
     order: Order,
     cut: Option<u64>,
-    length: Option<u64>,
+    stated: Stated,
     file: &mut I,
     reply: &mut Reply<'_, O>,
     archive: &mut Archive<D>,
 ) -> Option<u32>
     requires { Takes D.Disk archive.old 0 [] (Ok tt) archive.old }
-    ensures { TellsReply (telling O.Output reply.old reply.new) (λ text. FillsAndEnds D.Disk order fit cut length (I.remaining file.old) (I.remaining file.new) (I.failures file.old) (I.failures file.new)
+    ensures { TellsReply (telling O.Output reply.old reply.new) (λ text. FillsAndEnds D.Disk order fit cut stated (I.remaining file.old) (I.remaining file.new) (I.failures file.old) (I.failures file.new)
         archive.old text archive.new result) }
 {
-    match fill_stream(fit, order, cut, length, file, reply, archive) {
+    match fill_stream(fit, order, cut, stated, file, reply, archive) {
         Ok(()) => answer_end(0, reply, archive),
         Err(TakeStop::Cut(kept)) => answer_front(kept, reply, archive),
         Err(TakeStop::File) => {
@@ -234,20 +233,21 @@ fn answer_file<I: Input, O: Output, D: Disk>(
             tell_no(reply, reason(fault));
             None
         }
-        Err(TakeStop::Length(fault)) => {
-            tell_no(reply, length_reason(fault));
+        Err(TakeStop::Differs(fault)) => {
+            tell_no(reply, difference_reason(fault));
             None
         }
     }
 }
 
-// Why a stream is refused whose length is not the one that was stated.
-fn length_reason(fault: LengthFault) -> &'static [u8]
-    ensures { result.now ≡ length_reason fault }
+// Why a stream is refused that is not the one that was stated.
+fn difference_reason(fault: Difference) -> &'static [u8]
+    ensures { result.now ≡ difference_reason fault }
 {
     match fault {
-        LengthFault::Short => b"Short",
-        LengthFault::Long => b"TooLong",
+        Difference::Short => b"Short",
+        Difference::Long => b"TooLong",
+        Difference::Digest => b"Differs",
     }
 }
 
@@ -257,20 +257,20 @@ fn fill_stream<I: Input, O: Output, D: Disk>(
     fit: bool,
     order: Order,
     cut: Option<u64>,
-    length: Option<u64>,
+    stated: Stated,
     file: &mut I,
     reply: &mut Reply<'_, O>,
     archive: &mut Archive<D>,
 ) -> Result<(), TakeStop>
     requires { Takes D.Disk archive.old 0 [] (Ok tt) archive.old }
-    ensures all { FillsAll D.Disk order fit cut length (I.remaining file.old) (I.remaining file.new) (I.failures file.old) (I.failures file.new)
+    ensures all { FillsAll D.Disk order fit cut stated (I.remaining file.old) (I.remaining file.new) (I.failures file.old) (I.failures file.new)
         archive.old (telling O.Output reply.old reply.new) archive.new result }
     ensures served { fit ≡ true → IsServed (state_of archive.old) → FillsServed order result (state_of archive.new) }
 {
     if !fit {
-        return take_asked(fit, order, cut, length, file, reply, archive);
+        return take_asked(fit, order, cut, stated, file, reply, archive);
     }
-    match take_asked(fit, order, cut, length, file, reply, archive) {
+    match take_asked(fit, order, cut, stated, file, reply, archive) {
         Ok(()) => make_room(order, Need::Record, reply, archive),
         Err(TakeStop::Cut(kept)) => {
             make_room(order, Need::Record, reply, archive)?;
@@ -278,7 +278,7 @@ fn fill_stream<I: Input, O: Output, D: Disk>(
         }
         Err(TakeStop::File) => Err(TakeStop::File),
         Err(TakeStop::Refused(fault)) => Err(TakeStop::Refused(fault)),
-        Err(TakeStop::Length(fault)) => Err(TakeStop::Length(fault)),
+        Err(TakeStop::Differs(fault)) => Err(TakeStop::Differs(fault)),
     }
 }
 
@@ -287,24 +287,24 @@ fn take_asked<I: Input, O: Output, D: Disk>(
     fit: bool,
     order: Order,
     cut: Option<u64>,
-    length: Option<u64>,
+    stated: Stated,
     file: &mut I,
     reply: &mut Reply<'_, O>,
     archive: &mut Archive<D>,
 ) -> Result<(), TakeStop>
     requires { Takes D.Disk archive.old 0 [] (Ok tt) archive.old }
-    ensures all { TakesAll D.Disk order fit length (I.remaining file.old) (I.remaining file.new) (I.failures file.old) (I.failures file.new)
+    ensures all { TakesAll D.Disk order fit stated (I.remaining file.old) (I.remaining file.new) (I.failures file.old) (I.failures file.new)
         archive.old (telling O.Output reply.old reply.new) archive.new result }
     ensures served { fit ≡ true → IsServed (state_of archive.old) → ServesOn order result (state_of archive.new) }
     ensures well { CutsWell fit cut result (state_of archive.new) }
 {
     let Some(most) = cut else {
-        return take_file(fit, order, None, length, file, reply, archive);
+        return take_file(fit, order, None, stated, file, reply, archive);
     };
     if most == 0 {
-        return take_file(fit, order, None, length, file, reply, archive);
+        return take_file(fit, order, None, stated, file, reply, archive);
     }
-    take_file(fit, order, Some(most), length, file, reply, archive)
+    take_file(fit, order, Some(most), stated, file, reply, archive)
 }
 
 // Takes the next bytes of a file into the stream in slot 0, `most` at most, for which cases go, if they may. Says how many there were.
@@ -312,6 +312,7 @@ pub(crate) fn take_next<I: Input, O: Output, D: Disk>(
     fit: bool,
     order: Order,
     most: usize,
+    hasher: &mut Option<Sha256>,
     file: &mut I,
     reply: &mut Reply<'_, O>,
     archive: &mut Archive<D>,
@@ -320,21 +321,22 @@ pub(crate) fn take_next<I: Input, O: Output, D: Disk>(
     ensures next { (begun : Parts D) (so_far : List ℕ) (gone : List (Going D))
         → TakesWhile D.Disk order begun so_far gone (Ok tt) archive.old
         → TakesNext D.Disk order (I.remaining file.old) (I.remaining file.new) (I.failures file.old) (I.failures file.new)
-        begun so_far gone fit (telling O.Output reply.old reply.new) archive.new result }
+        begun so_far gone fit (HashesOn hasher.old hasher.new) (telling O.Output reply.old reply.new) archive.new result }
     ensures served { fit ≡ true → IsServed (state_of archive.old) → ServesOn order result (state_of archive.new) }
     ensures few { IfOk result (λ n. n ≤ most) }
     ensures uncut { IsUncut result }
 {
     if !fit {
-        return take_more(most, file, archive);
+        return take_more(most, hasher, file, archive);
     }
-    take_fitting(order, most, file, reply, archive)
+    take_fitting(order, most, hasher, file, reply, archive)
 }
 
 // The same where cases may go: they do where no data block is free.
 fn take_fitting<I: Input, O: Output, D: Disk>(
     order: Order,
     most: usize,
+    hasher: &mut Option<Sha256>,
     file: &mut I,
     reply: &mut Reply<'_, O>,
     archive: &mut Archive<D>,
@@ -343,20 +345,21 @@ fn take_fitting<I: Input, O: Output, D: Disk>(
     ensures next { (begun : Parts D) (so_far : List ℕ) (gone : List (Going D))
         → TakesWhile D.Disk order begun so_far gone (Ok tt) archive.old
         → TakesNext D.Disk order (I.remaining file.old) (I.remaining file.new) (I.failures file.old) (I.failures file.new)
-        begun so_far gone true (telling O.Output reply.old reply.new) archive.new result }
+        begun so_far gone true (HashesOn hasher.old hasher.new) (telling O.Output reply.old reply.new) archive.new result }
     ensures served { IsServed (state_of archive.old) → ServesOn order result (state_of archive.new) }
     ensures few { IfOk result (λ n. n ≤ most) }
     ensures uncut { IsUncut result }
 {
     if !lacks_block(archive) {
-        return take_more(most, file, archive);
+        return take_more(most, hasher, file, archive);
     }
-    take_one(order, file, reply, archive)
+    take_one(order, hasher, file, reply, archive)
 }
 
 // Takes the next byte of a file into the stream in slot 0, where no data block is free: the block that it needs is not there, so cases go.
 fn take_one<I: Input, O: Output, D: Disk>(
     order: Order,
+    hasher: &mut Option<Sha256>,
     file: &mut I,
     reply: &mut Reply<'_, O>,
     archive: &mut Archive<D>,
@@ -364,12 +367,12 @@ fn take_one<I: Input, O: Output, D: Disk>(
     ensures next { (begun : Parts D) (so_far : List ℕ) (gone : List (Going D))
         → TakesWhile D.Disk order begun so_far gone (Ok tt) archive.old
         → TakesNext D.Disk order (I.remaining file.old) (I.remaining file.new) (I.failures file.old) (I.failures file.new)
-        begun so_far gone true (telling O.Output reply.old reply.new) archive.new result }
+        begun so_far gone true (HashesOn hasher.old hasher.new) (telling O.Output reply.old reply.new) archive.new result }
     ensures served { IsServed (state_of archive.old) → ServesOn order result (state_of archive.new) }
     ensures few { IfOk result (λ n. n ≤ 1) }
     ensures uncut { IsUncut result }
 {
-    let count = take_more(1, file, archive)?;
+    let count = take_more(1, hasher, file, archive)?;
     if count == 0 {
         return Ok(0);
     }
@@ -377,9 +380,10 @@ fn take_one<I: Input, O: Output, D: Disk>(
     Ok(count)
 }
 
-// Takes the next bytes of a file into the stream in slot 0, `most` at most. Says how many there were.
+// Takes the next bytes of a file into the stream in slot 0, `most` at most, and hashes them. Says how many there were.
 fn take_more<I: Input, D: Disk>(
     most: usize,
+    hasher: &mut Option<Sha256>,
     file: &mut I,
     archive: &mut Archive<D>,
 ) -> Result<usize, TakeStop>
@@ -387,7 +391,7 @@ fn take_more<I: Input, D: Disk>(
     ensures more { (begun : Parts D) (so_far : List ℕ)
         → Takes D.Disk begun 0 so_far (Ok tt) archive.old
         → TakesMore (I.remaining file.old) (I.remaining file.new) (I.failures file.old) (I.failures file.new)
-        so_far (λ raw v. Takes D.Disk begun 0 raw v archive.new) result }
+        so_far (HashesOn hasher.old hasher.new) (λ raw v. Takes D.Disk begun 0 raw v archive.new) result }
     ensures advances { Advances most (state_of archive.old) result (state_of archive.new) }
     ensures few { IfOk result (λ n. n ≤ most) }
     ensures uncut { IsUncut result }
@@ -403,6 +407,7 @@ fn take_more<I: Input, D: Disk>(
     if count == 0 {
         return Ok(0);
     }
+    hash_on(hasher, &room[..count]);
     if let Err(fault) = archive.advance(0, count) {
         return Err(TakeStop::Refused(fault));
     }

@@ -35,6 +35,7 @@ fn store<I: Input, O: Output, D: Disk>(
         order: Order::Oldest,
         cut: None,
         length: None,
+        digest: None,
         burst: None,
     };
     open_and_store(alloc, disk, settings, policy, found, &options, file, output)

@@ -21,7 +21,6 @@ returns-clause-asked c = record {
   asked = c.in_ok-policy.ensures.asked;
   policy = refl;
   options = refl;
-  digest = refl;
   naming = c.in_ok-naming.ensures.named;
   limit = refl;
   id = c.in_ok-id.ensures.said;

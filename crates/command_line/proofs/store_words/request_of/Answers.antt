@@ -40,7 +40,6 @@ returns-in-Some-name-clause-asked c =
           ∙ ap (λ (l : List ℕ). named_as (stream_found c.of-request.result.found) (line_stream c.in_ok-naming.naming (said l))) c.deref.ensures.value
           ∙ ap (λ f. named_as f (line_stream c.in_ok-naming.naming (said line))) c.of-request.ensures.found);
       options = c.named.ensures.options ∙ c.of-request.ensures.options;
-      digest = c.named.ensures.digest ∙ c.of-request.ensures.digest;
       limit = c.named.ensures.limit ∙ c.of-request.ensures.limit;
       template = ap template_fault (sym c.settings_of.ensures.template) ∙ c.in_ok-naming.ensures.sound;
     }
@@ -60,7 +59,6 @@ returns-in-None-clause-asked c =
       alone = c.in_ok-name.ensures.alone;
       found = subst (λ n. stream_found c.of-request.result.found ≡ found_under n None (line_stream n (said words.begin.items))) naming c.of-request.ensures.found;
       options = c.of-request.ensures.options;
-      digest = c.of-request.ensures.digest;
       limit = c.of-request.ensures.limit;
       template = ap template_fault (sym c.settings_of.ensures.template) ∙ c.in_ok-naming.ensures.sound;
     }

@@ -4,6 +4,7 @@ use Rattle.std.specs.Io.KnownBytes.{Consumes}
 use Rattle.intake.specs.Parts.{state_of}
 use Rattle.script_streams.specs.Replies.{TellsText, telling}
 use Rattle.inspector_cli.specs.Fitting.{Going, IsServed, IsWithin, TakesWhile, going_text}
+use Rattle.inspector_cli.specs.Stated.{IsHashed}
 use Rattle.inspector_cli.proofs.front.take_file.Given as goal
 
 abbrev pub invariant-loop : goal.invariant-loop
@@ -18,7 +19,8 @@ invariant-loop g l = record {
   unasked : l.fn.fit ≡ false → gone ≡ [];
   length : l.taken ≡ length raw;
   within : IsWithin l.fn.cut l.taken;
-  stated : IsWithin l.fn.length l.taken;
+  stated : IsWithin l.fn.stated.length l.taken;
+  hashed : IsHashed l.fn.stated.digest l.hasher raw;
   few : l.taken ≤ 4096 * l.counter;
   served : l.fn.fit ≡ true → IsServed (state_of l.fn.archive) → IsServed (state_of l.archive);
 }

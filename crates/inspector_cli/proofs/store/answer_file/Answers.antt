@@ -1,14 +1,14 @@
 use Rattle.std.proofs.Common.{refl, ◌++◌, None, Some, Ok, Err, ap}
 use Rattle.std.specs.List.{flat_map}
 use Rattle.std.specs.Prelude.{codes}
-use Rattle.inspector_cli.specs.declared.store.TakeStop.TheVariants.{File, Refused, Cut, Length}
+use Rattle.inspector_cli.specs.declared.store.TakeStop.TheVariants.{File, Refused, Cut, Differs}
 use Rattle.inspector_cli.specs.Fitting.{going_text}
 use Rattle.intake.specs.Parts.{state_of}
-use Rattle.inspector_cli.specs.Storing.{length_reason}
+use Rattle.inspector_cli.specs.Storing.{difference_reason}
 use Rattle.script_streams.specs.Replies.{no_reply}
 use Rattle.archive_replies.specs.Reasons.{reason_of}
 use Rattle.script_streams.specs.TellLaws.{tells_as, tells_then}
-use Rattle.inspector_cli.proofs.SpentLemmas.{ended_spent, file_unspent, length_unspent, refused_spent}
+use Rattle.inspector_cli.proofs.SpentLemmas.{ended_spent, file_unspent, difference_unspent, refused_spent}
 use Rattle.inspector_cli.proofs.store.answer_file.Goals as goal
 
 pub returns-in-Err-File : goal.returns-in-Err-File
@@ -37,22 +37,22 @@ returns-in-Err-Refused g c =
       tells_then t.1 (tells_as (ap no_reply c.reason.ensures) c.tell_no-in-Err-Refused.ensures),
     )
 
-pub returns-in-Err-Length : goal.returns-in-Err-Length
-returns-in-Err-Length g c =
-    let t = rw c.in-Err-Length.field-0-is at c.in-Err-Length.ensures.all in (
-      flat_map going_text t.0 ++ no_reply (length_reason c.in-Err-Length.fault),
+pub returns-in-Err-Differs : goal.returns-in-Err-Differs
+returns-in-Err-Differs g c =
+    let t = rw c.in-Err-Differs.field-0-is at c.in-Err-Differs.ensures.all in (
+      flat_map going_text t.0 ++ no_reply (difference_reason c.in-Err-Differs.fault),
       (
         t.0,
         None,
         c.fill_stream.new.archive,
-        no_reply (length_reason c.in-Err-Length.fault),
+        no_reply (difference_reason c.in-Err-Differs.fault),
         refl,
         t.3,
-        (Err (Length c.in-Err-Length.fault), t.2, (refl, refl, refl), refl),
-        λ fits was. length_unspent c.args.order c.in-Err-Length.fault (state_of c.fill_stream.new.archive),
+        (Err (Differs c.in-Err-Differs.fault), t.2, (refl, refl, refl), refl),
+        λ fits was. difference_unspent c.args.order c.in-Err-Differs.fault (state_of c.fill_stream.new.archive),
         t.4,
       ),
-      tells_then t.1 (tells_as (ap no_reply c.length_reason.ensures) c.tell_no-in-Err-Length.ensures),
+      tells_then t.1 (tells_as (ap no_reply c.difference_reason.ensures) c.tell_no-in-Err-Differs.ensures),
     )
 
 pub returns-in-Ok : goal.returns-in-Ok

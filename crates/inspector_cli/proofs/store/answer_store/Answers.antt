@@ -8,7 +8,7 @@ use Rattle.inspector_cli.proofs.store.answer_store.Goals as goal
 
 pub returns-then-not-is_begun : goal.returns-then-not-is_begun
 returns-then-not-is_begun g c =
-    stores_none g.D.Disk c.args.order c.args.fit c.args.cut c.args.length (stream_found c.args.found) (g.I.Input.remaining c.args.file.now) (g.I.Input.failures c.args.file.now)
+    stores_none g.D.Disk c.args.order c.args.fit c.args.cut c.args.stated (stream_found c.args.found) (g.I.Input.remaining c.args.file.now) (g.I.Input.failures c.args.file.now)
     (telling g.O.Output c.args.reply.now c.answer_first-is_begun.new.reply)
     c.args.archive.now c.answer_first-is_begun.new.archive
     (let first = c.answer_first-is_begun.ensures.first in (
@@ -20,7 +20,7 @@ returns-then-not-is_begun g c =
 
 pub returns : goal.returns
 returns g c =
-    stores g.D.Disk c.args.order c.args.fit c.args.cut c.args.length (stream_found c.args.found) (g.I.Input.remaining c.args.file.now) (g.I.Input.remaining c.answer_file.new.file)
+    stores g.D.Disk c.args.order c.args.fit c.args.cut c.args.stated (stream_found c.args.found) (g.I.Input.remaining c.args.file.now) (g.I.Input.remaining c.answer_file.new.file)
     (g.I.Input.failures c.args.file.now) (g.I.Input.failures c.answer_file.new.file)
     (sink g.O.Output c.args.reply.now) (sink g.O.Output c.answer_first-is_begun.new.reply) (sink g.O.Output c.answer_file.new.reply)
     c.args.archive.now c.answer_first-is_begun.new.archive c.answer_file.new.archive c.answer_file.result

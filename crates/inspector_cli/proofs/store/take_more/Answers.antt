@@ -1,8 +1,10 @@
-use Rattle.std.proofs.Common.{inr, ◌++◌, [], length, take, drop, ap, sym, ◌∙◌, arith, length-take-le}
+use Rattle.std.proofs.Common.{inr, ◌++◌, [], length, take, drop, ap, subst, sym, ◌∙◌, arith, length-take-le}
 use Rattle.std.proofs.lemmas.List.{take-append-le}
 use Rattle.std.proofs.KnownBytes.{Consumes-kept, Consumes-nil}
 use Rattle.intake.specs.Parts.{state_of}
 use Rattle.inspector_cli.specs.Reply.{Takes}
+use Rattle.inspector_cli.specs.Stated.{HashesOn}
+use Rattle.inspector_cli.proofs.StatedLemmas.{hashes_none}
 use Rattle.inspector_cli.proofs.FitLemmas.{took_some}
 use Rattle.inspector_cli.proofs.FeedLemmas.{lent_takes, lent_length, lent_some, lent_few, fed}
 use Rattle.inspector_cli.proofs.RoomLemmas.{states_agree, still_fits}
@@ -33,6 +35,7 @@ returns-then-count-eq0-clause-more g c = λ begun so_far taken.
       c.in-Ok.ensures.bytes.1 none (lent_some c.read.new.into c.room-lent.result.1.now c.min-size.result c.args.most c.read.auto.into c.min-size.ensures some c.requires),
       c.in-Ok.ensures.ok,
       lent_takes g.D.Disk begun c.args.archive.now 0 so_far (c.read.new.into ++ drop c.min-size.result c.room-lent.result.1.now) tt taken (long ∙ ap length lent) (omega (arith, long, some)),
+      hashes_none c.args.hasher.now,
     )
 
 pub advance-requires : goal.advance-requires
@@ -68,7 +71,7 @@ returns-clause-more g c = λ begun so_far taken.
     let lent = rw is at c.room-lent.ensures.lent in
     let some = rw is at c.room-lent.ensures.never_empty in
     let call = rw is at c.advance.ensures in
-    took_some (g.I.Input.remaining c.args.file.now) (g.I.Input.remaining c.read.new.self) (g.I.Input.failures c.args.file.now) (g.I.Input.failures c.read.new.self) so_far
+    took_some (g.I.Input.remaining c.args.file.now) (g.I.Input.remaining c.read.new.self) (g.I.Input.failures c.args.file.now) (g.I.Input.failures c.read.new.self) so_far (HashesOn c.args.hasher.now c.hash_on.new.hasher)
     (λ raw v. Takes g.D.Disk begun 0 raw v c.advance.new.self) c.in-Ok.count c.if-count-eq0.false (
       take c.in-Ok.count c.read.new.into,
       c.in-Ok.ensures.bytes.0,
@@ -78,6 +81,7 @@ returns-clause-more g c = λ begun so_far taken.
           c.advance.new.self c.in-Ok.count (length c.room-lent.result.1.now) (take c.in-Ok.count c.read.new.into) c.advance.result
           (sym (take-append-le c.in-Ok.count c.read.new.into (drop c.min-size.result c.room-lent.result.1.now) few)) size
           (lent_few c.read.new.into c.room-lent.result.1.now c.min-size.result c.args.most c.in-Ok.count c.read.auto.into c.min-size.ensures few) (rw is at c.room-lent.ensures.fits) call),
+      subst (HashesOn c.args.hasher.now c.hash_on.new.hasher) (take-append-le c.in-Ok.count c.read.new.into (drop c.min-size.result c.room-lent.result.1.now) few) c.hash_on.ensures,
     )
 
 pub returns-in_default-read-clause-advances : goal.returns-in_default-read-clause-advances
