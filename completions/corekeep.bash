@@ -3,7 +3,7 @@ _corekeep() {
     local word=${COMP_WORDS[COMP_CWORD]}
     local before=${COMP_WORDS[COMP_CWORD-1]}
     local commands="format run store handle list info groups report search ask wants prune look extract digest unpack check copy resize salvage memory"
-    local lines="list free delete pin unpin label retire upgrade header notes threads regs process signal auxv files maps dump at find strings bt unwind frame builds symbol"
+    local lines="list free delete pin unpin label retire upgrade header notes threads regs process signal auxv files maps dump at find strings bt unwind lines frame builds used symbol line"
     local session="--template --uses-pid --limit"
     COMPREPLY=()
     if [ "$COMP_CWORD" -eq 1 ]; then

@@ -15,7 +15,7 @@ use Rattle.journal_layout.specs.declared.entry.Kind.{Kind}
 use Rattle.memory_replies.specs.Window.{past_of}
 use Rattle.windowed_search.specs.ScanWords.{Aim, for_bytes, for_texts}
 use Rattle.script_lines.specs.declared.query.MemoryQuery.{MemoryQuery}
-use Rattle.script_lines.specs.declared.query.MemoryQuery.TheVariants.{Dump, At, Find, Strings, Backtrace, Unwind, Frame, Builds}
+use Rattle.script_lines.specs.declared.query.MemoryQuery.TheVariants.{Dump, At, Find, Strings, Backtrace, Unwind, Lines, Frame, Builds}
 use Rattle.memory_replies.specs.Answers.{Answers}
 use Rattle.case_queries.specs.Inspecting.{answer_of}
 use Rattle.case_queries.specs.Steps.{Asks, Shows, ShowsWithExecutables}
@@ -31,6 +31,8 @@ use Rattle.case_queries.specs.Finding.{AsksFront, IsFrontOfCase, ShowsFound}
 use Rattle.case_queries.specs.Fronts.{HasSize, IsEnough, IsSoundFront, ReadsFront}
 use Rattle.case_queries.specs.LeaveLaws.{Leaves, looks_leaves, own_still}
 use Rattle.case_queries.specs.Windows.{IsSeenBy}
+use Rattle.frame_replies.specs.declared.lines.Shown.TheVariants.{Stack, Source}
+use Rattle.case_queries.specs.declared.asked.FramesAsked.TheVariants.{Shown, Registers}
 use Rattle.case_queries.specs.declared.asked.AskedFiles.{AskedFiles}
 use Rattle.case_queries.specs.declared.asked.AskedFiles.TheVariants as files
 use Rattle.case_queries.specs.declared.collect_executables.StoredExecutable.{StoredExecutable}
@@ -64,16 +66,18 @@ aim_answered kind (for_bytes needle) image cases xs = refl
 aim_answered kind (for_texts least) image cases xs = refl
 
 pub files_answered : (kind : Kind) (a : AskedFiles) (image : List ℕ) (cases : List Wanted) (xs : List ExecutableView) → asking_answer (files_asking a cases) image xs ≡ answer_of kind (asking_query (files_asked a)) image cases xs
-files_answered kind (files.Frames thread None) image cases xs = refl
-files_answered kind (files.Frames thread (Some frame)) image cases xs = refl
+files_answered kind (files.Frames thread (Shown Stack)) image cases xs = refl
+files_answered kind (files.Frames thread (Shown Source)) image cases xs = refl
+files_answered kind (files.Frames thread (Registers frame)) image cases xs = refl
 files_answered kind (files.Builds query) image cases xs = refl
 
 -- such a line reads executables
 shows_by : {D : Type 0} (g : disk.Ghosts D) (mid : Parts D) (kind : Kind) (asking : Asking) (image text : List ℕ) (new : Parts D) → ShowsWithExecutables g mid kind (asking_query asking) image (core_fault_of image) text new → Shows g mid kind (asking_query asking) image text new
 shows_by g mid kind (for_aim (for_bytes needle)) image text new shows = shows
 shows_by g mid kind (for_aim (for_texts least)) image text new shows = shows
-shows_by g mid kind (for_frames thread None) image text new shows = shows
-shows_by g mid kind (for_frames thread (Some frame)) image text new shows = shows
+shows_by g mid kind (for_frames thread (Shown Stack)) image text new shows = shows
+shows_by g mid kind (for_frames thread (Shown Source)) image text new shows = shows
+shows_by g mid kind (for_frames thread (Registers frame)) image text new shows = shows
 shows_by g mid kind (for_builds query cases) image text new shows = shows
 
 module _ {D : Type 0} (g : disk.Ghosts D) where
@@ -142,6 +146,7 @@ whole_seen (Find aim) image = refl
 whole_seen (Strings least) image = refl
 whole_seen (Backtrace thread) image = (inl refl, record { begins = (refl, sym (take_all (length image) image (omega arith))); frames = λ less. absurd (omega (arith, less)) })
 whole_seen (Unwind thread) image = refl
+whole_seen (Lines thread) image = refl
 whole_seen (Frame thread frame) image = refl
 whole_seen (Builds query) image = refl
 

@@ -21,7 +21,7 @@ use Rattle.build_replies.specs.ToldLaws.{told_all}
 use Rattle.build_replies.specs.declared.choosing.ChosenExecutables.{ChosenExecutables}
 use Rattle.frame_replies.specs.Processes.{start_by, start_of, state_of as thread_state}
 use Rattle.frame_replies.specs.Walking.{BeginsAt, IsProcessOf, IsWalkOf}
-use Rattle.frame_replies.specs.WalkLaws.{frame_missing, unwind_missing, walk_begins}
+use Rattle.frame_replies.specs.WalkLaws.{frame_missing, shown_missing, walk_begins}
 use Rattle.frame_replies.specs.declared.process.UnwoundProcess.{UnwoundProcess}
 use Rattle.frame_replies.specs.declared.walk.Walk as frames
 use Rattle.intake.specs.Parts.{Parts, state_of}
@@ -31,6 +31,8 @@ use Rattle.script_streams.specs.Replies.{Telling, TellsOutcome, TellsReply, no_r
 use Rattle.case_queries.specs.Asking.{for_frames, frames_answer}
 use Rattle.case_queries.specs.Finding.{found_reply}
 use Rattle.case_queries.specs.ToldWords.{IsToldBy, ShowsTold, files_told}
+use Rattle.case_queries.specs.declared.asked.FramesAsked.{FramesAsked}
+use Rattle.case_queries.specs.declared.asked.FramesAsked.TheVariants.{Shown, Registers}
 use Rattle.case_queries.specs.declared.told.ToldFiles.{ToldFiles}
 use Rattle.case_queries.specs.Fronts.{HasSize, IsSoundFront, ReadsFront}
 use Rattle.case_queries.specs.Pieces.{BeginsWith, FindsFrames, SeesPieces}
@@ -56,9 +58,9 @@ some_front front size short =
 abbrev pub NotesLaw : Type 0
 NotesLaw = (want : Want) (b : List ℕ) (n : ℕ) → IsHeaderWhole (take n b) → IsSound want (take n b) → notes_of want (take n b) ≡ notes_of want b
 
-no_thread : (t : ℕ) (image : List ℕ) (xs : List ExecutableView) (frame : Option ℕ) → thread_state image t ≡ None → no_reply (codes "NoThread") ≡ reply_of (frames_answer image xs t frame)
-no_thread t image xs None none = ap reply_of (unwind_missing image xs t none)
-no_thread t image xs (Some i) none = ap reply_of (frame_missing image xs t none i)
+no_thread : (t : ℕ) (image : List ℕ) (xs : List ExecutableView) (a : FramesAsked) → thread_state image t ≡ None → no_reply (codes "NoThread") ≡ reply_of (frames_answer image xs t a)
+no_thread t image xs (Shown shown) none = ap reply_of (shown_missing image xs t none shown)
+no_thread t image xs (Registers i) none = ap reply_of (frame_missing image xs t none i)
 
 -- what is chosen for the files that an image tells is what is chosen for the core
 chosen_for : (xs : List ExecutableView) (image : List ℕ) (told : ToldFiles) (c : ChosenExecutables) → choice_view c ≡ choice_of (files_told told) xs → told_of image ≡ told_view told.files
@@ -94,17 +96,17 @@ module _ {D : Type 0} (g : disk.Ghosts D) (before new : Parts D) (o : CaseImage)
   stop_found p w (Unread f) finds = finds
   stop_found p w OutOfMemory finds = finds
 
-  module _ (frame : Option ℕ) where
+  module _ (a : FramesAsked) where
     -- the frames that were found are told
-    pub frames_shown : (p : UnwoundProcess) (u : UnwoundThread) (outcome : Outcome) (tell : Telling) → (finds : FindsThread g before o ps xs t p (Ok u) new) → TellsReply tell (AnswersWith outcome (frames_answer finds.0 xs t frame)) → TellsOutcome tell (λ text. ShowsTold g before o ps xs (for_frames t frame) text new) (is_done outcome)
+    pub frames_shown : (p : UnwoundProcess) (u : UnwoundThread) (outcome : Outcome) (tell : Telling) → (finds : FindsThread g before o ps xs t p (Ok u) new) → TellsReply tell (AnswersWith outcome (frames_answer finds.0 xs t a)) → TellsOutcome tell (λ text. ShowsTold g before o ps xs (for_frames t a) text new) (is_done outcome)
     frames_shown p u outcome tell finds told =
-        let answer = frames_answer finds.0 xs t frame in
+        let answer = frames_answer finds.0 xs t a in
         (told.0, (Ok finds.0, finds.1, (finds.2.0, inl (finds.2.1, answered outcome answer told.0 told.1))), outcome_with outcome answer told.0 told.1, told.2)
 
-    pub missing_shown : (sees : SeesPieces g before o ps new) → thread_state sees.0 t ≡ None → ShowsTold g before o ps xs (for_frames t frame) (no_reply (codes "NoThread")) new
-    missing_shown sees none = (Ok sees.0, sees.1, (sees.2.0, inl (sees.2.1, inl (no_thread t sees.0 xs frame none))))
+    pub missing_shown : (sees : SeesPieces g before o ps new) → thread_state sees.0 t ≡ None → ShowsTold g before o ps xs (for_frames t a) (no_reply (codes "NoThread")) new
+    missing_shown sees none = (Ok sees.0, sees.1, (sees.2.0, inl (sees.2.1, inl (no_thread t sees.0 xs a none))))
 
-    pub stop_shown : (p : UnwoundProcess) (f : WalkFault) → FindsThread g before o ps xs t p (Err f) new → ShowsTold g before o ps xs (for_frames t frame) (found_reply (Err f)) new
+    pub stop_shown : (p : UnwoundProcess) (f : WalkFault) → FindsThread g before o ps xs t p (Err f) new → ShowsTold g before o ps xs (for_frames t a) (found_reply (Err f)) new
     stop_shown p (Unread f) finds = (Err f, finds, refl)
     stop_shown p OutOfMemory finds = (Ok finds.0, finds.1, (finds.2, inr refl))
 

@@ -16,5 +16,6 @@ pub mod StoredLemmas
 pub mod FactLemmas
 pub mod ToldLemmas
 pub mod GatherLemmas
+pub mod CodeLemmas
 pub mod SymbolLemmas
 pub mod ExecutableLemmas

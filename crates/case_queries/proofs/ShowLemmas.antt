@@ -27,7 +27,7 @@ use Rattle.script_lines.specs.declared.query.BuildQuery.TheVariants as builds
 use Rattle.script_lines.specs.declared.query.ImageQuery.{ImageQuery}
 use Rattle.script_lines.specs.declared.query.ImageQuery.TheVariants.{Header, Notes, Threads, Registers, Process, Signal, AuxiliaryVector, Files, Maps}
 use Rattle.script_lines.specs.declared.query.MemoryQuery.{MemoryQuery}
-use Rattle.script_lines.specs.declared.query.MemoryQuery.TheVariants.{Dump, At, Find, Strings, Backtrace, Unwind, Frame, Builds}
+use Rattle.script_lines.specs.declared.query.MemoryQuery.TheVariants.{Dump, At, Find, Strings, Backtrace, Unwind, Lines, Frame, Builds}
 use Rattle.script_streams.specs.Replies.{IsOutcome, no_reply, reply_of}
 use Rattle.case_queries.specs.Inspecting.{answer_of}
 use Rattle.case_queries.specs.Steps.{Shows, ShowsWithExecutables, ShowsCore}
@@ -71,6 +71,7 @@ module _ {D : Type 0} (g : disk.Ghosts D) (a : Parts D) (kind : Kind) (b : List 
   with_executables_shown (Strings least) reply new shows = shows
   with_executables_shown (Backtrace thread) reply new shows = shows
   with_executables_shown (Unwind thread) reply new shows = shows
+  with_executables_shown (Lines thread) reply new shows = shows
   with_executables_shown (Frame thread frame) reply new shows = shows
   with_executables_shown (Builds query) reply new shows = shows
 
@@ -97,6 +98,7 @@ seen_enough (Find needle) front size at bytes image by = inl by
 seen_enough (Strings least) front size at bytes image by = inl by
 seen_enough (Backtrace thread) front size at bytes image by = by.0
 seen_enough (Unwind thread) front size at bytes image by = inl by
+seen_enough (Lines thread) front size at bytes image by = inl by
 seen_enough (Frame thread frame) front size at bytes image by = inl by
 seen_enough (Builds query) front size at bytes image by = inl by
 
@@ -125,6 +127,7 @@ wanted_same law (Find needle) front size at bytes image by cases = wanted_enough
 wanted_same law (Strings least) front size at bytes image by cases = wanted_enough law front image (inl by) cases
 wanted_same law (Backtrace thread) front size at bytes image by cases = wanted_enough law front image by.0 cases
 wanted_same law (Unwind thread) front size at bytes image by cases = ap (λ b. wanted_for (memory_query (Unwind thread)) b cases) by
+wanted_same law (Lines thread) front size at bytes image by cases = ap (λ b. wanted_for (memory_query (Lines thread)) b cases) by
 wanted_same law (Frame thread frame) front size at bytes image by cases = ap (λ b. wanted_for (memory_query (Frame thread frame)) b cases) by
 wanted_same law (Builds query) front size at bytes image by cases = ap (λ b. wanted_for (memory_query (Builds query)) b cases) by
 
@@ -136,6 +139,7 @@ debugs_same (Find needle) front size at bytes image by cases xs = refl
 debugs_same (Strings least) front size at bytes image by cases xs = refl
 debugs_same (Backtrace thread) front size at bytes image by cases xs = refl
 debugs_same (Unwind thread) front size at bytes image by cases xs = ap (λ b. debugs_for (memory_query (Unwind thread)) b cases xs) by
+debugs_same (Lines thread) front size at bytes image by cases xs = ap (λ b. debugs_for (memory_query (Lines thread)) b cases xs) by
 debugs_same (Frame thread frame) front size at bytes image by cases xs = ap (λ b. debugs_for (memory_query (Frame thread frame)) b cases xs) by
 debugs_same (Builds builds.Compared) front size at bytes image by cases xs = refl
 debugs_same (Builds builds.Used) front size at bytes image by cases xs = ap (λ b. debugs_for (memory_query (Builds builds.Used)) b cases xs) by

@@ -26,7 +26,7 @@ use Rattle.case_queries.specs.Collecting.{Collects, CollectsAll, Gathered, Wante
 use Rattle.build_replies.specs.Choosing.{told_files}
 use Rattle.build_ids.specs.BuildId.{build_id_of}
 use Rattle.build_replies.specs.NameWords.{name_of_debug, wanted_debugs}
-use Rattle.script_lines.specs.Queries.{ask_header, ask_notes, ask_threads, ask_registers, ask_process, ask_signal, ask_auxiliary_vector, ask_files, ask_maps, ask_dump, ask_at, ask_find, ask_strings, ask_backtrace, ask_unwind, ask_frame, ask_builds, ask_symbol, ask_by_build, ask_symbol_by_build}
+use Rattle.script_lines.specs.Queries.{ask_header, ask_notes, ask_threads, ask_registers, ask_process, ask_signal, ask_auxiliary_vector, ask_files, ask_maps, ask_dump, ask_at, ask_find, ask_strings, ask_backtrace, ask_unwind, ask_lines, ask_frame, ask_builds, ask_symbol, ask_by_build, ask_symbol_by_build, ask_line}
 use Rattle.script_lines.specs.declared.query.BuildQuery.TheVariants as builds
 use Rattle.case_queries.specs.InspectLaws.{asked_kind, steps_of}
 use Rattle.case_queries.specs.Inspecting.{MayAsk, Told, answer_of, core_fault_for, reads_executables}
@@ -86,11 +86,13 @@ wanted_there (ask_find n) b cases = picked_there (is_wanted b) cases
 wanted_there (ask_strings n) b cases = picked_there (is_wanted b) cases
 wanted_there (ask_backtrace t) b cases = picked_there (is_wanted b) cases
 wanted_there (ask_unwind t) b cases = picked_there (is_for (told_files b)) cases
+wanted_there (ask_lines t) b cases = picked_there (is_for (told_files b)) cases
 wanted_there (ask_frame t i) b cases = picked_there (is_for (told_files b)) cases
 wanted_there (ask_builds query) b cases = picked_there (is_for (told_files b)) cases
 wanted_there (ask_symbol x) b cases = picked_there (is_wanted b) cases
 wanted_there (ask_by_build query) b cases = picked_there (is_for (told_files b)) cases
 wanted_there (ask_symbol_by_build x) b cases = picked_there (is_named_by (name_of_debug (build_id_of b))) cases
+wanted_there (ask_line x) b cases = picked_there (is_named_by (name_of_debug (build_id_of b))) cases
 
 debugs_there : (q : QuerySaid) (b : List ℕ) (cases : List Case) (xs : List ExecutableView) → All (IsThere cases) (debugs_for q b cases xs)
 debugs_there ask_header b cases xs = All-nil (IsThere cases)
@@ -108,6 +110,7 @@ debugs_there (ask_find n) b cases xs = All-nil (IsThere cases)
 debugs_there (ask_strings n) b cases xs = All-nil (IsThere cases)
 debugs_there (ask_backtrace t) b cases xs = All-nil (IsThere cases)
 debugs_there (ask_unwind t) b cases xs = picked_there (is_named_by (wanted_debugs (told_files b) xs)) cases
+debugs_there (ask_lines t) b cases xs = picked_there (is_named_by (wanted_debugs (told_files b) xs)) cases
 debugs_there (ask_frame t i) b cases xs = picked_there (is_named_by (wanted_debugs (told_files b) xs)) cases
 debugs_there (ask_builds builds.Compared) b cases xs = All-nil (IsThere cases)
 debugs_there (ask_builds builds.Used) b cases xs = picked_there (is_named_by (wanted_debugs (told_files b) xs)) cases
@@ -117,6 +120,7 @@ debugs_there (ask_by_build (ask_at x)) b cases xs = picked_there (is_named_by (w
 debugs_there (ask_by_build (ask_backtrace t)) b cases xs = picked_there (is_named_by (wanted_debugs (told_files b) xs)) cases
 debugs_there (ask_by_build _) b cases xs = All-nil (IsThere cases)
 debugs_there (ask_symbol_by_build x) b cases xs = All-nil (IsThere cases)
+debugs_there (ask_line x) b cases xs = All-nil (IsThere cases)
 
 -- a count that rose since a moment rose since each moment before
 risen_since : (a b c : ℕ) → a ≤ b → HasRisen b c → HasRisen a c

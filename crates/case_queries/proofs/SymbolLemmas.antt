@@ -9,7 +9,7 @@ use Rattle.case_queries.specs.CollectingWords.{executable_view}
 use Rattle.case_queries.specs.Inspecting.{by_debugs, debug_image, debug_of_build}
 use Rattle.script_lines.specs.Queries.{memory_query}
 use Rattle.script_lines.specs.declared.query.MemoryQuery.{MemoryQuery}
-use Rattle.script_lines.specs.declared.query.MemoryQuery.TheVariants.{Dump, At, Find, Strings, Backtrace, Unwind, Frame, Builds}
+use Rattle.script_lines.specs.declared.query.MemoryQuery.TheVariants.{Dump, At, Find, Strings, Backtrace, Unwind, Lines, Frame, Builds}
 use Rattle.case_queries.specs.declared.collect_executables.StoredExecutable.{StoredExecutable}
 
 -- the image of the one that is found
@@ -38,5 +38,6 @@ as_it_is (Find needle) place other b xs debugs answer = refl
 as_it_is (Strings least) place other b xs debugs answer = refl
 as_it_is (Backtrace thread) place other b xs debugs answer = absurd (other thread refl)
 as_it_is (Unwind thread) place other b xs debugs answer = refl
+as_it_is (Lines thread) place other b xs debugs answer = refl
 as_it_is (Frame thread frame) place other b xs debugs answer = refl
 as_it_is (Builds query) place other b xs debugs answer = refl

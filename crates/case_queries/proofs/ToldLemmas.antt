@@ -21,6 +21,9 @@ use Rattle.case_queries.specs.LeaveLaws.{Leaves, looks_leaves, own_still}
 use Rattle.address_space.specs.Whole.{IsFrontOf}
 use Rattle.case_queries.specs.Pieces.{ArePieces, SeesPieces}
 use Rattle.case_queries.specs.ToldWords.{ArePiecesOfCase, IsToldBy, SeesTold, ShowsGathered, ShowsTold, files_told}
+use Rattle.frame_replies.specs.declared.lines.Shown.TheVariants.{Stack, Source}
+use Rattle.case_queries.specs.declared.asked.FramesAsked.{FramesAsked}
+use Rattle.case_queries.specs.declared.asked.FramesAsked.TheVariants.{Shown, Registers}
 use Rattle.case_queries.specs.declared.asked.AskedFiles.{AskedFiles}
 use Rattle.case_queries.specs.declared.asked.AskedFiles.TheVariants as asked
 use Rattle.case_queries.specs.declared.told.ToldFiles.{ToldFiles}
@@ -33,20 +36,22 @@ use Rattle.case_queries.proofs.FindAskLemmas.{files_answered}
 
 -- such a line reads what is stored for the files that the core tells
 files_wanted : (a : AskedFiles) (t : ToldFiles) (b : List ℕ) (cases : List Case) → told_of b ≡ told_view t.files → wanted_by (files_told t) cases ≡ wanted_for (asking_query (files_asked a)) b cases
-files_wanted (asked.Frames thread frame) t b cases is = by frame
+files_wanted (asked.Frames thread frames) t b cases is = by frames
   where
-    by : (o : Option ℕ) → wanted_by (files_told t) cases ≡ wanted_for (asking_query (files_asked (asked.Frames thread o))) b cases
-    by None = ap (λ (ts : List NamedId). wanted_by ts cases) (sym (told_all b ∙ ap told_or_none is))
-    by (Some n) = ap (λ (ts : List NamedId). wanted_by ts cases) (sym (told_all b ∙ ap told_or_none is))
+    by : (f : FramesAsked) → wanted_by (files_told t) cases ≡ wanted_for (asking_query (files_asked (asked.Frames thread f))) b cases
+    by (Shown Stack) = ap (λ (ts : List NamedId). wanted_by ts cases) (sym (told_all b ∙ ap told_or_none is))
+    by (Shown Source) = ap (λ (ts : List NamedId). wanted_by ts cases) (sym (told_all b ∙ ap told_or_none is))
+    by (Registers n) = ap (λ (ts : List NamedId). wanted_by ts cases) (sym (told_all b ∙ ap told_or_none is))
 files_wanted (asked.Builds query) t b cases is = ap (λ (ts : List NamedId). wanted_by ts cases) (sym (told_all b ∙ ap told_or_none is))
 
 -- and after them these debug files
 files_debugs : (a : AskedFiles) (t : ToldFiles) (b : List ℕ) (xs : List ExecutableView) (cases : List Case) → told_of b ≡ told_view t.files → debugs_asked a (files_told t) xs cases ≡ debugs_for (asking_query (files_asked a)) b cases xs
-files_debugs (asked.Frames thread frame) t b xs cases is = by frame
+files_debugs (asked.Frames thread frames) t b xs cases is = by frames
   where
-    by : (o : Option ℕ) → debugs_asked (asked.Frames thread o) (files_told t) xs cases ≡ debugs_for (asking_query (files_asked (asked.Frames thread o))) b cases xs
-    by None = ap (λ (ts : List NamedId). debugs_by ts xs cases) (sym (told_all b ∙ ap told_or_none is))
-    by (Some n) = ap (λ (ts : List NamedId). debugs_by ts xs cases) (sym (told_all b ∙ ap told_or_none is))
+    by : (f : FramesAsked) → debugs_asked (asked.Frames thread f) (files_told t) xs cases ≡ debugs_for (asking_query (files_asked (asked.Frames thread f))) b cases xs
+    by (Shown Stack) = ap (λ (ts : List NamedId). debugs_by ts xs cases) (sym (told_all b ∙ ap told_or_none is))
+    by (Shown Source) = ap (λ (ts : List NamedId). debugs_by ts xs cases) (sym (told_all b ∙ ap told_or_none is))
+    by (Registers n) = ap (λ (ts : List NamedId). debugs_by ts xs cases) (sym (told_all b ∙ ap told_or_none is))
 files_debugs (asked.Builds builds.Compared) t b xs cases is = refl
 files_debugs (asked.Builds builds.Used) t b xs cases is = ap (λ (ts : List NamedId). debugs_by ts xs cases) (sym (told_all b ∙ ap told_or_none is))
 files_debugs (asked.Builds builds.Wanted) t b xs cases is = refl

@@ -22,7 +22,7 @@ use Rattle.intake.specs.StayLaws.{stays_then}
 use Rattle.memory_replies.specs.Stack.{HasFrames}
 use Rattle.memory_replies.specs.Window.{IsAtHand, IsPartOf, past_of}
 use Rattle.script_lines.specs.declared.query.MemoryQuery.{MemoryQuery}
-use Rattle.script_lines.specs.declared.query.MemoryQuery.TheVariants.{Dump, At, Find, Strings, Backtrace, Unwind, Frame, Builds}
+use Rattle.script_lines.specs.declared.query.MemoryQuery.TheVariants.{Dump, At, Find, Strings, Backtrace, Unwind, Lines, Frame, Builds}
 use Rattle.case_queries.specs.Fronts.{HasSize, IsEnough, ReadsFront, ReadsUpTo, SeesEnough}
 use Rattle.case_queries.specs.LeaveLaws.{Leaves, own_still}
 use Rattle.case_queries.specs.Seeing.{IsKept, SeesImage}
@@ -277,6 +277,7 @@ module _ {D : Type 0} (g : disk.Ghosts D) where
   all_seen old new seq (Find needle) s image sees is size at bytes = (image, sees, is)
   all_seen old new seq (Strings least) s image sees is size at bytes = (image, sees, is)
   all_seen old new seq (Unwind thread) s image sees is size at bytes = (image, sees, is)
+  all_seen old new seq (Lines thread) s image sees is size at bytes = (image, sees, is)
   all_seen old new seq (Frame thread frame) s image sees is size at bytes = (image, sees, is)
   all_seen old new seq (Builds query) s image sees is size at bytes = (image, sees, is)
   all_seen old new seq (Backtrace thread) s image sees is size at bytes =

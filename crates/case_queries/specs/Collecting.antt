@@ -14,7 +14,7 @@ use Rattle.journal_layout.specs.Case.{Case}
 use Rattle.journal_layout.specs.declared.entry.Kind.{Kind}
 use Rattle.journal_layout.specs.declared.entry.Kind.TheVariants.{Core, Exec}
 use Rattle.memory_replies.specs.Memory.{is_mapped}
-use Rattle.script_lines.specs.Queries.{QuerySaid, ask_at, ask_backtrace, ask_builds, ask_by_build, ask_frame, ask_symbol_by_build, ask_unwind}
+use Rattle.script_lines.specs.Queries.{QuerySaid, ask_at, ask_backtrace, ask_builds, ask_by_build, ask_frame, ask_line, ask_lines, ask_symbol_by_build, ask_unwind}
 use Rattle.script_lines.specs.declared.query.BuildQuery.TheVariants.{Used}
 use Rattle.case_queries.specs.Seeing.{LooksAt}
 
@@ -63,15 +63,18 @@ own_debugs b cases = named_by (name_of_debug (build_id_of b)) cases
 -- its debug file is read.
 abbrev pub wanted_for : QuerySaid → List ℕ → List Case → List Wanted
 wanted_for (ask_unwind thread) b cases = wanted_by (told_files b) cases
+wanted_for (ask_lines thread) b cases = wanted_by (told_files b) cases
 wanted_for (ask_frame thread frame) b cases = wanted_by (told_files b) cases
 wanted_for (ask_builds query) b cases = wanted_by (told_files b) cases
 wanted_for (ask_by_build query) b cases = wanted_by (told_files b) cases
 wanted_for (ask_symbol_by_build address) b cases = own_debugs b cases
+wanted_for (ask_line address) b cases = own_debugs b cases
 wanted_for q b cases = wanted_of b cases
 
 -- The debug files that a line reads after these executables: lines over call frames do, that over what is used, and `at` and `bt` by build.
 abbrev pub debugs_for : QuerySaid → List ℕ → List Case → List ExecutableView → List Wanted
 debugs_for (ask_unwind thread) b cases xs = debugs_by (told_files b) xs cases
+debugs_for (ask_lines thread) b cases xs = debugs_by (told_files b) xs cases
 debugs_for (ask_frame thread frame) b cases xs = debugs_by (told_files b) xs cases
 debugs_for (ask_builds Used) b cases xs = debugs_by (told_files b) xs cases
 debugs_for (ask_by_build (ask_at address)) b cases xs = debugs_by (told_files b) xs cases

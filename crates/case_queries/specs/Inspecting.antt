@@ -10,6 +10,7 @@ use Rattle.build_replies.specs.Builds.{BuildsAsking, builds_answer, compares, us
 use Rattle.build_replies.specs.ByBuild.{is_debug_of}
 use Rattle.build_replies.specs.Choosing.{debugs_of, told_files, used_of}
 use Rattle.frame_replies.specs.FrameLines.{unwind_answer}
+use Rattle.frame_replies.specs.FrameSources.{lines_answer}
 use Rattle.frame_replies.specs.FrameRegisters.{frame_answer}
 use Rattle.image_replies.specs.Header.{header_answer}
 use Rattle.image_replies.specs.Notes.{notes_answer}
@@ -29,6 +30,7 @@ use Rattle.journal_layout.specs.Soundness.{case_numbered}
 use Rattle.journal_layout.specs.Case.{Case}
 use Rattle.journal_layout.specs.declared.entry.Kind.{Kind}
 use Rattle.journal_layout.specs.declared.entry.Kind.TheVariants.{Core, Exec}
+use Rattle.line_replies.specs.Line.{line_answer}
 use Rattle.memory_replies.specs.Answers.{Answers, memory_reply}
 use Rattle.address_replies.specs.At.{at_answer, at_with_debugs}
 use Rattle.memory_replies.specs.Backtrace.{bt_answer, bt_with_debugs}
@@ -40,7 +42,7 @@ use Rattle.memory_replies.specs.Symbol.{symbol_answer, executable_fault}
 use Rattle.memory_replies.specs.SymbolDebug.{symbol_with_debug}
 use Rattle.script_lines.specs.declared.query.BuildQuery.{BuildQuery}
 use Rattle.script_lines.specs.declared.query.BuildQuery.TheVariants as builds
-use Rattle.script_lines.specs.Queries.{QuerySaid, ask_header, ask_notes, ask_threads, ask_registers, ask_process, ask_signal, ask_auxiliary_vector, ask_files, ask_maps, ask_dump, ask_at, ask_find, ask_strings, ask_backtrace, ask_unwind, ask_frame, ask_builds, ask_symbol, ask_by_build, ask_symbol_by_build}
+use Rattle.script_lines.specs.Queries.{QuerySaid, ask_header, ask_notes, ask_threads, ask_registers, ask_process, ask_signal, ask_auxiliary_vector, ask_files, ask_maps, ask_dump, ask_at, ask_find, ask_strings, ask_backtrace, ask_unwind, ask_lines, ask_frame, ask_builds, ask_symbol, ask_by_build, ask_symbol_by_build, ask_line}
 use Rattle.script_streams.specs.Replies.{no_reply, reply_of}
 use Rattle.case_queries.specs.Collecting.{Gathered, GathersFor, Wanted}
 use Rattle.archive_replies.specs.Reasons.{reason_of}
@@ -51,12 +53,13 @@ abbrev pub executable_kind : Kind → Result Kind (List ℕ)
 executable_kind Core = Err (codes "NotExec")
 executable_kind Exec = Ok Exec
 
--- of which kind a case is, where the line may ask one of that kind: a header is asked of both, a symbol of executables, all else
--- of cores
+-- of which kind a case is, where the line may ask one of that kind: a header is asked of both, a symbol and a source line of
+-- executables, all else of cores
 abbrev pub kind_for : QuerySaid → Kind → Result Kind (List ℕ)
 kind_for ask_header kind = Ok kind
 kind_for (ask_symbol address) kind = executable_kind kind
 kind_for (ask_symbol_by_build address) kind = executable_kind kind
+kind_for (ask_line address) kind = executable_kind kind
 kind_for q Core = Ok Core
 kind_for q Exec = Err (codes "NotCore")
 
@@ -113,11 +116,13 @@ answer_of kind (ask_find needle) b cases xs = find_answer b xs needle
 answer_of kind (ask_strings least) b cases xs = strings_answer b xs least
 answer_of kind (ask_backtrace thread) b cases xs = bt_answer b xs thread
 answer_of kind (ask_unwind thread) b cases xs = unwind_answer b xs thread
+answer_of kind (ask_lines thread) b cases xs = lines_answer b xs thread
 answer_of kind (ask_frame thread frame) b cases xs = frame_answer b xs thread frame
 answer_of kind (ask_builds query) b cases xs = builds_answer (asking_by query cases) b xs
 answer_of kind (ask_symbol address) b cases xs = symbol_answer b address
 answer_of kind (ask_by_build query) b cases xs = by_debugs query b (used_for b xs) (debugs_used_for b xs) (answer_of kind query b cases (used_for b xs))
 answer_of kind (ask_symbol_by_build address) b cases xs = symbol_with_debug b (debug_image b xs) address
+answer_of kind (ask_line address) b cases xs = line_answer b (debug_image b xs) address
 
 -- the lines that read executables beside the image that they ask
 abbrev pub reads_executables : QuerySaid → Bool
@@ -127,15 +132,18 @@ reads_executables (ask_find needle) = true
 reads_executables (ask_strings least) = true
 reads_executables (ask_backtrace thread) = true
 reads_executables (ask_unwind thread) = true
+reads_executables (ask_lines thread) = true
 reads_executables (ask_frame thread frame) = true
 reads_executables (ask_builds query) = true
 reads_executables (ask_by_build query) = true
 reads_executables (ask_symbol_by_build address) = true
+reads_executables (ask_line address) = true
 reads_executables _ = false
 
--- Before they are read, the fault of the core for which it is refused. An executable's symbol is asked of no core.
+-- Before they are read, the fault of the core for which it is refused. What is at an address of an executable is asked of no core.
 abbrev pub core_fault_for : QuerySaid → List ℕ → Option CoreFault
 core_fault_for (ask_symbol_by_build address) b = None
+core_fault_for (ask_line address) b = None
 core_fault_for q b = core_fault_of b
 
 -- The reply where no executable is read: that of the answer. The table of an executable's symbols takes memory.

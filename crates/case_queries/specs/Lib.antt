@@ -21,3 +21,4 @@ pub mod Stored
 pub mod Preparing
 pub mod Executables
 pub mod ExecutableWords
+pub mod CodeQueries

@@ -12,7 +12,7 @@ use Rattle.memory_replies.specs.Dump.{is_out_of_range}
 use Rattle.memory_replies.specs.Stack.{HasFrames}
 use Rattle.memory_replies.specs.Window.{IsAtHand}
 use Rattle.script_lines.specs.declared.query.MemoryQuery.{MemoryQuery}
-use Rattle.script_lines.specs.declared.query.MemoryQuery.TheVariants.{Dump, At, Find, Strings, Backtrace, Unwind, Frame, Builds}
+use Rattle.script_lines.specs.declared.query.MemoryQuery.TheVariants.{Dump, At, Find, Strings, Backtrace, Unwind, Lines, Frame, Builds}
 use Rattle.case_queries.specs.Fronts.{IsEnough, ReadsFront}
 use Rattle.case_queries.specs.Seeing.{LooksAt, SeesImage}
 use Rattle.case_queries.specs.declared.window.Part.{Part}
@@ -35,6 +35,7 @@ most_for (Find needle) = 0
 most_for (Strings least) = 0
 most_for (Backtrace thread) = 1048576
 most_for (Unwind thread) = 0
+most_for (Lines thread) = 0
 most_for (Frame thread frame) = 0
 most_for (Builds query) = 0
 
@@ -47,6 +48,7 @@ IsSeenBy (Find needle) front size at bytes image = front ≡ image
 IsSeenBy (Strings least) front size at bytes image = front ≡ image
 IsSeenBy (Backtrace thread) front size at bytes image = IsEnough Core front image × HasFrames front size bytes thread image
 IsSeenBy (Unwind thread) front size at bytes image = front ≡ image
+IsSeenBy (Lines thread) front size at bytes image = front ≡ image
 IsSeenBy (Frame thread frame) front size at bytes image = front ≡ image
 IsSeenBy (Builds query) front size at bytes image = front ≡ image
 

@@ -4,6 +4,7 @@ ghost use Rattle.build_replies.specs.BuildsWords.{asking_view, numbered_view};
 ghost use Rattle.case_queries.specs.Inspecting.{asking_by};
 
 use build_replies::{BuildsAsked, NumberedCase};
+use frame_replies::Shown;
 use script_lines::BuildQuery;
 use windowed_search::Sought;
 
@@ -19,10 +20,19 @@ pub(crate) enum Asked<'n> {
 // What is answered by these.
 #[derive(Clone, Copy, Debug)]
 pub(crate) enum AskedFiles {
-    // The frames of a thread, or the registers of the one of that number.
-    Frames { thread: u64, frame: Option<u64> },
+    // The frames of a thread.
+    Frames { thread: u64, asked: FramesAsked },
     // The builds of its mapped files.
     Builds(BuildQuery),
+}
+
+// What is asked of the frames of a thread.
+#[derive(Clone, Copy, Debug)]
+pub(crate) enum FramesAsked {
+    // A line for each.
+    Shown(Shown),
+    // The registers of the one of that number.
+    Registers(u64),
 }
 
 // What a line over builds asks, where the executables of these cases are read.

@@ -58,7 +58,7 @@ fn tell_asked<'a, O: Output, D: Disk>(
         → TellsOutcome (telling O.Output reply.old reply.new) (λ text. ShowsTold D.Disk before image.entry told.entry.pieces.items (map attached_view lent.now.attached.items) (files_asking asked (map numbered_view lent.now.cases.items)) text archive.new) (is_done result) }
 {
     match asked {
-        AskedFiles::Frames { thread, frame } => {
+        AskedFiles::Frames { thread, asked } => {
             frames_in_core(
                 alloc,
                 image,
@@ -66,7 +66,7 @@ fn tell_asked<'a, O: Output, D: Disk>(
                 told,
                 &lent.attached,
                 thread,
-                frame,
+                asked,
                 reply,
                 archive,
             )

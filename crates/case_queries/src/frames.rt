@@ -19,6 +19,7 @@ ghost use Rattle.case_queries.specs.Unwound.{BeginsWalks, FindsThread, IsUnwound
 ghost use Rattle.case_queries.specs.declared.walk.CaseImage as images;
 ghost use Rattle.case_queries.specs.declared.window.Part as windows;
 
+use crate::asked::FramesAsked;
 use crate::find::tell_no_memory;
 use crate::found::tell_found;
 use crate::pieces::{MOST, lent_pieces, read_more};
@@ -156,29 +157,31 @@ pub(crate) fn walk_thread<D: Disk>(
     Ok(UnwoundThread { walk, stop })
 }
 
-// Tells the frames of a thread, or the registers of the one of that number.
+// Tells what is asked of the frames of a thread.
 fn tell_frames<O: Output>(
     reply: &mut Reply<'_, O>,
     process: &UnwoundProcess<'_, '_, '_>,
     unwound: &UnwoundThread,
-    frame: Option<u64>,
+    asked: FramesAsked,
 ) -> Outcome
     ensures { (image : List ℕ) (executables : List ExecutableView) (thread : ℕ) → IsUnwound image executables thread process.now unwound.now
-        → TellsReply (telling O.Output reply.old reply.new) (AnswersWith result (frames_answer image executables thread frame)) }
+        → TellsReply (telling O.Output reply.old reply.new) (AnswersWith result (frames_answer image executables thread asked)) }
 {
-    match frame {
-        Some(frame) => tell_walked_frame(reply, &unwound.walk, frame),
-        None => tell_walked(reply, process, &unwound.walk, unwound.stop),
+    match asked {
+        FramesAsked::Registers(frame) => tell_walked_frame(reply, &unwound.walk, frame),
+        FramesAsked::Shown(shown) => {
+            tell_walked(reply, process, &unwound.walk, unwound.stop, shown)
+        }
     }
 }
 
-// Finds the frames of a thread, whose walk has begun, and tells them, or the registers of the one of that number.
+// Finds the frames of a thread, whose walk has begun, and tells what is asked of them.
 fn frames_of_walk<O: Output, D: Disk>(
     alloc: Global,
     image: CaseImage<'_>,
     found: UnwoundCore<'_, '_, '_>,
     begun: Walk,
-    frame: Option<u64>,
+    asked: FramesAsked,
     reply: &mut Reply<'_, O>,
     archive: &mut Archive<D>,
 ) -> Outcome
@@ -187,16 +190,16 @@ fn frames_of_walk<O: Output, D: Disk>(
     requires some { (b : List ℕ) × BeginsWith image found.pieces.items b }
     ensures { (before : Parts D) (stored : List ExecutableView) (thread : ℕ) → SeesPieces D.Disk before image.entry found.entry.pieces.items archive.old
         → ((b : List ℕ) → BeginsWith image.entry found.entry.pieces.items b → IsWalkOf b stored thread found.entry.process begun)
-        → TellsOutcome (telling O.Output reply.old reply.new) (λ text. ShowsTold D.Disk before image.entry found.entry.pieces.items stored (for_frames thread frame) text archive.new) (is_done result) }
+        → TellsOutcome (telling O.Output reply.old reply.new) (λ text. ShowsTold D.Disk before image.entry found.entry.pieces.items stored (for_frames thread asked) text archive.new) (is_done result) }
 {
     let mut core = found;
     match walk_thread(alloc, image, &mut core, begun, archive) {
-        Ok(unwound) => tell_frames(reply, &core.process, &unwound, frame),
+        Ok(unwound) => tell_frames(reply, &core.process, &unwound, asked),
         Err(fault) => tell_found(reply, Err(fault)),
     }
 }
 
-// Tells the frames of a thread of a core, or the registers of the frame of that number. The first bytes of its image are at hand, and the
+// Tells what is asked of the frames of a thread of a core. The first bytes of its image are at hand, and the
 // pieces that tell its mapped files. All that is wanted is read before the first line.
 pub(crate) fn frames_in_core<'a, O: Output, D: Disk>(
     alloc: Global,
@@ -205,7 +208,7 @@ pub(crate) fn frames_in_core<'a, O: Output, D: Disk>(
     told: ToldFiles<'a>,
     attached: &[Attached<'a>],
     thread: u64,
-    frame: Option<u64>,
+    asked: FramesAsked,
     reply: &mut Reply<'_, O>,
     archive: &mut Archive<D>,
 ) -> Outcome
@@ -214,7 +217,7 @@ pub(crate) fn frames_in_core<'a, O: Output, D: Disk>(
     requires sound { IsSoundFront Core image.front.now }
     requires told { IsToldBy image told }
     ensures { (before : Parts D) → SeesPieces D.Disk before image.entry told.entry.pieces.items archive.old
-        → TellsOutcome (telling O.Output reply.old reply.new) (λ text. ShowsTold D.Disk before image.entry told.entry.pieces.items (map attached_view attached.now) (for_frames thread frame) text archive.new) (is_done result) }
+        → TellsOutcome (telling O.Output reply.old reply.new) (λ text. ShowsTold D.Disk before image.entry told.entry.pieces.items (map attached_view attached.now) (for_frames thread asked) text archive.new) (is_done result) }
 {
     a_sound_front_is_enough();
     let Some(begun) = Walk::begin(alloc, core, thread) else {
@@ -228,7 +231,7 @@ pub(crate) fn frames_in_core<'a, O: Output, D: Disk>(
         return tell_no_memory(reply);
     };
     match process_in_core(alloc, core, told, chosen, &executables) {
-        Ok(found) => frames_of_walk(alloc, image, found, begun, frame, reply, archive),
+        Ok(found) => frames_of_walk(alloc, image, found, begun, asked, reply, archive),
         Err(_) => tell_no_memory(reply),
     }
 }

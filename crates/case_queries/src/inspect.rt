@@ -9,9 +9,9 @@ ghost use Rattle.case_queries.specs.Keeping.{AreKept};
 ghost use Rattle.case_queries.specs.Seeing.{IsKept};
 
 use crate::by_front::answer_by_front;
+use crate::code::{CodeQuery, answer_code};
 use crate::kept_image::{Images, kept_if, see_image};
 use crate::memory::answer_by_memory;
-use crate::symbol_by_build::answer_symbol_by_build;
 use crate::with_builds::answer_with_builds;
 use archive_replies::reason;
 use disk_model::Disk;
@@ -50,9 +50,24 @@ pub fn answer_query<O: Output, D: Disk>(
         Query::Memory(query) => answer_by_memory(seq, kind, query, images, reply, archive),
         Query::ByBuild(query) => answer_with_builds(seq, kind, query, images, reply, archive),
         Query::Symbol { address } => answer_symbol(seq, kind, *address, images, reply, archive),
-        Query::SymbolByBuild { address } => {
-            answer_symbol_by_build(seq, kind, *address, images, reply, archive)
-        }
+        Query::SymbolByBuild { address } => answer_code(
+            seq,
+            kind,
+            CodeQuery::Function,
+            *address,
+            images,
+            reply,
+            archive,
+        ),
+        Query::Line { address } => answer_code(
+            seq,
+            kind,
+            CodeQuery::Line,
+            *address,
+            images,
+            reply,
+            archive,
+        ),
     }
 }
 
@@ -105,6 +120,7 @@ fn kind_for(query: &Query, kind: Kind) -> Result<Kind, &'static [u8]>
         Query::ByBuild(_) => core_kind(kind),
         Query::Symbol { .. } => executable_kind(kind),
         Query::SymbolByBuild { .. } => executable_kind(kind),
+        Query::Line { .. } => executable_kind(kind),
     }
 }
 

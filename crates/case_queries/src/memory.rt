@@ -18,7 +18,7 @@ ghost use Rattle.case_queries.specs.LeaveLaws.{Leaves};
 ghost use Rattle.case_queries.specs.Seeing.{IsKept};
 ghost use Rattle.case_queries.specs.Windows.{IsSeenBy};
 
-use crate::asked::{Asked, AskedFiles, builds_asked};
+use crate::asked::{Asked, AskedFiles, FramesAsked, builds_asked};
 use crate::collect_executables::{
     LentExecutables, StoredExecutable, WantedCase, collect, lent_with, wanted_by_build,
     wanted_by_path, wanted_debugs,
@@ -31,7 +31,7 @@ use address_replies::tell_at;
 use archive_replies::reason;
 use build_replies::{listed, tell_builds, told_ids};
 use disk_model::Disk;
-use frame_replies::{tell_frame, tell_unwind};
+use frame_replies::{Shown, tell_frame, tell_unwind};
 use image_replies::{CoreImage, a_sound_front_answers, tell_core_fault};
 use intake::{Archive, ArchiveFault};
 use journal_layout::Kind;
@@ -92,11 +92,15 @@ fn asked_in(query: &MemoryQuery, size: usize) -> Option<Asked<'_>>
         }
         MemoryQuery::Unwind { thread } => Some(Asked::Files(AskedFiles::Frames {
             thread: *thread,
-            frame: None,
+            asked: FramesAsked::Shown(Shown::Stack),
+        })),
+        MemoryQuery::Lines { thread } => Some(Asked::Files(AskedFiles::Frames {
+            thread: *thread,
+            asked: FramesAsked::Shown(Shown::Source),
         })),
         MemoryQuery::Frame { thread, frame } => Some(Asked::Files(AskedFiles::Frames {
             thread: *thread,
-            frame: Some(*frame),
+            asked: FramesAsked::Registers(*frame),
         })),
         MemoryQuery::Builds(query) => Some(Asked::Files(AskedFiles::Builds(*query))),
         _ => None,
@@ -232,6 +236,7 @@ fn wanted_for<D: Disk>(
 {
     match query {
         MemoryQuery::Unwind { .. } => wanted_for_builds(alloc, core, archive),
+        MemoryQuery::Lines { .. } => wanted_for_builds(alloc, core, archive),
         MemoryQuery::Frame { .. } => wanted_for_builds(alloc, core, archive),
         MemoryQuery::Builds(_) => wanted_for_builds(alloc, core, archive),
         MemoryQuery::Dump { .. } => wanted_by_path(alloc, core, archive),
@@ -286,6 +291,7 @@ fn debugs_for<D: Disk>(
 {
     match query {
         MemoryQuery::Unwind { .. } => debugs_of_core(alloc, core, executables, archive),
+        MemoryQuery::Lines { .. } => debugs_of_core(alloc, core, executables, archive),
         MemoryQuery::Frame { .. } => debugs_of_core(alloc, core, executables, archive),
         MemoryQuery::Builds(BuildQuery::Used) => debugs_of_core(alloc, core, executables, archive),
         MemoryQuery::Builds(BuildQuery::Compared) => Ok(Vec::new(alloc)),
@@ -397,7 +403,12 @@ pub(crate) fn tell_memory<O: Output>(
         MemoryQuery::Backtrace { thread } => {
             tell_bt(alloc, reply, core, window, attached, *thread)
         }
-        MemoryQuery::Unwind { thread } => tell_unwind(alloc, reply, core, attached, *thread),
+        MemoryQuery::Unwind { thread } => {
+            tell_unwind(alloc, reply, core, attached, *thread, Shown::Stack)
+        }
+        MemoryQuery::Lines { thread } => {
+            tell_unwind(alloc, reply, core, attached, *thread, Shown::Source)
+        }
         MemoryQuery::Frame { thread, frame } => {
             tell_frame(alloc, reply, core, attached, *thread, *frame)
         }

@@ -285,6 +285,7 @@ fn see_more<D: Disk>(
         MemoryQuery::Strings { .. } => read_rest(seq, size, front, archive),
         MemoryQuery::Backtrace { thread } => see_stack(seq, size, *thread, front, buffer, archive),
         MemoryQuery::Unwind { .. } => read_rest(seq, size, front, archive),
+        MemoryQuery::Lines { .. } => read_rest(seq, size, front, archive),
         MemoryQuery::Frame { .. } => read_rest(seq, size, front, archive),
         MemoryQuery::Builds(_) => read_rest(seq, size, front, archive),
     }
@@ -301,6 +302,7 @@ fn most_for(query: &MemoryQuery) -> usize
         MemoryQuery::Strings { .. } => 0,
         MemoryQuery::Backtrace { .. } => STACK,
         MemoryQuery::Unwind { .. } => 0,
+        MemoryQuery::Lines { .. } => 0,
         MemoryQuery::Frame { .. } => 0,
         MemoryQuery::Builds(_) => 0,
     }
@@ -350,6 +352,7 @@ fn reads_all(seq: u32, query: &MemoryQuery, kept: &Option<KeptImage>) -> bool {
         MemoryQuery::Strings { .. } => !keeps_front(seq, kept),
         MemoryQuery::Backtrace { .. } => false,
         MemoryQuery::Unwind { .. } => !keeps_front(seq, kept),
+        MemoryQuery::Lines { .. } => !keeps_front(seq, kept),
         MemoryQuery::Frame { .. } => !keeps_front(seq, kept),
         MemoryQuery::Builds(_) => !keeps_front(seq, kept),
     }

@@ -26,7 +26,11 @@ pub(crate) const ASK_HELP: &str = "Lines (corekeep help LINE says more):\n\
 \x20\x20strings N MIN                        the texts in memory of at least MIN bytes, 1 to 1,024\n\
 \x20\x20bt N T                               the frames of thread T by frame pointers\n\
 \x20\x20unwind N T                           the frames of thread T by call frame information\n\
+\x20\x20lines N T                            the source lines of the frames of thread T\n\
 \x20\x20frame N T I                          the registers of frame I of `unwind N T`\n\
 \x20\x20builds N                             whether the stored executables are those that were mapped, by build ID\n\
+\x20\x20used N                               which stored executable is used for each mapped file\n\
+\x20\x20wants N                              the builds to store: those for which no executable is used\n\
 \x20\x20symbol N ADDR                        the function at an address of an executable\n\
+\x20\x20line N ADDR                          the source line at an address of an executable\n\
 ADDR of dump and at may also be a register of the thread that dumped, or so far past it: sp, a0, sp+0x10";

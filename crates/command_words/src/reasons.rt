@@ -7,7 +7,7 @@ pub(crate) struct Meaning {
 }
 
 // The reasons for which something is refused. Other reasons are fields of an image.
-static MEANINGS: [Meaning; 45] = [
+static MEANINGS: [Meaning; 47] = [
     Meaning {
         reason: b"SpaceFull",
         words: b"the image takes more blocks than are free (corekeep ask ARCHIVE free counts them): delete or retire cases (pinned ones once they are unpinned); if it takes more than the archive has, make that larger (corekeep resize)",
@@ -131,6 +131,14 @@ static MEANINGS: [Meaning; 45] = [
     Meaning {
         reason: b"NoSymbol",
         words: b"no function of the executable has this address, or it has no symbol table",
+    },
+    Meaning {
+        reason: b"NoLine",
+        words: b"no line table of the executable or its debug file has this address: build with -g, and store the debug file with --build",
+    },
+    Meaning {
+        reason: b"Compressed",
+        words: b"the line tables are compressed: objcopy --decompress-debug-sections FILE NEW, then store NEW",
     },
     Meaning {
         reason: b"Missing",

@@ -3,6 +3,7 @@ pub mod ProcessWords
 pub mod Known
 pub mod FrameValues
 pub mod FrameLines
+pub mod FrameSources
 pub mod FrameRegisters
 pub mod Shown
 pub mod Walking

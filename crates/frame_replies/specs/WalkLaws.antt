@@ -18,11 +18,14 @@ use Rattle.unwind.specs.Unwinding.{unwound, stop_of}
 use Rattle.unwind.specs.declared.faults.Stop.{Stop}
 use Rattle.unwind.specs.declared.frame.Frame.{Frame}
 use Rattle.frame_replies.specs.FrameLines.{printed, stop_line, unwind_answer, unwound_answer, unwound_lines, value_line}
+use Rattle.frame_replies.specs.FrameSources.{lines_answer, printed_sources, shown_answer, shown_line}
 use Rattle.frame_replies.specs.FrameRegisters.{frame_answer, one_frame_answer, registers_of}
 use Rattle.frame_replies.specs.FrameValues.{FrameValue, ThreadFrames, frame_value, frames_of, thread_frames, value_with}
 use Rattle.frame_replies.specs.ProcessWords.{described_view, named_in}
 use Rattle.frame_replies.specs.Processes.{named_among, of_thread, process_in, start_of, state_of, with_code}
 use Rattle.frame_replies.specs.Walking.{AreMarked, BeginsAt, HasFound, IsProcessOf, IsWalkOf, IsWalked, WalksOn, found, process_by, walked_line, walked_value}
+use Rattle.frame_replies.specs.declared.lines.Shown.{Shown}
+use Rattle.frame_replies.specs.declared.lines.Shown.TheVariants.{Stack, Source}
 use Rattle.frame_replies.specs.declared.process.UnwoundProcess.{UnwoundProcess}
 use Rattle.frame_replies.specs.declared.walk.Walk.{Walk}
 use Rattle.frame_replies.specs.declared.walk.WalkedFrame.{WalkedFrame}
@@ -74,11 +77,27 @@ module _ (image : List ℕ) (xs : List ExecutableView) (t : ℕ) (p : UnwoundPro
       ∙ sym (ap (option_map (thread_frames q (named_among choice))) is.state)
 
   -- and their lines are those of the answer
-  pub unwind_told : Ok (numbered_lines (walked_line (space_of p.space).files (named_in p.executables.now.images)) 0 w.frames.items ++ stop_line stop) ≡ unwind_answer image xs t
+  lines_told : Ok (numbered_lines (walked_line Source (space_of p.space).files (named_in p.executables.now.images)) 0 w.frames.items ++ stop_line stop) ≡ lines_answer image xs t
+  unfolding lines_answer
+  lines_told =
+      let choice = choice_for image xs in
+      let files = (space_of p.space).files in
+      let named = named_in p.executables.now.images in
+      let same : files ≡ (process_in image choice).space.files = ap (λ (r : ProcessView). r.space.files) is.process in
+      ap (λ (ls : List ℕ). Ok (ls ++ stop_line stop)) (numbered_map (shown_line Source files named) (walked_value files named) 0 w.frames.items)
+      ∙ ap (printed_sources files named) walk_values
+      ∙ ap (λ (fs : List FileView). printed_sources fs named (frames_of image xs t)) same
+      ∙ ap (λ (ns : List NamedFile). printed_sources (process_in image choice).space.files ns (frames_of image xs t)) is.named
+
+  unwind_told : Ok (numbered_lines (walked_line Stack (space_of p.space).files (named_in p.executables.now.images)) 0 w.frames.items ++ stop_line stop) ≡ unwind_answer image xs t
   unwind_told =
       ap (λ (ls : List ℕ). Ok (ls ++ stop_line stop)) (numbered_map value_line (walked_value (space_of p.space).files (named_in p.executables.now.images)) 0 w.frames.items)
       ∙ ap printed walk_values
       ∙ sym (unwind_printed image xs t)
+
+  pub shown_told : (shown : Shown) → Ok (numbered_lines (walked_line shown (space_of p.space).files (named_in p.executables.now.images)) 0 w.frames.items ++ stop_line stop) ≡ shown_answer shown image xs t
+  shown_told Stack = unwind_told
+  shown_told Source = lines_told
 
   -- so are the registers of one of them
   pub frame_told : (i : ℕ) (o : Option Frame) → o ≡ slice_get (found w.frames.items) i → registers_of o ≡ frame_answer image xs t i
@@ -92,6 +111,16 @@ module _ (image : List ℕ) (xs : List ExecutableView) (t : ℕ) (none : state_o
   pub unwind_missing : Err (codes "NoThread") ≡ unwind_answer image xs t
   unfolding unwind_answer
   unwind_missing = sym (ap (of_thread (unwound_answer image (choice_for image xs))) none)
+
+  pub lines_missing : Err (codes "NoThread") ≡ lines_answer image xs t
+  unfolding lines_answer frames_of
+  lines_missing =
+      let choice = choice_for image xs in
+      sym (ap (λ (state : Option (List ℕ)). printed_sources (process_in image choice).space.files (named_among choice) (option_map (thread_frames (process_in image choice) (named_among choice)) state)) none)
+
+  pub shown_missing : (shown : Shown) → Err (codes "NoThread") ≡ shown_answer shown image xs t
+  shown_missing Stack = unwind_missing
+  shown_missing Source = lines_missing
 
   pub frame_missing : (i : ℕ) → Err (codes "NoThread") ≡ frame_answer image xs t i
   unfolding frame_answer

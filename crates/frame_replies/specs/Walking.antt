@@ -16,10 +16,11 @@ use Rattle.unwind.specs.FrameWords.{HaveEnded, frames_left, most_left, stop_left
 use Rattle.unwind.specs.Unwinding.{unwound, stop_of}
 use Rattle.unwind.specs.declared.faults.Stop.{Stop}
 use Rattle.unwind.specs.declared.frame.Frame.{Frame}
-use Rattle.frame_replies.specs.FrameLines.{value_line}
+use Rattle.frame_replies.specs.FrameSources.{shown_line}
 use Rattle.frame_replies.specs.FrameValues.{FrameValue, value_with}
 use Rattle.frame_replies.specs.ProcessWords.{described_view, named_in}
 use Rattle.frame_replies.specs.Processes.{named_among, process_in, start_of, state_of, with_code}
+use Rattle.frame_replies.specs.declared.lines.Shown.{Shown}
 use Rattle.frame_replies.specs.declared.process.UnwoundExecutables.{UnwoundExecutables}
 use Rattle.frame_replies.specs.declared.process.UnwoundProcess.{UnwoundProcess}
 use Rattle.frame_replies.specs.declared.walk.Walk.{Walk}
@@ -101,6 +102,6 @@ StepsOn front size parts old (Err OutOfMemory) new = ⊤
 abbrev pub walked_value : List FileView → List NamedFile → WalkedFrame → FrameValue
 walked_value files named w = value_with files named w.signal w.frame
 
--- `I PC WHERE sp h` of it
-abbrev pub walked_line : List FileView → List NamedFile → ℕ → WalkedFrame → List ℕ
-walked_line files named i w = value_line i (walked_value files named w)
+-- its line, by what is shown
+abbrev pub walked_line : Shown → List FileView → List NamedFile → ℕ → WalkedFrame → List ℕ
+walked_line shown files named i w = shown_line shown files named i (walked_value files named w)

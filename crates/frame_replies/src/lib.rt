@@ -12,12 +12,13 @@ mod lines;
 mod process;
 mod refused;
 mod registers;
+mod sources;
 mod stops;
 mod values;
 mod walk;
 
 pub use laws::{by_path_where_unknown, each_frame_shown_stands_on_a_rule, never_another};
-pub use lines::{tell_frame_place, tell_unwind, tell_walked};
+pub use lines::{Shown, tell_frame_place, tell_unwind, tell_walked};
 pub use process::{UnwoundExecutables, UnwoundProcess};
 pub use registers::{tell_frame, tell_walked_frame};
 pub use stops::{stop_fault, stop_name, tell_stop};

@@ -8,6 +8,7 @@ ghost use Rattle.image_replies.specs.Lines.{numbered_lines};
 ghost use Rattle.memory_replies.specs.Answers.{AnswersWith};
 ghost use Rattle.memory_replies.specs.Memory.{attached_view};
 ghost use Rattle.frame_replies.specs.FrameLines as spec;
+ghost use Rattle.frame_replies.specs.FrameSources as sources;
 ghost use Rattle.frame_replies.specs.FrameValues.{frame_view};
 ghost use Rattle.frame_replies.specs.ProcessWords.{named_in};
 ghost use Rattle.frame_replies.specs.Walking as walks;
@@ -15,6 +16,7 @@ ghost use Rattle.frame_replies.specs.Walking as walks;
 use crate::known::tell_known;
 use crate::process::{UnwoundExecutables, UnwoundProcess, chosen_for};
 use crate::refused::tell_no_memory;
+use crate::sources::tell_source_line;
 use crate::stops::tell_stop;
 use crate::values::FrameAnswer;
 use crate::walk::{Walk, WalkedFrame};
@@ -24,6 +26,15 @@ use memory_replies::{Outcome, tell_hex_word, tell_place};
 use script_streams::{Output, Reply, tell_no, tell_ok};
 use std::alloc::Global;
 use unwind::Stop;
+
+/// What a frame's line shows beside its place.
+#[derive(Clone, Copy, PartialEq, Eq, Debug)]
+pub enum Shown {
+    /// The stack pointer, and the return address register of frame 0.
+    Stack,
+    /// The source line.
+    Source,
+}
 
 /// Tells where a frame is: `signal` at the code to which a signal handler returns, else `NAME+h` by the symbols of the executable that is
 /// attached for the mapped file, or of its debug file, or `?`.
@@ -62,17 +73,35 @@ fn tell_line<O: Output>(reply: &mut Reply<'_, O>, index: u64, frame: &FrameAnswe
     reply.tell(b"\n");
 }
 
+/// Tells the line of a frame of a process, by what is shown.
+fn tell_shown<O: Output>(
+    reply: &mut Reply<'_, O>,
+    process: &UnwoundProcess<'_, '_, '_>,
+    shown: Shown,
+    index: u64,
+    frame: &FrameAnswer<'_>,
+)
+    ensures { TellsText (telling O.Output reply.old reply.new)
+        (sources.shown_line shown (space_of process.now.space).files (named_in process.now.executables.now.images) index (frame_view frame.now)) }
+{
+    match shown {
+        Shown::Stack => tell_line(reply, index, frame),
+        Shown::Source => tell_source_line(reply, index, frame, process.source(frame)),
+    }
+}
+
 /// Tells a line for each frame, the first being number 0.
 fn tell_lines<O: Output>(
     reply: &mut Reply<'_, O>,
     process: &UnwoundProcess<'_, '_, '_>,
     frames: &[WalkedFrame],
+    shown: Shown,
 )
     ensures { TellsText (telling O.Output reply.old reply.new)
-        (numbered_lines (walks.walked_line (space_of process.now.space).files (named_in process.now.executables.now.images)) 0 frames.now) }
+        (numbered_lines (walks.walked_line shown (space_of process.now.space).files (named_in process.now.executables.now.images)) 0 frames.now) }
 {
     for (index, walked) in frames.iter().enumerate() {
-        tell_line(reply, index as u64, &process.frame(walked));
+        tell_shown(reply, process, shown, index as u64, &process.frame(walked));
     }
 }
 
@@ -81,16 +110,20 @@ fn tell_lines<O: Output>(
 /// `NAME+h` by the symbols of the executable that is attached for the mapped file, or of its debug file, or `?`. A value that is not known is `?`.
 ///
 /// The address that is looked up for a frame is its pc if execution was there, else the one before it.
+///
+/// With [`Shown::Source`] each frame is `I PC WHERE FILE LINE`: the source line of that address, by the line tables of the executable or
+/// of its debug file, or `? ?`.
 pub fn tell_walked<O: Output>(
     reply: &mut Reply<'_, O>,
     process: &UnwoundProcess<'_, '_, '_>,
     walk: &Walk,
     stop: Stop,
+    shown: Shown,
 ) -> Outcome
     ensures { (image : List ℕ) (executables : List ExecutableView) (thread : ℕ) → walks.IsWalkOf image executables thread process.now walk.now → walks.HasFound walk.now stop
-        → TellsReply (telling O.Output reply.old reply.new) (AnswersWith result (spec.unwind_answer image executables thread)) }
+        → TellsReply (telling O.Output reply.old reply.new) (AnswersWith result (sources.shown_answer shown image executables thread)) }
 {
-    tell_lines(reply, process, &walk.frames);
+    tell_lines(reply, process, &walk.frames, shown);
     tell_stop(reply, stop);
     tell_ok(reply);
     Outcome::Done
@@ -104,9 +137,10 @@ pub fn tell_unwind<O: Output>(
     core: &CoreImage<'_>,
     attached: &[Attached<'_>],
     thread: u64,
+    shown: Shown,
 ) -> Outcome
     ensures { TellsReply (telling O.Output reply.old reply.new)
-        (AnswersWith result (spec.unwind_answer (core_bytes core.now) (map attached_view attached.now) thread)) }
+        (AnswersWith result (sources.shown_answer shown (core_bytes core.now) (map attached_view attached.now) thread)) }
 {
     let Ok(chosen) = chosen_for(alloc, core, attached) else {
         return tell_no_memory(reply);
@@ -124,7 +158,7 @@ pub fn tell_unwind<O: Output>(
     let mut walk = begun;
     let image = core.elf().image();
     match walk.go_on(alloc, &process, image, image.len() as u64, &[]) {
-        Ok(stop) => tell_walked(reply, &process, &walk, stop),
+        Ok(stop) => tell_walked(reply, &process, &walk, stop, shown),
         // All bytes are at hand, so it is memory.
         Err(_) => tell_no_memory(reply),
     }

@@ -2,7 +2,7 @@
 use crate::line::LineHelp;
 
 /// The help of each line.
-pub static LINES: [LineHelp; 32] = [
+pub static LINES: [LineHelp; 34] = [
     LineHelp {
         name: "list",
         usage: "list",
@@ -188,6 +188,14 @@ pub static LINES: [LineHelp; 32] = [
         reasons: "Stopped, NoCase, NotCore, OutOfMemory, Disk, a field of the headers, notes or typed notes, NoThread",
     },
     LineHelp {
+        name: "lines",
+        usage: "lines N T",
+        does: "the source lines of the frames of thread T",
+        reply: "I PC WHERE FILE LINE for each frame of `unwind N T`, then why they end",
+        example: "lines 3 0",
+        reasons: "Stopped, NoCase, NotCore, OutOfMemory, Disk, a field of the headers, notes or typed notes, NoThread",
+    },
+    LineHelp {
         name: "frame",
         usage: "frame N T I",
         does: "the registers of frame I of `unwind N T`",
@@ -226,6 +234,14 @@ pub static LINES: [LineHelp; 32] = [
         reply: "NAME VALUE SIZE",
         example: "symbol 4 0x10400",
         reasons: "Stopped, NoCase, NotExec, OutOfMemory, Disk, a field of the headers or of the symbol table, NoSymbol",
+    },
+    LineHelp {
+        name: "line",
+        usage: "line N ADDR",
+        does: "the source line of an address of an executable",
+        reply: "FILE LINE",
+        example: "line 4 0x10400",
+        reasons: "Stopped, NoCase, NotExec, OutOfMemory, Disk, a field of the headers, Compressed, a field of the line tables, NoLine",
     },
     LineHelp {
         name: "begin",

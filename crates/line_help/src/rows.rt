@@ -63,8 +63,8 @@ static IMAGE_ROWS: [LineRows; 9] = [
     },
 ];
 
-/// The same of the lines that ask memory, frames and symbols.
-static MEMORY_ROWS: [LineRows; 11] = [
+/// The same of the lines that ask memory, frames, symbols and source lines.
+static MEMORY_ROWS: [LineRows; 13] = [
     LineRows {
         name: "dump",
         rows: &[
@@ -110,6 +110,14 @@ static MEMORY_ROWS: [LineRows; 11] = [
         ],
     },
     LineRows {
+        name: "lines",
+        rows: &[
+            "<frame> <pc> <where:place> <file:place> <line>",
+            "stop <stop> <field> <entry>",
+            "stop <stop>",
+        ],
+    },
+    LineRows {
         name: "frame",
         rows: &["<name> <value>"],
     },
@@ -128,6 +136,10 @@ static MEMORY_ROWS: [LineRows; 11] = [
     LineRows {
         name: "symbol",
         rows: &["<name:text> <value> <size>"],
+    },
+    LineRows {
+        name: "line",
+        rows: &["<file:text> <line>"],
     },
 ];
 

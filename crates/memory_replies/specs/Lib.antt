@@ -14,6 +14,8 @@ pub mod NamedList
 pub mod Naming
 pub mod OwnSymbols
 pub mod NamingWords
+pub mod Code
+pub mod CodeWords
 pub mod FunctionWords
 pub mod SymbolDebug
 pub mod FileNameWords

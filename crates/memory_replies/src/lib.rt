@@ -5,6 +5,7 @@
 #![tactic(auto)]
 
 mod attached;
+mod code;
 mod debug_file;
 mod dump;
 mod file_names;
@@ -27,6 +28,7 @@ mod window;
 mod words;
 
 pub use attached::{space_and_images, space_with};
+pub use code::{CodePlace, code_of};
 pub use dump::{is_out_of_range, tell_dump};
 pub use file_names::FileNames;
 pub use frames::{tell_bt, tell_bt_with_debugs};

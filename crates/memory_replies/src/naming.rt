@@ -101,7 +101,10 @@ pub fn named_executables<'a>(
 }
 
 /// The first executable of that path.
-fn of_path<'n, 'a>(named: &'n [NamedExecutable<'a>], path: &[u8]) -> Option<&'n NamedExecutable<'a>>
+pub(crate) fn of_path<'n, 'a>(
+    named: &'n [NamedExecutable<'a>],
+    path: &[u8],
+) -> Option<&'n NamedExecutable<'a>>
     ensures { option_map (λ n. named_file n.now) result ≡ find (spec.has_path path.now) (map named_file named.now) }
 {
     for executable in named {

@@ -10,7 +10,7 @@ use Rattle.std.specs.List.{list_all, AllByRecursion}
 use Rattle.script_words.specs.Hex.{hex_of, bytes_of_hex, needle_of}
 use Rattle.script_words.specs.Number.{number_of, kept_within, number_within}
 use Rattle.script_words.specs.Words.{with_first, pieces_of, is_word, words_of, is_plain_line, is_blank_or_comment_line}
-use Rattle.script_lines.specs.Queries.{QuerySaid, ask_header, ask_notes, ask_threads, ask_registers, ask_process, ask_signal, ask_auxiliary_vector, ask_files, ask_maps, ask_dump, ask_at, ask_find, ask_strings, ask_backtrace, ask_unwind, ask_frame, ask_builds, ask_symbol, ask_by_build, ask_symbol_by_build, asks_of, asks_both, IsSayable}
+use Rattle.script_lines.specs.Queries.{QuerySaid, ask_header, ask_notes, ask_threads, ask_registers, ask_process, ask_signal, ask_auxiliary_vector, ask_files, ask_maps, ask_dump, ask_at, ask_find, ask_strings, ask_backtrace, ask_unwind, ask_lines, ask_frame, ask_builds, ask_symbol, ask_by_build, ask_symbol_by_build, ask_line, asks_of, asks_both, IsSayable}
 use Rattle.script_lines.specs.declared.query.BuildQuery.TheVariants.{Compared, Used, Wanted}
 use Rattle.script_lines.specs.Said.{known_or_bad, inspects, words_said, said, inspect_of}
 
@@ -233,6 +233,8 @@ module _ (reads : ReadsDecimal) (reads_hex : ReadsHex) (seq : ℕ) (some : 1 ≤
       numbered_line (codes "bt") ask_backtrace thread fits (record { some = omega arith; few = omega arith; marks = refl; seen = λ ws. refl }) (λ word number. refl)
   query_line (ask_unwind thread) fits =
       numbered_line (codes "unwind") ask_unwind thread fits (record { some = omega arith; few = omega arith; marks = refl; seen = λ ws. refl }) (λ word number. refl)
+  query_line (ask_lines thread) fits =
+      numbered_line (codes "lines") ask_lines thread fits (record { some = omega arith; few = omega arith; marks = refl; seen = λ ws. refl }) (λ word number. refl)
   query_line (ask_frame thread frame) fits =
       ranged_line (codes "frame") ask_frame thread frame fits.0 fits.1 (record { some = omega arith; few = omega arith; marks = refl; seen = λ ws. refl }) (λ word first second. refl)
   query_line (ask_builds Compared) fits = alone_line (codes "builds") (ask_builds Compared) (record { some = omega arith; few = omega arith; marks = refl; seen = λ ws. refl }) (λ word. refl)
@@ -242,3 +244,5 @@ module _ (reads : ReadsDecimal) (reads_hex : ReadsHex) (seq : ℕ) (some : 1 ≤
       numbered_line (codes "symbol") ask_symbol address fits (record { some = omega arith; few = omega arith; marks = refl; seen = λ ws. refl }) (λ word number. refl)
   query_line (ask_by_build query) fits = absurd fits
   query_line (ask_symbol_by_build address) fits = absurd fits
+  query_line (ask_line address) fits =
+      numbered_line (codes "line") ask_line address fits (record { some = omega arith; few = omega arith; marks = refl; seen = λ ws. refl }) (λ word number. refl)

@@ -5,13 +5,13 @@ use Rattle.script_words.specs.Hex.{needle_of}
 use Rattle.script_words.specs.Number.{number_of, number_within}
 use Rattle.script_lines.specs.declared.names.Needle.{Needle}
 use Rattle.script_lines.specs.declared.query.Query.{Query}
-use Rattle.script_lines.specs.declared.query.Query.TheVariants.{Image, Memory, ByBuild, Symbol, SymbolByBuild}
+use Rattle.script_lines.specs.declared.query.Query.TheVariants.{Image, Memory, ByBuild, Symbol, SymbolByBuild, Line}
 use Rattle.script_lines.specs.declared.query.ImageQuery.{ImageQuery}
 use Rattle.script_lines.specs.declared.query.ImageQuery.TheVariants.{Header, Notes, Threads, Registers, Process, Signal, AuxiliaryVector, Files, Maps}
 use Rattle.script_lines.specs.declared.query.BuildQuery.{BuildQuery}
 use Rattle.script_lines.specs.declared.query.BuildQuery.TheVariants.{Compared, Used, Wanted}
 use Rattle.script_lines.specs.declared.query.MemoryQuery.{MemoryQuery}
-use Rattle.script_lines.specs.declared.query.MemoryQuery.TheVariants.{Dump, At, Find, Strings, Backtrace, Unwind, Frame, Builds}
+use Rattle.script_lines.specs.declared.query.MemoryQuery.TheVariants.{Dump, At, Find, Strings, Backtrace, Unwind, Lines, Frame, Builds}
 
 -- what a line asks an image
 pub data QuerySaid : Type 0 where
@@ -45,6 +45,8 @@ pub data QuerySaid : Type 0 where
   ask_backtrace : ℕ → QuerySaid
   -- the same by call frame information
   ask_unwind : ℕ → QuerySaid
+  -- the source lines of these frames
+  ask_lines : ℕ → QuerySaid
   -- the registers of the frame at this place among them, from 0 on, of the thread at that place
   ask_frame : ℕ → ℕ → QuerySaid
   -- the builds of the files that were mapped into its memory: the build IDs, next to those of the executables; the cases whose
@@ -56,6 +58,8 @@ pub data QuerySaid : Type 0 where
   ask_by_build : QuerySaid → QuerySaid
   -- the function that covers this address, of an executable or of the debug file of its build; no line says it by itself
   ask_symbol_by_build : ℕ → QuerySaid
+  -- the source line of this address, by line tables of an executable or of the debug file of its build
+  ask_line : ℕ → QuerySaid
 
 -- a query with nothing after the case
 abbrev pub alone : QuerySaid → List (List ℕ) → Option QuerySaid
@@ -96,13 +100,14 @@ ranged query (first ∷ []) = None
 ranged query (first ∷ length ∷ []) = asks_both query (number_of first) (number_of length)
 ranged query (first ∷ length ∷ more ∷ words) = None
 
--- the lines that inspect builds and symbols, as below
+-- the lines that inspect builds, symbols and source lines, as below
 abbrev pub build_rows : List (List ℕ × (List (List ℕ) → Option QuerySaid))
 build_rows =
     (codes "builds", alone (ask_builds Compared))
     ∷ (codes "used", alone (ask_builds Used))
     ∷ (codes "wants", alone (ask_builds Wanted))
     ∷ (codes "symbol", numbered ask_symbol)
+    ∷ (codes "line", numbered ask_line)
     ∷ []
 
 -- the lines that inspect memory, frames and symbols, as below
@@ -115,6 +120,7 @@ memory_rows =
     ∷ (codes "strings", bounded ask_strings)
     ∷ (codes "bt", numbered ask_backtrace)
     ∷ (codes "unwind", numbered ask_unwind)
+    ∷ (codes "lines", numbered ask_lines)
     ∷ (codes "frame", ranged ask_frame)
     ∷ build_rows
 
@@ -159,6 +165,7 @@ memory_query (Find needle) = ask_find needle.bytes.items
 memory_query (Strings least) = ask_strings least
 memory_query (Backtrace thread) = ask_backtrace thread
 memory_query (Unwind thread) = ask_unwind thread
+memory_query (Lines thread) = ask_lines thread
 memory_query (Frame thread frame) = ask_frame thread frame
 memory_query (Builds asked) = ask_builds asked
 
@@ -168,6 +175,7 @@ query_of (Memory query) = memory_query query
 query_of (ByBuild query) = ask_by_build (memory_query query)
 query_of (Symbol address) = ask_symbol address
 query_of (SymbolByBuild address) = ask_symbol_by_build address
+query_of (Line address) = ask_line address
 
 -- what is asked where executables are chosen by build: the lines over memory that attach them by path do so by build, and a function
 -- is looked up in the debug file too
@@ -189,8 +197,10 @@ IsSayable (ask_find needle) = (0 < length needle) × (length needle ≤ 64) × A
 IsSayable (ask_strings least) = (1 ≤ least) × (least ≤ 1024)
 IsSayable (ask_backtrace thread) = thread < 2 ^ 64
 IsSayable (ask_unwind thread) = thread < 2 ^ 64
+IsSayable (ask_lines thread) = thread < 2 ^ 64
 IsSayable (ask_frame thread frame) = (thread < 2 ^ 64) × (frame < 2 ^ 64)
 IsSayable (ask_symbol address) = address < 2 ^ 64
 IsSayable (ask_by_build query) = ⊥
 IsSayable (ask_symbol_by_build address) = ⊥
+IsSayable (ask_line address) = address < 2 ^ 64
 IsSayable _ = Unit {0}

@@ -27,6 +27,11 @@ pub enum Query {
         /// The address.
         address: u64,
     },
+    /// The source line of an address of an executable, by line tables of its own or those in the debug file of its build.
+    Line {
+        /// The address.
+        address: u64,
+    },
 }
 
 impl Query {
@@ -49,6 +54,7 @@ fn memory_by_build(query: MemoryQuery) -> Query
 {
     match query {
         MemoryQuery::Unwind { .. } => Query::Memory(query),
+        MemoryQuery::Lines { .. } => Query::Memory(query),
         MemoryQuery::Frame { .. } => Query::Memory(query),
         MemoryQuery::Builds(_) => Query::Memory(query),
         _ => Query::ByBuild(query),
@@ -113,6 +119,11 @@ pub enum MemoryQuery {
     },
     /// The same by call frame information.
     Unwind {
+        /// The place of the thread among the core's threads, from 0 on.
+        thread: u64,
+    },
+    /// The source lines of these frames.
+    Lines {
         /// The place of the thread among the core's threads, from 0 on.
         thread: u64,
     },
@@ -193,6 +204,10 @@ fn parse_memory_query(command: &[u8], words: Words<'_>) -> Option<Query>
         Some(Query::Memory(MemoryQuery::Unwind {
             thread: parse_number_alone(words)?,
         }))
+    } else if command == b"lines".as_slice() {
+        Some(Query::Memory(MemoryQuery::Lines {
+            thread: parse_number_alone(words)?,
+        }))
     } else if command == b"frame".as_slice() {
         parse_frame(words)
     } else {
@@ -200,7 +215,7 @@ fn parse_memory_query(command: &[u8], words: Words<'_>) -> Option<Query>
     }
 }
 
-// The rows of the table that ask of builds and symbols.
+// The rows of the table that ask of builds, symbols and source lines.
 fn parse_build_query(command: &[u8], words: Words<'_>) -> Option<Query>
     ensures { option_map query_of result ≡ query_in build_rows command.now (words_left words.entry) }
 {
@@ -218,6 +233,10 @@ fn parse_build_query(command: &[u8], words: Words<'_>) -> Option<Query>
         )
     } else if command == b"symbol".as_slice() {
         Some(Query::Symbol {
+            address: parse_number_alone(words)?,
+        })
+    } else if command == b"line".as_slice() {
+        Some(Query::Line {
             address: parse_number_alone(words)?,
         })
     } else {

@@ -68,9 +68,10 @@ pub fn stay<S: SharedDisk + Drop>(alloc: Global, shared: S, numbers: &[u32]) -> 
 fn reads_of(question: &Question) -> Reads {
     match question {
         Question::Inspect { seq, query } => match query {
-            Query::Memory(_) | Query::ByBuild(_) | Query::SymbolByBuild { .. } => {
-                Reads::Memory { seq: *seq }
-            }
+            Query::Memory(_)
+            | Query::ByBuild(_)
+            | Query::SymbolByBuild { .. }
+            | Query::Line { .. } => Reads::Memory { seq: *seq },
             Query::Image(_) | Query::Symbol { .. } => Reads::Image { seq: *seq },
         },
         Question::Call(_) => Reads::Nothing,

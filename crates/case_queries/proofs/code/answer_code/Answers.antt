@@ -1,9 +1,9 @@
 use Rattle.std.proofs.Common.{Ok, Err, refl}
 use Rattle.archive_replies.specs.Reasons.{reason_of}
-use Rattle.script_lines.specs.Queries.{ask_symbol_by_build}
 use Rattle.script_streams.specs.Replies.{no_reply}
+use Rattle.case_queries.specs.CodeQueries.{code_query}
 use Rattle.case_queries.proofs.AskLemmas.{collected_if, held_if, kept_still}
-use Rattle.case_queries.proofs.symbol_by_build.answer_symbol_by_build.Goals as goal
+use Rattle.case_queries.proofs.code.answer_code.Goals as goal
 
 pub returns-in-Ok-clause-answers : goal.returns-in-Ok-clause-answers
 returns-in-Ok-clause-answers g c =
@@ -14,7 +14,7 @@ pub returns-in-Ok-clause-kept : goal.returns-in-Ok-clause-kept
 returns-in-Ok-clause-kept g c =
     let told = rw c.deref.ensures.value at c.answer_executable-outcome.ensures.answers in
     held_if g.D.Disk c.answer_executable-outcome.new.archive c.kept_if.result _ c.kept_if.ensures
-    (kept_still g.D.Disk c.see_image.new.archive c.answer_executable-outcome.new.archive c.args.kind (ask_symbol_by_build c.args.address) c.in-Ok.seen.image.items told.0 c.in-Ok.seen told.1 c.in-Ok.ensures.kept)
+    (kept_still g.D.Disk c.see_image.new.archive c.answer_executable-outcome.new.archive c.args.kind (code_query c.args.query c.args.address) c.in-Ok.seen.image.items told.0 c.in-Ok.seen told.1 c.in-Ok.ensures.kept)
 
 pub returns-in-Ok-clause-are_kept : goal.returns-in-Ok-clause-are_kept
 returns-in-Ok-clause-are_kept g c =

@@ -18,7 +18,7 @@ returns-in_default g c before sees =
     let image = c.args.image in
     let xs = map attached_view c.args.attached.now in
     let none = subst (λ b. state_of b c.args.thread ≡ None) c.requires.front c.in_default.ensures in
-    (_, missing_shown g.D.Disk before c.args.archive.now image c.args.told.pieces.items xs c.args.thread c.args.frame sees (missing_in c.a_sound_front_is_enough.ensures.notes image c.requires.sound c.args.thread sees.0 sees.2.0 none), (codes "NoThread", refl), c.tell_no.ensures)
+    (_, missing_shown g.D.Disk before c.args.archive.now image c.args.told.pieces.items xs c.args.thread c.args.asked sees (missing_in c.a_sound_front_is_enough.ensures.notes image c.requires.sound c.args.thread sees.0 sees.2.0 none), (codes "NoThread", refl), c.tell_no.ensures)
 
 pub returns-in_default-of : goal.returns-in_default-of
 returns-in_default-of g c before sees = (_, (Ok sees.0, sees.1, (sees.2.0, inr refl)), memory_outcome _ c.tell_no_memory.ensures.done, c.tell_no_memory.ensures.tells)
@@ -35,7 +35,7 @@ returns-in-Ok-process_in_core g c before sees =
     let walks = c.in-Ok-process_in_core.ensures.walks o xs c.requires.front c.requires.sound c.requires.told picked in
     let same = ap (λ (v : Vec Part Global). v.items) c.in-Ok-process_in_core.ensures.pieces in
     let told = c.frames_of_walk.ensures before xs c.args.thread (subst (λ ps. SeesPieces g.D.Disk before o ps c.args.archive.now) (sym same) sees) (λ b has. walks.begins c.args.thread c.in-Some.begun begins b has) in
-    (told.0, subst (λ ps. ShowsTold g.D.Disk before o ps xs (for_frames c.args.thread c.args.frame) told.0 c.frames_of_walk.new.archive) same told.1, told.2, told.3)
+    (told.0, subst (λ ps. ShowsTold g.D.Disk before o ps xs (for_frames c.args.thread c.args.asked) told.0 c.frames_of_walk.new.archive) same told.1, told.2, told.3)
 
 pub returns-in-Err : goal.returns-in-Err
 returns-in-Err g c before sees = (_, (Ok sees.0, sees.1, (sees.2.0, inr refl)), memory_outcome _ c.tell_no_memory-in-Err.ensures.done, c.tell_no_memory-in-Err.ensures.tells)

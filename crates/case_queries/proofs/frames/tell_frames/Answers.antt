@@ -3,12 +3,12 @@ use Rattle.memory_replies.specs.Answers.{AnswersWith}
 use Rattle.case_queries.specs.Asking.{frames_answer}
 use Rattle.case_queries.proofs.frames.tell_frames.Goals as goal
 
-pub returns-in-Some : goal.returns-in-Some
-returns-in-Some g c image xs thread is =
+pub returns-in-Registers : goal.returns-in-Registers
+returns-in-Registers g c image xs thread is =
     let told = c.tell_walked_frame.ensures image xs thread c.args.process.now c.args.unwound.now.stop is.0 is.1 in
-    (told.0, subst (λ o. AnswersWith c.tell_walked_frame.result (frames_answer image xs thread o) told.0) (sym c.in-Some.is) told.1, told.2)
+    (told.0, subst (λ a. AnswersWith c.tell_walked_frame.result (frames_answer image xs thread a) told.0) (sym c.in-Registers.is) told.1, told.2)
 
-pub returns-in-None : goal.returns-in-None
-returns-in-None g c image xs thread is =
+pub returns-in-Shown : goal.returns-in-Shown
+returns-in-Shown g c image xs thread is =
     let told = c.tell_walked.ensures image xs thread is.0 is.1 in
-    (told.0, subst (λ o. AnswersWith c.tell_walked.result (frames_answer image xs thread o) told.0) (sym c.in-None.is) told.1, told.2)
+    (told.0, subst (λ a. AnswersWith c.tell_walked.result (frames_answer image xs thread a) told.0) (sym c.in-Shown.is) told.1, told.2)

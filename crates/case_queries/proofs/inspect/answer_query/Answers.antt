@@ -1,6 +1,6 @@
 use Rattle.std.proofs.Common.{refl}
 use Rattle.intake.specs.Parts.{state_of}
-use Rattle.script_lines.specs.Queries.{query_of, image_query, memory_query, ask_by_build, ask_symbol, ask_symbol_by_build}
+use Rattle.script_lines.specs.Queries.{query_of, image_query, memory_query, ask_by_build, ask_line, ask_symbol, ask_symbol_by_build}
 use Rattle.script_streams.specs.Replies.{no_reply}
 use Rattle.case_queries.specs.InspectLaws.{inspected}
 use Rattle.case_queries.specs.Steps.{kind_asked}
@@ -43,7 +43,14 @@ returns-in-Symbol-clause-answers g c =
 
 pub returns-in-SymbolByBuild-clause-answers : goal.returns-in-SymbolByBuild-clause-answers
 returns-in-SymbolByBuild-clause-answers g c =
-    let told = c.answer_symbol_by_build.ensures.answers in
+    let told = c.answer_code.ensures.answers in
     let asked = rw c.in-SymbolByBuild.is at c.in-Ok.ensures.asked in
     let query = ask_symbol_by_build c.in-SymbolByBuild.address in
-    rw c.in-SymbolByBuild.is (told.0, inspected g.D.Disk c.args.archive.now c.args.seq query told.0 c.answer_symbol_by_build.new.archive (kind_told g.D.Disk c.args.archive.now c.answer_symbol_by_build.new.archive c.args.seq query c.in-Ok.kind _ told.0 asked told.1), told.2, told.3)
+    rw c.in-SymbolByBuild.is (told.0, inspected g.D.Disk c.args.archive.now c.args.seq query told.0 c.answer_code.new.archive (kind_told g.D.Disk c.args.archive.now c.answer_code.new.archive c.args.seq query c.in-Ok.kind _ told.0 asked told.1), told.2, told.3)
+
+pub returns-in-Line-clause-answers : goal.returns-in-Line-clause-answers
+returns-in-Line-clause-answers g c =
+    let told = c.answer_code-in-Line.ensures.answers in
+    let asked = rw c.in-Line.is at c.in-Ok.ensures.asked in
+    let query = ask_line c.in-Line.address in
+    rw c.in-Line.is (told.0, inspected g.D.Disk c.args.archive.now c.args.seq query told.0 c.answer_code-in-Line.new.archive (kind_told g.D.Disk c.args.archive.now c.answer_code-in-Line.new.archive c.args.seq query c.in-Ok.kind _ told.0 asked told.1), told.2, told.3)

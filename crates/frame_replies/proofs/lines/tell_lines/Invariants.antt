@@ -11,4 +11,4 @@ use Rattle.frame_replies.proofs.lines.tell_lines.Given as goal
 abbrev pub invariant-loop-index : goal.invariant-loop-index
 invariant-loop-index g l =
     TellsUpTo (sink g.O.Output l.initial.reply) (sink g.O.Output l.reply)
-    (numbered_lines (walked_line (space_of l.process.space).files (named_in l.process.executables.now.images)) 0 l.frames) (numbered_lines (walked_line (space_of l.process.space).files (named_in l.process.executables.now.images)) l.index (drop l.index l.frames))
+    (numbered_lines (walked_line l.shown (space_of l.process.space).files (named_in l.process.executables.now.images)) 0 l.frames) (numbered_lines (walked_line l.shown (space_of l.process.space).files (named_in l.process.executables.now.images)) l.index (drop l.index l.frames))

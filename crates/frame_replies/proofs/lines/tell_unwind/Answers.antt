@@ -2,7 +2,7 @@ use Rattle.std.proofs.Common.{map, refl, ◌∙◌}
 use Rattle.build_replies.specs.ChoosingWords.{choice_view}
 use Rattle.image_replies.specs.CoreWords.{core_bytes}
 use Rattle.memory_replies.specs.Memory.{attached_view}
-use Rattle.frame_replies.specs.WalkLaws.{unwind_missing, walk_begins, walk_goes_on}
+use Rattle.frame_replies.specs.WalkLaws.{shown_missing, walk_begins, walk_goes_on}
 use Rattle.frame_replies.proofs.AnswerLemmas.{no_memory, refused, whole_image}
 use Rattle.frame_replies.proofs.lines.tell_unwind.Goals as goal
 
@@ -19,7 +19,7 @@ pub returns-in_default-begin : goal.returns-in_default-begin
 returns-in_default-begin g c =
     let b = core_bytes c.args.core.now in
     let xs = map attached_view c.args.attached.now in
-    (_, refused _ _ (unwind_missing b xs c.args.thread c.in_default-begin.ensures), c.tell_no.ensures)
+    (_, refused _ _ (shown_missing b xs c.args.thread c.in_default-begin.ensures c.args.shown), c.tell_no.ensures)
 
 pub returns-in-Ok-go_on : goal.returns-in-Ok-go_on
 returns-in-Ok-go_on g c =

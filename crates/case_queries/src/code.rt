@@ -1,11 +1,11 @@
-// The answer to a line that asks the function of an address, of an executable or of the debug file of its build.
+// The answers to lines that ask what is at an address of an executable, by its own bytes or by the debug file of its build.
 ghost use Rattle.std.specs.Prelude.{◌≡◌, Ok, false, find, map};
 ghost use Rattle.std.specs.Option.{option_map};
 ghost use Rattle.build_replies.specs.ByBuild as spec;
-ghost use Rattle.memory_replies.specs.Answers.{is_done};
-ghost use Rattle.script_lines.specs.Queries.{ask_symbol_by_build};
-ghost use Rattle.script_streams.specs.Replies.{TellsOutcome, telling};
+ghost use Rattle.memory_replies.specs.Answers.{AnswersWith, is_done};
+ghost use Rattle.script_streams.specs.Replies.{TellsOutcome, TellsReply, telling};
 ghost use Rattle.case_queries.specs.CollectingWords.{executable_view};
+ghost use Rattle.case_queries.specs.CodeQueries.{code_answer, code_query};
 ghost use Rattle.case_queries.specs.Inspecting.{debug_image};
 ghost use Rattle.case_queries.specs.Keeping.{AreKept, StayCollected};
 ghost use Rattle.case_queries.specs.Seeing.{IsKept};
@@ -19,9 +19,19 @@ use build_ids::{build_id, debug_id};
 use disk_model::Disk;
 use intake::Archive;
 use journal_layout::Kind;
+use line_replies::tell_line;
 use memory_replies::{Outcome, tell_symbol_with_debug};
 use script_streams::{Output, Reply, tell_no};
 use std::alloc::Global;
+
+/// What is asked of an address of an executable.
+#[derive(Clone, Copy, Debug)]
+pub(crate) enum CodeQuery {
+    /// The function that covers it.
+    Function,
+    /// Its source line.
+    Line,
+}
 
 // Whether a file is the debug file of the build of that ID.
 fn is_debug_of(id: &[u8], file: &StoredExecutable) -> bool
@@ -50,11 +60,35 @@ fn debug_image<'a>(image: &[u8], files: &'a [StoredExecutable]) -> Option<&'a [u
     }
 }
 
+// Tells what is asked of an address of an executable and of its debug file, if there is one.
+fn tell_code<O: Output>(
+    alloc: Global,
+    reply: &mut Reply<'_, O>,
+    query: CodeQuery,
+    image: &[u8],
+    debug: Option<&[u8]>,
+    address: u64,
+) -> Outcome
+    ensures { TellsReply (telling O.Output reply.old reply.new) (λ text. AnswersWith result (code_answer query image.now (option_map (λ d. d.now) debug.entry) address) text) }
+{
+    match query {
+        CodeQuery::Function => tell_symbol_with_debug(alloc, reply, image, debug, address),
+        CodeQuery::Line => {
+            if tell_line(reply, image, debug, address) {
+                Outcome::Done
+            } else {
+                Outcome::Refused
+            }
+        }
+    }
+}
+
 // Answers the line of an executable, of which these are all bytes. What is read under the name of its debug file is kept for the lines over
 // the same executable that come next.
 fn answer_executable<O: Output, D: Disk>(
     alloc: Global,
     kind: Kind,
+    query: CodeQuery,
     image: &[u8],
     address: u64,
     kept: &mut Option<Vec<StoredExecutable>>,
@@ -63,14 +97,14 @@ fn answer_executable<O: Output, D: Disk>(
 ) -> Outcome
     requires runs { archive.old.stopped ≡ false }
     requires kept { StayCollected D.Disk archive.old kept.old }
-    ensures answers { TellsOutcome (telling O.Output reply.old reply.new) (λ text. Shows D.Disk archive.old kind (ask_symbol_by_build address) image.now text archive.new) (is_done result) }
+    ensures answers { TellsOutcome (telling O.Output reply.old reply.new) (λ text. Shows D.Disk archive.old kind (code_query query address) image.now text archive.new) (is_done result) }
     ensures kept { StayCollected D.Disk archive.new kept.new }
 {
     let wanted = wanted_own_debugs(alloc, image, archive);
     match collect(alloc, wanted, kept.take(), archive) {
         Ok(files) => {
             let debug = debug_image(image, &files);
-            let outcome = tell_symbol_with_debug(alloc, reply, image, debug, address);
+            let outcome = tell_code(alloc, reply, query, image, debug, address);
             *kept = Some(files);
             outcome
         }
@@ -81,11 +115,12 @@ fn answer_executable<O: Output, D: Disk>(
     }
 }
 
-// Answers a line that asks the function of an address of an executable, and of the debug file of its build. Says whether it was done; if
-// not, it was refused.
-pub(crate) fn answer_symbol_by_build<O: Output, D: Disk>(
+// Answers a line that asks what is at an address of an executable, by its own bytes or by the debug file of its build. Says whether it
+// was done; if not, it was refused.
+pub(crate) fn answer_code<O: Output, D: Disk>(
     seq: u32,
     kind: Kind,
+    query: CodeQuery,
     address: u64,
     images: &mut Images,
     reply: &mut Reply<'_, O>,
@@ -94,7 +129,7 @@ pub(crate) fn answer_symbol_by_build<O: Output, D: Disk>(
     requires runs { archive.old.stopped ≡ false }
     requires kept { IsKept D.Disk archive.old images.old.kept }
     requires are_kept { AreKept D.Disk archive.old images.old.kept }
-    ensures answers { TellsOutcome (telling O.Output reply.old reply.new) (λ text. Asks D.Disk archive.old seq (ask_symbol_by_build address) (Ok kind) text archive.new) result }
+    ensures answers { TellsOutcome (telling O.Output reply.old reply.new) (λ text. Asks D.Disk archive.old seq (code_query query address) (Ok kind) text archive.new) result }
     ensures kept { IsKept D.Disk archive.new images.new.kept }
     ensures are_kept { AreKept D.Disk archive.new images.new.kept }
 {
@@ -104,6 +139,7 @@ pub(crate) fn answer_symbol_by_build<O: Output, D: Disk>(
             let outcome = answer_executable(
                 images.alloc,
                 kind,
+                query,
                 &seen.image,
                 address,
                 &mut seen.executables,
