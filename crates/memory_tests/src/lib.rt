@@ -24,3 +24,5 @@ mod shown;
 mod signatures;
 #[cfg(test)]
 mod small;
+#[cfg(test)]
+mod streams;
