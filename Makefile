@@ -1,5 +1,5 @@
 # corekeep: `make help` says what there is.
-.PHONY: help try run build check plant wrong-bodies fmt test install deb
+.PHONY: help try run build check plant wrong-bodies fmt test install deb dist
 
 PREFIX ?= /usr/local
 SYSCONFDIR ?=
@@ -16,6 +16,7 @@ help:
 	@echo 'make fmt                 lays the sources out'
 	@echo 'make install [PREFIX=/usr/local] [SYSCONFDIR=/etc]   installs the program, manual pages, completions, unit and samples'
 	@echo 'make deb                 builds the Debian package bin/corekeep_VERSION_amd64.deb'
+	@echo 'make dist                packs the program as bin/corekeep-VERSION-linux-amd64.tar.gz, with bin/SHA256SUMS'
 
 try:
 	@echo 'Building without proofs, some minutes. Nothing of what runs here was proved.'
@@ -53,3 +54,6 @@ install: bin/corekeep
 
 deb: bin/corekeep
 	@scripts/make-deb bin/corekeep
+
+dist: bin/corekeep
+	@scripts/make-dist bin/corekeep

@@ -152,7 +152,7 @@ static void tell(char kind, off_t at, ssize_t size, const void *bytes) {
 }
 
 /* Adds how a file is open that is read. */
-static void tell_mode(int file) {
+static void print_mode(int file) {
     REAL(write_type, "write");
     int flags = fcntl(file, F_GETFL);
     if (modes >= 0 && (flags < 0 || real(modes, (flags & O_ACCMODE) == O_RDONLY ? "r" : "w", 1) != 1))
@@ -333,7 +333,7 @@ ssize_t write(int file, const void *from, size_t size) {
 ssize_t pread64(int file, void *into, size_t size, off_t at) {
     REAL(pread_type, "pread64");
     int met = is_met("pread");
-    tell_mode(file);
+    print_mode(file);
     if (!met)
         return real(file, into, size, at);
     return fault.kind == FAILS ? failed() : real(file, into, moved(size), at);

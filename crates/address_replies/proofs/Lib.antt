@@ -1,4 +1,4 @@
-pub mod TellLemmas
+pub mod PrintLemmas
 pub mod CountLemmas
 pub mod FrontLemmas
 pub mod AtLemmas

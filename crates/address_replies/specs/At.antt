@@ -1,5 +1,5 @@
--- What is at an address of a core: the mapping that has it, the place in the file that was mapped there, the function, and the threads whose
--- stacks the mapping has.
+-- The content of an address of a core: the mapping that has it, the place in the file that was mapped there, the function, and the threads
+-- whose stacks the mapping has.
 use Rattle.std.specs.Prelude.{ℕ, ◌+◌, ◌&&◌, nat_lt, nat_le, if◌then◌else◌, Bool, List, [], ◌∷◌, ◌++◌, find, Option, None, Some, Result, Ok, Err, codes, decimal}
 use Rattle.elf_view.specs.ViewWords.{notes_of}
 use Rattle.elf_view.specs.declared.faults.Want.TheVariants.{Core}
@@ -21,7 +21,7 @@ has_address a m = nat_le m.start a && nat_lt a (m.start + m.memsz)
 unfoldable pub mapping_at : List ℕ → ℕ → Option MappingView
 mapping_at b a = find (has_address a) (mappings_of (memory_of b []))
 
--- where the byte of an address is, or why there is none
+-- the place of an address's byte, or why it has none
 abbrev pub source_word : {A : Type 0} → Content A → List ℕ
 source_word (held x) = codes "core"
 source_word (from_file x) = codes "file"

@@ -1,7 +1,7 @@
-// What is at an address of a core.
+// The content of an address of a core.
 ghost use Rattle.std.specs.Prelude.{◌≡◌, ◌+◌, ◌<◌, ◌^◌, ℕ, List, IfOk, find, length, map};
 ghost use Rattle.std.specs.Option.{option_map};
-ghost use Rattle.script_streams.specs.Replies.{TellsReply, TellsText, telling};
+ghost use Rattle.script_streams.specs.Replies.{PrintsReply, PrintsText, printing};
 ghost use Rattle.address_space.specs.PieceWords.{mapping_view};
 ghost use Rattle.address_space.specs.Source.{ExecutableView, mappings_of, source_at};
 ghost use Rattle.address_space.specs.SourceWords.{spot_view};
@@ -18,15 +18,15 @@ ghost use Rattle.memory_replies.specs.NamingWords.{named_file};
 ghost use Rattle.memory_replies.specs.Words.{hex_word, spot_words};
 ghost use Rattle.address_replies.specs.At as spec;
 
-use crate::stacks::{has_address, tell_stacks, threads_of};
+use crate::stacks::{has_address, print_stacks, threads_of};
 use address_space::{AddressSpace, Attached, FileSpot, Mapping, StretchKind};
 use elf_view::a_sound_front_is_enough;
 use image_replies::{CoreImage, flag_letters};
 use memory_replies::{
     Location, NamedExecutable, Outcome, a_sound_front_names_the_files, function_of,
-    named_executables, place_of, space_and_images, space_with, tell_hex_word, tell_place,
+    named_executables, place_of, print_hex_word, print_place, space_and_images, space_with,
 };
-use script_streams::{Output, Reply, tell_no, tell_ok};
+use script_streams::{Output, Reply, print_no, print_ok};
 use std::alloc::{AllocError, Global};
 use thread_regs::ThreadList;
 
@@ -42,7 +42,7 @@ pub fn mapping_at<'a>(space: &AddressSpace<'a>, address: u64) -> Option<Mapping<
     None
 }
 
-/// The word for where a byte is, or why there is none.
+/// The word for the place of a byte, or for why there is no byte.
 fn source_word(kind: StretchKind<'_>) -> &'static [u8]
     ensures { (image : List ℕ) (n : ℕ) → result.now ≡ spec.source_word (shown_in image n kind.entry) }
 {
@@ -65,70 +65,70 @@ fn source_of(space: &AddressSpace<'_>, size: u64, address: u64) -> &'static [u8]
     }
 }
 
-/// Tells the address after the last of a mapping, which may be 2^64, and a space.
+/// Prints the address after the last of a mapping, which may be 2^64, and a space.
 #[tactic(auto, unfolding(memory_replies::specs::Words::hex_word))]
-fn tell_past<O: Output>(reply: &mut Reply<'_, O>, mapping: Mapping<'_>)
-    ensures { TellsText (telling O.Output reply.old reply.new) (hex_word (mapping.entry.start + mapping.entry.memsz)) }
+fn print_past<O: Output>(reply: &mut Reply<'_, O>, mapping: Mapping<'_>)
+    ensures { PrintsText (printing O.Output reply.old reply.new) (hex_word (mapping.entry.start + mapping.entry.memsz)) }
 {
-    reply.tell_hexadecimal(u128::from(mapping.start) + u128::from(mapping.memsz));
-    reply.tell(b" ");
+    reply.print_hexadecimal(u128::from(mapping.start) + u128::from(mapping.memsz));
+    reply.print(b" ");
 }
 
-/// Tells an address, its mapping, and where its byte is.
-fn tell_mapping<O: Output>(
+/// Prints an address, its mapping, and the place of its byte.
+fn print_mapping<O: Output>(
     reply: &mut Reply<'_, O>,
     address: u64,
     mapping: Mapping<'_>,
     source: &'static [u8],
 )
-    ensures { TellsText (telling O.Output reply.old reply.new) (spec.at_line address (mapping_view mapping.entry) source.entry.now) }
+    ensures { PrintsText (printing O.Output reply.old reply.new) (spec.at_line address (mapping_view mapping.entry) source.entry.now) }
 {
-    reply.tell(b"at ");
-    tell_hex_word(reply, address);
-    tell_hex_word(reply, mapping.start);
-    tell_past(reply, mapping);
-    reply.tell(&flag_letters(mapping.flags));
-    reply.tell(b" ");
-    reply.tell(source);
-    reply.tell(b"\n");
+    reply.print(b"at ");
+    print_hex_word(reply, address);
+    print_hex_word(reply, mapping.start);
+    print_past(reply, mapping);
+    reply.print(&flag_letters(mapping.flags));
+    reply.print(b" ");
+    reply.print(source);
+    reply.print(b"\n");
 }
 
-/// Tells a place in a mapped file, or that there is none.
+/// Prints a place in a mapped file, or that the address has no such place.
 #[tactic(auto, unfolding(memory_replies::specs::Words::spot_words))]
-fn tell_spot<O: Output>(reply: &mut Reply<'_, O>, spot: Option<FileSpot<'_>>)
-    ensures { TellsText (telling O.Output reply.old reply.new) (spot_words (option_map spot_view spot.entry)) }
+fn print_spot<O: Output>(reply: &mut Reply<'_, O>, spot: Option<FileSpot<'_>>)
+    ensures { PrintsText (printing O.Output reply.old reply.new) (spot_words (option_map spot_view spot.entry)) }
 {
     match spot {
         Some(spot) => {
-            tell_hex_word(reply, spot.offset);
-            reply.tell_text(spot.name);
+            print_hex_word(reply, spot.offset);
+            reply.print_text(spot.name);
         }
-        None => reply.tell(b"- -"),
+        None => reply.print(b"- -"),
     }
 }
 
-/// Tells the line of a place in a mapped file.
+/// Prints the line of a place in a mapped file.
 #[tactic(auto, unfolding(crate::specs::At::file_line))]
-fn tell_file<O: Output>(reply: &mut Reply<'_, O>, spot: Option<FileSpot<'_>>)
-    ensures { TellsText (telling O.Output reply.old reply.new) (spec.file_line (option_map spot_view spot.entry)) }
+fn print_file<O: Output>(reply: &mut Reply<'_, O>, spot: Option<FileSpot<'_>>)
+    ensures { PrintsText (printing O.Output reply.old reply.new) (spec.file_line (option_map spot_view spot.entry)) }
 {
-    reply.tell(b"file ");
-    tell_spot(reply, spot);
-    reply.tell(b"\n");
+    reply.print(b"file ");
+    print_spot(reply, spot);
+    reply.print(b"\n");
 }
 
-/// Tells the line of a function.
+/// Prints the line of a function.
 #[tactic(auto, unfolding(crate::specs::At::function_line))]
-fn tell_function<O: Output>(reply: &mut Reply<'_, O>, place: Option<Location<'_>>)
-    ensures { TellsText (telling O.Output reply.old reply.new) (spec.function_line (option_map place_view place.entry)) }
+fn print_function<O: Output>(reply: &mut Reply<'_, O>, place: Option<Location<'_>>)
+    ensures { PrintsText (printing O.Output reply.old reply.new) (spec.function_line (option_map place_view place.entry)) }
 {
-    reply.tell(b"function ");
-    tell_place(reply, place);
-    reply.tell(b"\n");
+    reply.print(b"function ");
+    print_place(reply, place);
+    reply.print(b"\n");
 }
 
-/// Tells what is at an address of a mapping, with that function.
-fn tell_address<O: Output>(
+/// Prints the content of an address of a mapping, with that function.
+fn print_address<O: Output>(
     reply: &mut Reply<'_, O>,
     space: &AddressSpace<'_>,
     size: u64,
@@ -138,18 +138,18 @@ fn tell_address<O: Output>(
     address: u64,
 )
     requires { length (threads_left threads) < 2 ^ 128 }
-    ensures { (image : List ℕ) → IsFrontOf (core_of space.now) size image → TellsText (telling O.Output reply.old reply.new)
+    ensures { (image : List ℕ) → IsFrontOf (core_of space.now) size image → PrintsText (printing O.Output reply.old reply.new)
         (spec.at_lines (space_in image (space_of space.now)) (option_map place_view place.entry) (threads_left threads.entry) address (mapping_view mapping.entry)) }
 {
     let source = source_of(space, size, address);
-    tell_mapping(reply, address, mapping, source);
-    tell_file(reply, space.spot(address));
-    tell_function(reply, place);
-    tell_stacks(reply, &mapping, threads);
+    print_mapping(reply, address, mapping, source);
+    print_file(reply, space.spot(address));
+    print_function(reply, place);
+    print_stacks(reply, &mapping, threads);
 }
 
-/// Tells what is at an address of a core, in that memory, with that function. Says what became of it.
-fn tell_located<O: Output>(
+/// Prints the content of an address of a core, in that memory, with that function. Returns the outcome.
+fn print_located<O: Output>(
     reply: &mut Reply<'_, O>,
     core: &CoreImage<'_>,
     size: u64,
@@ -160,28 +160,29 @@ fn tell_located<O: Output>(
     requires { core_of space.now ≡ core_bytes core.now }
     ensures { (image : List ℕ) (executables : List ExecutableView) → IsFrontOf (core_bytes core.now) size image
         → space_of space.now ≡ memory_of (core_bytes core.now) executables
-        → TellsReply (telling O.Output reply.old reply.new)
+        → PrintsReply (printing O.Output reply.old reply.new)
         (AnswersWith result (spec.located_answer image executables (option_map place_view place.entry) address)) }
 {
     a_sound_front_is_enough();
     a_sound_front_names_the_files();
     let Some(mapping) = mapping_at(space, address) else {
-        tell_no(reply, b"Unmapped");
+        print_no(reply, b"Unmapped");
         return Outcome::Refused;
     };
     let threads = threads_of(core);
-    tell_address(reply, space, size, place, threads, mapping, address);
-    tell_ok(reply);
+    print_address(reply, space, size, place, threads, mapping, address);
+    print_ok(reply);
     Outcome::Done
 }
 
-/// Tells what is at an address of a core: `at ADDR START PAST RWX SOURCE`, the first PT_LOAD that has it and where its byte is; `file OFFSET
-/// NAME`, the place in the file that was mapped there; `function WHERE`, where WHERE is `NAME+h` by the symbols of the executable that is
-/// attached for that file, or `?`; and `stack T` for each thread whose stack pointer is in the same PT_LOAD. An address that no PT_LOAD
-/// has is answered by `no Unmapped`. Says what became of it.
+/// Prints the content of an address of a core: `at ADDR START PAST RWX SOURCE`, the first PT_LOAD that has it and the place of its byte;
+/// `file OFFSET NAME`, the place in the file that was mapped there; `function WHERE`, where WHERE is `NAME+h` by the symbols of the
+/// executable that is attached for that file, or `?`; and `stack T` for each thread whose stack pointer is in the same PT_LOAD. An address
+/// that no PT_LOAD has is answered by `no Unmapped`. Returns the outcome.
 ///
-/// The core may be the first bytes alone of an image of `size` bytes. It is told what any image shows that begins so.
-pub fn tell_at<O: Output>(
+/// The core may be only the first bytes of an image of `size` bytes. The
+/// reply is the same as for every image that starts with these bytes.
+pub fn print_at<O: Output>(
     alloc: Global,
     reply: &mut Reply<'_, O>,
     core: &CoreImage<'_>,
@@ -189,16 +190,16 @@ pub fn tell_at<O: Output>(
     attached: &[Attached<'_>],
     address: u64,
 ) -> Outcome
-    ensures { (image : List ℕ) → IsFrontOf (core_bytes core.now) size image → TellsReply (telling O.Output reply.old reply.new)
+    ensures { (image : List ℕ) → IsFrontOf (core_bytes core.now) size image → PrintsReply (printing O.Output reply.old reply.new)
         (AnswersWith result (spec.at_answer image (map attached_view attached.now) address)) }
 {
     a_sound_front_names_the_files();
     let Ok((space, images)) = space_and_images(alloc, core, attached) else {
-        tell_no(reply, b"OutOfMemory");
+        print_no(reply, b"OutOfMemory");
         return Outcome::OutOfMemory;
     };
     let place = place_of(&space, &images, address, Some(address));
-    tell_located(reply, core, size, &space, place, address)
+    print_located(reply, core, size, &space, place, address)
 }
 
 /// The memory of a core with its executables, and these with their debug files. The error is that there is no memory.
@@ -217,9 +218,9 @@ fn space_and_named<'a>(
     Ok((space, named))
 }
 
-/// The same as `tell_at`, but that a function for which the executable has no symbol is named by the debug file of the same path, if
-/// there is one.
-pub fn tell_at_with_debugs<O: Output>(
+/// Like `print_at`, but if the executable has no symbol for a function,
+/// the debug file of the same path names the function, if there is one.
+pub fn print_at_with_debugs<O: Output>(
     alloc: Global,
     reply: &mut Reply<'_, O>,
     core: &CoreImage<'_>,
@@ -228,14 +229,14 @@ pub fn tell_at_with_debugs<O: Output>(
     debugs: &[Attached<'_>],
     address: u64,
 ) -> Outcome
-    ensures { (image : List ℕ) → IsFrontOf (core_bytes core.now) size image → TellsReply (telling O.Output reply.old reply.new)
+    ensures { (image : List ℕ) → IsFrontOf (core_bytes core.now) size image → PrintsReply (printing O.Output reply.old reply.new)
         (AnswersWith result (spec.at_with_debugs image (map attached_view attached.now) (map attached_view debugs.now) address)) }
 {
     a_sound_front_names_the_files();
     let Ok((space, named)) = space_and_named(alloc, core, attached, debugs) else {
-        tell_no(reply, b"OutOfMemory");
+        print_no(reply, b"OutOfMemory");
         return Outcome::OutOfMemory;
     };
     let place = function_of(&space, &named, address, Some(address));
-    tell_located(reply, core, size, &space, place, address)
+    print_located(reply, core, size, &space, place, address)
 }

@@ -1,6 +1,6 @@
 // The threads whose stacks a mapping has.
 ghost use Rattle.std.specs.Prelude.{◌≡◌, ◌<◌, ◌^◌, length};
-ghost use Rattle.script_streams.specs.Replies.{TellsText, telling};
+ghost use Rattle.script_streams.specs.Replies.{PrintsText, printing};
 ghost use Rattle.address_space.specs.PieceWords.{mapping_view};
 ghost use Rattle.core_notes.specs.Typed.{all_descs};
 ghost use Rattle.elf_view.specs.ViewWords.{image_of, notes_of, want_of};
@@ -42,37 +42,37 @@ pub fn threads_of<'a>(core: &CoreImage<'a>) -> ThreadList<'a>
     threads(core.notes())
 }
 
-/// Tells that the stack pointer of a thread is in a mapping, if it is.
+/// Prints that the stack pointer of a thread is in a mapping, if it is.
 #[tactic(auto, unfolding(crate::specs::At::stack_line))]
-fn tell_stack<O: Output>(
+fn print_stack<O: Output>(
     reply: &mut Reply<'_, O>,
     mapping: &Mapping<'_>,
     index: u128,
     thread: &Thread<'_>,
 )
-    ensures { TellsText (telling O.Output reply.old reply.new) (spec.stack_line (mapping_view mapping.now) index (thread_bytes thread.now)) }
+    ensures { PrintsText (printing O.Output reply.old reply.new) (spec.stack_line (mapping_view mapping.now) index (thread_bytes thread.now)) }
 {
     let sp = thread.register(Reg::of_word(2));
     if has_address(mapping, sp) {
-        reply.tell(b"stack ");
-        reply.tell_decimal(index);
-        reply.tell(b"\n");
+        reply.print(b"stack ");
+        reply.print_decimal(index);
+        reply.print(b"\n");
     }
 }
 
 /// The same of each thread, the first being number 0.
-pub(crate) fn tell_stacks<O: Output>(
+pub(crate) fn print_stacks<O: Output>(
     reply: &mut Reply<'_, O>,
     mapping: &Mapping<'_>,
     threads: ThreadList<'_>,
 )
     requires { length (threads_left threads) < 2 ^ 128 }
-    ensures { TellsText (telling O.Output reply.old reply.new) (spec.stack_lines (mapping_view mapping.now) (threads_left threads.entry)) }
+    ensures { PrintsText (printing O.Output reply.old reply.new) (spec.stack_lines (mapping_view mapping.now) (threads_left threads.entry)) }
 {
     let mut rest = threads;
     let mut index: u128 = 0;
     while let Some(thread) = rest.next() {
-        tell_stack(reply, mapping, index, &thread);
+        print_stack(reply, mapping, index, &thread);
         index += 1;
     }
 }

@@ -1,4 +1,4 @@
--- What the code's executables mean.
+-- The meaning of the code's executables.
 use Rattle.address_space.specs.Source.{ExecutableView}
 use Rattle.address_space.specs.declared.attached.Attached.{Attached}
 

@@ -1,10 +1,10 @@
--- What pieces and texts are together: the pieces of a range are its addresses in rising order, each piece as long as can be,
--- and so is each text.
+-- Pieces and texts as a whole: the pieces of a range are its addresses
+-- in rising order, and each piece and each text is as long as it can be.
 use Rattle.std.specs.Prelude.{◌≡◌, ◌<◌, ◌≤◌, ℕ, ◌+◌, ◌-◌, ◌^◌, Bool, true, false, List, [], ◌∷◌, ◌⊎◌}
 use Rattle.address_space.specs.Source.{Space}
 use Rattle.address_space.specs.Occurrence.{is_text_at}
 
--- the first stretch of n addresses from a on: its neighbours are the same, and its last is not as the one after
+-- the first part of n addresses from a on: its neighbours are the same, and its last is not the same as the one after
 pub record IsFirst (same : ℕ → ℕ → Bool) (a n : ℕ) (x : ℕ × ℕ) : Type 0 where
   pub first : x.0 ≡ a
   pub some : 0 < x.1
@@ -12,7 +12,7 @@ pub record IsFirst (same : ℕ → ℕ → Bool) (a n : ℕ) (x : ℕ × ℕ) : 
   pub joined : (k : ℕ) → k + 1 < x.1 → same (a + k) (a + k + 1) ≡ true
   pub apart : x.1 < n → same (a + x.1 - 1) (a + x.1) ≡ false
 
--- stretches, one after the other, that are n addresses from a on
+-- parts, one after the other, that are n addresses from a on
 abbrev pub IsPartition : (ℕ → ℕ → Bool) → ℕ → ℕ → List (ℕ × ℕ) → Type 0
 IsPartition same a n [] = n ≡ 0
 IsPartition same a n (x ∷ xs) = IsFirst same a n x × IsPartition same (a + x.1) (n - x.1) xs

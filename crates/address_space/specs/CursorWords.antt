@@ -1,4 +1,4 @@
--- Where a search through all addresses has come.
+-- The progress of a search through all addresses.
 use Rattle.std.specs.Prelude.{◌≡◌, ◌<◌, ◌≤◌, ℕ, ◌+◌, ◌-◌, ◌*◌, ◌^◌, Bool, true, false, List, ◌++◌, length, drop, slice_index, Option, None, Some}
 use Rattle.std.specs.Option.{option_map}
 use Rattle.elf_view.specs.Header.{SegmentView}
@@ -32,6 +32,6 @@ pub record IsPlaced (space : Space) (c : Cursor) : Type 0 where
   pub values : (k : ℕ) → k < length c.here.now → value_at space (c.at + k) ≡ Some (slice_index c.here.now k)
   pub decided : (k : ℕ) → k < length c.here.now → is_decided_by space c.number (c.at + k) ≡ true
 
--- what is left to do: it falls with each step
+-- the work that is left: it falls with each step
 abbrev pub work_left : Space → Cursor → ℕ
 work_left space c = ((length space.segments - c.number) * 2 ^ 65 + c.left) * 2 + (1 - length c.here.now)

@@ -38,6 +38,6 @@ file_extent f = record { start = f.start; past = f.past }
 abbrev pub takes_addresses : ℕ × Extent → Bool
 takes_addresses d = nat_lt d.1.start d.1.past
 
--- those that do, with their numbers, where the first of these has number i
+-- those that do, with their numbers, if the first of these has number i
 abbrev pub taking_from : ℕ → List Extent → List (ℕ × Extent)
 taking_from i extents = filter takes_addresses (enumerate_from i extents)

@@ -1,4 +1,4 @@
--- What the code's iterators over matches and strings mean.
+-- The meaning of the code's iterators over matches and strings.
 use Rattle.std.specs.Prelude.{ℕ, Bool, List, [], Option, None, Some, map, filter}
 use Rattle.address_space.specs.Source.{Space}
 use Rattle.address_space.specs.Occurrence.{occurs, is_long, text_from}

@@ -37,7 +37,7 @@ pub record IsSheet (rows : List Row) : Type 0 where
   pub laid : IsLaid 0 (2 ^ 64) rows
   pub ended : IsEnded rows
 
--- what the first of two sheets answers, or else the second
+-- the answer of the first of two sheets, or else of the second
 abbrev pub either_holder : List Row → List Row → ℕ → Option ℕ
 either_holder over under a = or_else (holder over a) (holder under a)
 

@@ -1,4 +1,5 @@
--- Where bytes occur in the memory of a process, and the texts in it. Addresses are listed by the number of the segment that decides them and then by themselves.
+-- The places where bytes occur in the memory of a process, and the texts in it. Addresses
+-- are listed by the number of the segment that decides them and then by themselves.
 use Rattle.std.specs.Prelude.{ℕ, zero, suc, ◌+◌, ◌-◌, ◌^◌, ◌==◌, ◌&&◌, ◌||◌, not, nat_le, if◌then◌else◌, Bool, true, false, List, [], ◌∷◌, ◌++◌, map, filter, Option, None, Some}
 use Rattle.std.specs.List.{range_with_len}
 use Rattle.elf_view.specs.Header.{SegmentView}
@@ -65,6 +66,6 @@ text_from space a = (a, text_len space a (2 ^ 64 - a))
 abbrev pub is_long : ℕ → ℕ × ℕ → Bool
 is_long least text = nat_le least text.1
 
--- every stretch of text, as long as can be, of at least that length
+-- every text of at least that length; each is as long as it can be
 unfoldable pub strings_of : Space → ℕ → List (ℕ × ℕ)
 strings_of space least = filter (is_long least) (map (text_from space) (ordered space (begins_text space)))

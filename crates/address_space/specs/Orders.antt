@@ -3,7 +3,7 @@ use Rattle.std.specs.Prelude.{◌≡◌, ◌<◌, ◌≤◌, ℕ, ◌+◌, ◌*�
 use Rattle.address_space.specs.ScanWords.{past_of}
 use Rattle.address_space.specs.declared.row.Row.{Row}
 
--- what rows are ordered by: the number, and then the first address
+-- the key by which rows are ordered: the number, and then the first address
 abbrev pub key_of : Row → ℕ
 key_of r = r.number * 2 ^ 64 + r.start
 

@@ -1,4 +1,4 @@
--- What the code's table of paths means.
+-- The meaning of the code's table of paths.
 use Rattle.std.specs.Prelude.{◌≡◌, ℕ, List, Option}
 use Rattle.std.specs.BTreeMap.{get_by}
 use Rattle.std.specs.Cmp.Lexicographic.{slice_cmp}

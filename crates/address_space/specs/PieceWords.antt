@@ -1,4 +1,4 @@
--- What the code's iterators over pieces and mappings mean.
+-- The meaning of the code's iterators over pieces and mappings.
 use Rattle.std.specs.Prelude.{List, map}
 use Rattle.std.specs.Option.{option_map}
 use Rattle.elf_view.specs.Header.{LoadView}

@@ -1,4 +1,4 @@
--- What the code's answers of a search through a table mean.
+-- The meaning of the code's answers of a search through a table.
 use Rattle.std.specs.Prelude.{ℕ, ◌+◌}
 use Rattle.elf_view.specs.Header.{SegmentView}
 use Rattle.elf_view.specs.SegmentWords.{segment_view}
@@ -14,6 +14,6 @@ decided_view d = (d.number, segment_view d.segment)
 abbrev pub past_of : Row → ℕ
 past_of r = r.start + r.size
 
--- the addresses of a row, with the number of what has them
+-- the addresses of a row, with the number of the segment or file that has them
 abbrev pub row_view : Row → ℕ × Extent
 row_view r = (r.number, record { start = r.start; past = r.start + r.size })

@@ -1,5 +1,5 @@
--- What is at an address of a process's memory, as its core file tells it: the bytes of PT_LOAD segments, as far as the file has them (System V gABI, "Program Header";
--- core(5)), and the files that were mapped (core(5), NT_FILE), as far as executables are attached for them.
+-- The content of an address of a process's memory, by its core file: the bytes of PT_LOAD segments, as far as the file has them (System V gABI,
+-- "Program Header"; core(5)), and the files that were mapped (core(5), NT_FILE), as far as executables are attached for them.
 use Rattle.std.specs.Prelude.{ℕ, zero, suc, ◌+◌, ◌-◌, ◌*◌, ◌==◌, ◌&&◌, nat_lt, nat_le, if◌then◌else◌, Bool, List, [], ◌∷◌, ◌++◌, length, map, filter, slice_index, Option, None, Some, find}
 use Rattle.std.specs.Str.{bytes_eq}
 use Rattle.elf_view.specs.Header.{SegmentView}
@@ -22,7 +22,7 @@ pub record Space : Type 0 where
 abbrev pub with_executable : Space → List ℕ → List ℕ → Space
 with_executable space path image = record space { executables = space.executables ++ (record { path = path; image = image }) ∷ [] }
 
--- the first item that passes, with its number, where the first of the list has number i
+-- the first item that passes, with its number, if the first of the list has number i
 abbrev pub first_from : {A : Type 0} → (A → Bool) → ℕ → List A → Option (ℕ × A)
 first_from test i [] = None
 first_from test i (x ∷ xs) = if test x then Some (i, x) else first_from test (i + 1) xs
@@ -63,7 +63,7 @@ is_named name x = bytes_eq x.path name
 unfoldable pub executable_named : Space → List ℕ → Option ExecutableView
 executable_named space name = find (is_named name) space.executables
 
--- What an address is, with the number of the segment that decides it.
+-- The place of an address, with the number of the segment that decides it.
 pub data Place : Type 0 where
   -- no segment covers it
   nowhere : Place
@@ -76,7 +76,7 @@ pub data Place : Type 0 where
   -- so too, and its byte is in the executable that is attached for the file of that entry
   in_file : ℕ → ℕ × FileView → List ℕ → Place
 
--- an address that is mapped by that entry, where this is the executable for it
+-- an address that is mapped by that entry, if this is the executable for it
 abbrev pub filed : ℕ → ℕ → ℕ × FileView → Option ExecutableView → Place
 filed a i e None = unwritten i (Some e)
 filed a i e (Some x) = if nat_lt (spot_in a e.1).offset (length x.image) then in_file i e x.image else unwritten i (Some e)
@@ -97,7 +97,7 @@ placed space a (Some d) =
 unfoldable pub place_at : Space → ℕ → Place
 place_at space a = placed space a (decider space a)
 
--- what is shown of addresses of one place: their bytes, one or several of them, or why there are none
+-- the content of addresses of one place: the bytes of one or several of them, or why they have no bytes
 pub data Content (A : Type 0) : Type 0 where
   -- in the core
   held : A → Content A
@@ -108,7 +108,7 @@ pub data Content (A : Type 0) : Type 0 where
   cut : Content A
   unmapped : Content A
 
--- where read takes the bytes from a list at a place
+-- if read takes the bytes from a list at a place
 abbrev pub content_by : {A : Type 0} → (List ℕ → ℕ → A) → ℕ → Place → Content A
 content_by read a nowhere = unmapped
 content_by read a (dumped i s) = held (read s.bytes (a - s.vaddr))

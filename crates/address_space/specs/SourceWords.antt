@@ -1,4 +1,4 @@
--- What the code's sources and pieces mean.
+-- The meaning of the code's sources and pieces.
 use Rattle.std.specs.Prelude.{ℕ, List, Option, None, Some}
 use Rattle.std.specs.Option.{option_map}
 use Rattle.address_space.specs.Source.{SpotView, Content, held, from_file, not_dumped, cut, unmapped}

@@ -1,4 +1,4 @@
--- What the code's address space means.
+-- The meaning of the code's address space.
 use Rattle.std.specs.Prelude.{ℕ, List, map, Option}
 use Rattle.elf_view.specs.Header.{segments_of}
 use Rattle.elf_view.specs.ViewWords.{image_of}

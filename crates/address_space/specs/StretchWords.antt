@@ -1,4 +1,4 @@
--- What the code's stretches mean.
+-- The meaning of the code's `Stretch`.
 use Rattle.std.specs.Prelude.{◌≡◌, ◌≤◌, ℕ, ◌+◌, ◌-◌, List, ⊤}
 use Rattle.std.specs.Option.{option_map}
 use Rattle.elf_view.specs.Field.{part}
@@ -10,7 +10,7 @@ use Rattle.address_space.specs.declared.source.StretchKind as kinds
 use Rattle.address_space.specs.declared.source.StretchKind.TheVariants as kind
 use Rattle.address_space.specs.declared.source.Stretch.{Stretch}
 
--- what an image shows of n addresses whose bytes it has
+-- the content of n addresses, for an image that has their bytes
 abbrev pub shown_in : List ℕ → ℕ → kinds.StretchKind → Content (List ℕ)
 shown_in image n (kind.Core offset) = held (part image offset n)
 shown_in image n (kind.FromFile bytes) = from_file bytes.now
@@ -18,7 +18,7 @@ shown_in image n (kind.NotDumped spot) = not_dumped (option_map spot_view spot)
 shown_in image n kind.Cut = cut
 shown_in image n kind.Unmapped = unmapped
 
--- the piece that an image shows of a stretch
+-- the piece of an image at the place of a `Stretch`
 abbrev pub piece_in : List ℕ → Stretch → PieceView
 piece_in image s = record { first = s.first; length = s.length; content = shown_in image s.length s.kind }
 

@@ -1,4 +1,4 @@
--- What the code's iterator over stretches means.
+-- The meaning of the code's iterator `Stretches`.
 use Rattle.std.specs.Prelude.{◌≡◌, ℕ, List, Option, IfSome}
 use Rattle.std.specs.Iterator.{YieldsFirstBy}
 use Rattle.elf_view.specs.Header.{segments_of}
@@ -19,7 +19,7 @@ front_of s = image_of s.space.now.elf
 abbrev pub pieces_left_in : List ℕ → Stretches → List PieceView
 pieces_left_in image s = pieces_of (space_in image (space_of s.space.now)) s.at s.left
 
--- what an image of that size has for the addresses that are still to come is from place `start` on and before place `past`
+-- the bytes that an image of that size has for the addresses that are still to come lie from place `start` on and before place `past`
 abbrev pub AreLeftWithin : ℕ → ℕ → Stretches → Type 0
 AreLeftWithin start past s = AreHeldWithin s.size s.at s.left start past (segments_of (front_of s))
 
@@ -30,7 +30,7 @@ pub record AreLeft (space : Space) (bytes : List ℕ) (count a n : ℕ) (s : Str
   pub pieces : (image : List ℕ) → pieces_left_in image s ≡ pieces_of (space_in image space) a n
   pub within : (start past : ℕ) → AreHeldWithin count a n start past (segments_of bytes) → AreLeftWithin start past s
 
--- A stretch is the next piece of any image of that size which begins so.
+-- Each item is the next piece of any image of that size which starts with these bytes.
 pub record StretchStep (s : Stretches) (r : Option Stretch) (t : Stretches) : Type 0 where
   pub front : front_of t ≡ front_of s
   pub size : t.size ≡ s.size

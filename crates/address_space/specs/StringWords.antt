@@ -1,4 +1,4 @@
--- What the code's iterator over texts means.
+-- The meaning of the code's iterator over texts.
 use Rattle.std.specs.Prelude.{ℕ, List}
 use Rattle.address_space.specs.Occurrence.{begins_text}
 use Rattle.address_space.specs.FindWords.{left_from, texts_from}

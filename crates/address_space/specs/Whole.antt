@@ -9,7 +9,7 @@ use Rattle.address_space.specs.Source.{Space, is_covering}
 abbrev pub IsFrontOf : List ℕ → ℕ → List ℕ → Type 0
 IsFrontOf front size image = (length image ≡ size) × (front ≡ take (length front) image)
 
--- a program header with what of its file range lies in the image
+-- a program header with the part of its file range that lies in the image
 abbrev pub filled : List ℕ → SegmentView → SegmentView
 filled image s = record s { bytes = part image s.offset s.filesz }
 
@@ -17,7 +17,8 @@ filled image s = record s { bytes = part image s.offset s.filesz }
 abbrev pub space_in : List ℕ → Space → Space
 space_in image space = record space { segments = segments_of image }
 
--- What an image of that size has for n addresses from `first` on, in the file range of a program header, is from place `start` on and before place `past`.
+-- The bytes that an image of that size has for n addresses from `first` on, in the
+-- file range of a program header, lie from place `start` on and before place `past`.
 abbrev pub IsHeldWithin : ℕ → ℕ → ℕ → ℕ → ℕ → SegmentView → Type 0
 IsHeldWithin size first n start past s =
     (a : ℕ) → first ≤ a → a < first + n → is_covering a s ≡ true → a - s.vaddr < s.filesz → s.offset + (a - s.vaddr) < size

@@ -39,14 +39,14 @@ impl<'a> Executables<'a> {
         }
     }
 
-    /// Whether there is none.
+    /// Whether it is empty.
     pub(crate) fn is_empty(&self) -> bool
         ensures { result ≡ true → map attached_view self.now.list.items ≡ [] }
     {
         self.list.as_slice().is_empty()
     }
 
-    /// Puts one after the others. Where there is no memory they stay as they are.
+    /// Appends an executable. If there is no memory the list stays as it is.
     pub(crate) fn push(&mut self, executable: Attached<'a>) -> Result<(), AllocError>
         ensures ok { OnOk result (map attached_view self.new.list.items
             ≡ map attached_view self.old.list.items ++ attached_view executable.entry ∷ []) }

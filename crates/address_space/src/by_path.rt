@@ -45,7 +45,7 @@ impl<'a> ByPath<'a> {
         self.numbers.get(path).copied()
     }
 
-    /// The number of the first executable of that path in a list, where this is the table of it.
+    /// The number of the first executable of that path in a list, if this is the table of it.
     pub fn number(&self, path: &[u8]) -> Option<usize>
         ensures first { (all : List ExecutableView) → AreNumbered self.now all
             → result ≡ option_map (λ (e : ℕ × ExecutableView). e.0) (first_from (is_named path.now) 0 all) }

@@ -13,7 +13,7 @@ use crate::scan::span;
 use crate::space::AddressSpace;
 use elf_view::accepted_segments_fit;
 
-/// Where a search has come.
+/// The progress of a search.
 #[derive(Clone, Copy, Debug)]
 pub(crate) struct Cursor<'a> {
     /// The number of the segment at hand.
@@ -83,8 +83,8 @@ impl<'a> AddressSpace<'a> {
         })
     }
 
-    /// If the segment at hand does not decide the next address: the next address that it decides or, if there is none, the
-    /// front of the next segment that decides any.
+    /// If the segment at hand does not decide the next address: the next address that it decides or, if it decides no
+    /// more, the front of the next segment that decides any.
     #[tactic(auto, unfolding(crate::specs::Source::decider, crate::specs::SpaceWords::space_of))]
     fn leap(&self, order: &Order, cursor: Cursor<'a>) -> Option<Cursor<'a>>
         requires placed { IsPlaced (space_of self.now) cursor }

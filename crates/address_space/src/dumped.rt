@@ -1,4 +1,4 @@
-// Where an image has the bytes of addresses, whatever executables are attached.
+// The places of an image that have the bytes of addresses, whatever executables are attached.
 ghost use Rattle.std.specs.Prelude.{◌≡◌, ◌<◌, ◌≤◌, ◌-◌, ℕ, List, IfSome, true};
 ghost use Rattle.elf_view.specs.ViewWords.{image_of};
 ghost use Rattle.address_space.specs.Dumped.{AreValues, HasNoValue};
@@ -10,7 +10,7 @@ use crate::stretches::ImageRange;
 use elf_view::{Elf, a_sound_front_is_enough};
 
 /// The places of an image of `size` bytes that have the bytes of addresses in a row, from `first` on and of at most `limit`, by the
-/// segment that decides the first. `None` where the image has no byte of the first. The core is that image, or its first bytes.
+/// segment that decides the first. `None` if the image has no byte of the first. The core is that image, or its first bytes.
 pub fn dumped_range(elf: &Elf<'_>, size: u64, first: u64, limit: u64) -> Option<ImageRange>
     requires { 0 < limit }
     ensures values { IfSome result (λ r. (b : List ℕ) → IsFrontOf (image_of elf.now) size b → AreValues b first r.start r.past) }

@@ -1,4 +1,4 @@
-// The mapped files by address, where entries of NT_FILE may have addresses in common.
+// The mapped files by address, if entries of NT_FILE may have addresses in common.
 ghost use Rattle.std.specs.Prelude.{not, is_some, ◌≡◌, ◌<◌, ◌≤◌, ℕ, map, length, IfOk, IfSome, slice_get};
 ghost use Rattle.std.specs.Option.{option_map, ForSome};
 ghost use Rattle.core_notes.specs.FileList.{FileView};
@@ -34,7 +34,7 @@ impl<'a> FileSheet<'a> {
         Ok(FileSheet { maps, table })
     }
 
-    /// The sheet of a core's mapped files, or none where they have a table. The error is that there is no memory for it.
+    /// The sheet of a core's mapped files, or `None` if they have a table. The only error is that there is no memory for it.
     pub(crate) fn unless(
         has_table: bool,
         alloc: Global,

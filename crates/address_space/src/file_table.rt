@@ -1,4 +1,4 @@
-// The mapped files by address, where no two entries of NT_FILE have an address in common.
+// The mapped files by address, if no two entries of NT_FILE have an address in common.
 ghost use Rattle.std.specs.Prelude.{◌≡◌, ◌^◌, ◌<◌, ◌≤◌, ◌↔◌, ℕ, All, map, length, IfOk, IfSome, IsSome, slice_get};
 ghost use Rattle.std.specs.List.Sorted.{IsPermutation};
 ghost use Rattle.std.specs.Option.{option_map, ForSome};
@@ -26,7 +26,7 @@ pub(crate) struct FileTable<'a> {
 }
 
 impl<'a> FileTable<'a> {
-    /// The mapped files, of which a core may tell nothing, and their rows.
+    /// The mapped files, which a core need not list, and their rows.
     pub(crate) fn listed(
         alloc: Global,
         files: Option<Files<'a>>,
@@ -42,8 +42,8 @@ impl<'a> FileTable<'a> {
         }
     }
 
-    /// The table of a core's mapped files. There is none where two of them have an address in common. The error is that
-    /// there is no memory for it.
+    /// The table of a core's mapped files. There is no table if two of them have an address in common. The only error is
+    /// that there is no memory for it.
     pub(crate) fn of(
         alloc: Global,
         files: Option<Files<'a>>,

@@ -72,7 +72,7 @@ impl<'a> AddressSpace<'a> {
         true
     }
 
-    /// The same, where the values of the first of these addresses are at hand.
+    /// The same, if the values of the first of these addresses are at hand.
     fn stands_here(&self, needle: &[u8], here: &[u8], at: u64) -> bool
         requires room { length here.now ≤ length needle.now }
         requires values { (k : ℕ) → k < length here.now

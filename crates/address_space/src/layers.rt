@@ -78,7 +78,7 @@ impl<'r> Merge<'r> {
         })
     }
 
-    /// The row that comes next, and what is left after it.
+    /// The row that comes next, and the rows that are left after it.
     fn next(self) -> Option<(Row, Merge<'r>)>
         requires { IsMerging self.over.now self.under.now self.at }
         ensures { MatchOption result

@@ -1,4 +1,4 @@
-//! The memory of a process, as its core tells it: the program headers, the mapped files and attached executables.
+//! The memory of a process, as described by its core: the program headers, the mapped files and attached executables.
 #![tactic(auto)]
 
 mod attached;

@@ -1,4 +1,4 @@
-// How many addresses from one on are of one place, and what is there.
+// How many addresses from one on have one place, and their content.
 ghost use Rattle.std.specs.Prelude.{◌≡◌, ◌+◌, ◌-◌, ◌^◌, ◌<◌, ◌≤◌, ℕ, List, Some, IfSome, length, map, min, slice_get};
 ghost use Rattle.std.specs.List.Sorted.{IsPermutation};
 ghost use Rattle.std.specs.Option.{option_map};
@@ -32,7 +32,7 @@ pub(crate) struct Located<'a> {
     pub number: Option<u64>,
     /// How many there are.
     pub length: u64,
-    /// What is there.
+    /// Their content.
     pub kind: PieceKind<'a>,
 }
 
@@ -47,7 +47,7 @@ pub(crate) struct Placed<'a> {
     pub kind: StretchKind<'a>,
 }
 
-/// What of the segment's file range lies in an image of `size` bytes.
+/// How many bytes of the segment's file range lie in an image of `size` bytes.
 pub(crate) fn held(segment: &Segment<'_>, size: u64) -> u64
     ensures { result ≡ min segment.now.filesz (size - segment.now.offset) }
 {
@@ -80,7 +80,7 @@ impl<'a> AddressSpace<'a> {
         Some(executable.image)
     }
 
-    /// What is at addresses that the entry maps and the core has no bytes for, and how many of the `limit` are of one
+    /// The content of addresses that the entry maps and the core has no bytes for, and how many of the `limit` have one
     /// place.
     fn locate_in_file(&self, file: FileMap<'a>, at: u64, limit: u64) -> (StretchKind<'a>, u64)
         requires some { 0 < limit }
@@ -226,7 +226,7 @@ impl<'a> AddressSpace<'a> {
         }
     }
 
-    /// What is at addresses of a segment that has no bytes for them, and how many of the `limit` are of one place.
+    /// The content of addresses of a segment that has no bytes for them, and how many of the `limit` have one place.
     fn locate_undumped(&self, at: u64, limit: u64) -> (StretchKind<'a>, u64)
         requires { 0 < limit }
         ensures stretch { (i : ℕ) → IsStretch (λ b. source.undumped (space_of self.now) b i
@@ -306,7 +306,7 @@ impl<'a> AddressSpace<'a> {
         }
     }
 
-    /// What is at addresses from `at` on, and how many of the `limit` are of one place.
+    /// The content of addresses from `at` on, and how many of the `limit` have one place.
     pub(crate) fn locate(&self, at: u64, limit: u64) -> Located<'a>
         requires { 0 < limit }
         ensures stretch { IsStretch (source.place_at (space_of self.now)) at limit result.length }

@@ -4,7 +4,7 @@ use crate::source::FileSpot;
 use crate::space::AddressSpace;
 use elf_view::Loads;
 
-/// A mapping of a process: what a PT_LOAD tells of it.
+/// A mapping of a process, from the fields of its PT_LOAD.
 #[derive(Clone, Copy, Debug)]
 pub struct Mapping<'a> {
     /// The first address.

@@ -17,7 +17,7 @@ pub(crate) struct Order {
     ghost rising: { IsNonDecreasingBy key_of rows.items },
 }
 
-/// What rows are ordered by: the number, and then the first address.
+/// The key by which rows are ordered: the number, and then the first address.
 fn key(number: u64, at: u64) -> u128
     ensures { result ≡ number * 2 ^ 64 + at }
 {

@@ -35,7 +35,7 @@ fn bytes_of(kind: PieceKind) -> Option<&[u8]>
     }
 }
 
-/// The values of the addresses, where the segment of that number decides them.
+/// The values of the addresses, if the segment of that number decides them.
 pub(crate) fn values_by<'a>(run: Run<'a>, number: u64) -> Option<&'a [u8]>
     ensures { MatchOption result
         ((run.entry.number ≡ Some number → option_map (λ bytes. bytes.now) run.entry.bytes ≡ None))
@@ -58,8 +58,8 @@ pub(crate) fn is_by(run: Run, number: u64) -> bool
     }
 }
 
-/// The bytes that the core has of the segment from `at` on, and how many of the `limit` addresses have them or, where there
-/// is none, have none.
+/// The bytes that the core has of the segment from `at` on, and how many of the `limit` addresses have them. If it has no
+/// byte there, how many addresses have none.
 fn held_from<'a>(segment: Segment<'a>, at: u64, limit: u64) -> (Option<&'a [u8]>, u64)
     requires some { 0 < limit }
     requires first { segment.vaddr ≤ at }
@@ -81,7 +81,7 @@ fn held_from<'a>(segment: Segment<'a>, at: u64, limit: u64) -> (Option<&'a [u8]>
 }
 
 impl<'a> AddressSpace<'a> {
-    /// The values of addresses from `at` on, if they have any, where no executable is attached. NT_FILE is not looked at.
+    /// The values of addresses from `at` on, if they have any, if no executable is attached. NT_FILE is not read.
     fn run_in_core(&self, at: u64, limit: u64) -> Run<'a>
         requires some { 0 < limit }
         requires alone { (space_of self.now).executables ≡ [] }

@@ -1,4 +1,4 @@
-// The addresses that each segment decides, where PT_LOADs may have addresses in common.
+// The addresses that each segment decides, if PT_LOADs may have addresses in common.
 ghost use Rattle.std.specs.Prelude.{not, is_some, ◌≡◌, ℕ, IfOk};
 ghost use Rattle.std.specs.Option.{ForSome, option_map};
 ghost use Rattle.elf_view.specs.Header.{SegmentView, segments_of};
@@ -36,7 +36,7 @@ impl Sheet {
         Ok(Sheet { table, order })
     }
 
-    /// The sheet of a core's segments, or none where they have a table. The error is that there is no memory for it.
+    /// The sheet of a core's segments, or `None` if they have a table. The only error is that there is no memory for it.
     pub(crate) fn unless(
         has_table: bool,
         alloc: Global,

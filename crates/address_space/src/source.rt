@@ -1,4 +1,4 @@
-// What is at addresses.
+// The content of addresses.
 
 /// A place in a mapped file.
 #[derive(Clone, Copy, Debug)]
@@ -9,7 +9,7 @@ pub struct FileSpot<'a> {
     pub offset: u64,
 }
 
-/// What is at an address.
+/// The content of an address.
 #[derive(Clone, Copy, Debug)]
 pub enum Source<'a> {
     /// This byte, which the core has.
@@ -24,7 +24,7 @@ pub enum Source<'a> {
     Unmapped,
 }
 
-/// What is at the addresses of a piece.
+/// The content of the addresses of a piece.
 #[derive(Clone, Copy, Debug)]
 pub enum PieceKind<'a> {
     /// These bytes, which the core has.
@@ -39,14 +39,14 @@ pub enum PieceKind<'a> {
     Unmapped,
 }
 
-/// Addresses in a row of one kind and one segment, and of one mapped file where the core has no bytes for them.
+/// Addresses in a row of one kind and one segment, and of one mapped file if the core has no bytes for them.
 #[derive(Clone, Copy, Debug)]
 pub struct Piece<'a> {
     /// The first address.
     pub first: u64,
     /// How many there are.
     pub length: u64,
-    /// What is there.
+    /// Their content.
     pub kind: PieceKind<'a>,
 }
 

@@ -28,7 +28,7 @@ use core_notes::Files;
 use elf_view::Elf;
 use std::alloc::{AllocError, Global};
 
-/// The memory of a process, as its core tells it.
+/// The memory of a process, as described by its core.
 #[derive(Drop)]
 pub struct AddressSpace<'a> {
     pub(crate) elf: Elf<'a>,
@@ -43,7 +43,7 @@ pub struct AddressSpace<'a> {
         (map row_view t.rows.items) ∥₁) },
     /// Its files are the entries of NT_FILE.
     ghost listed: { ForSome file_table (λ t. map file_view t.maps.items ≡ files_in files) },
-    /// So are those of a sheet.
+    /// The files of a sheet are the entries of NT_FILE too.
     ghost files_listed: { ForSome file_sheet (λ s. map file_view s.maps.items ≡ files_in files) },
     /// Its rows are the addresses that the program headers decide.
     ghost laid: { ForSome sheet (λ s. ∥ IsSheet s.table.rows.items ∥₁) },
@@ -67,7 +67,7 @@ impl<'a> AddressSpace<'a> {
     ghost use Rattle.address_space.specs.PieceWords.{pieces_left, mappings_left};
     ghost use Rattle.address_space.specs.StretchesWords.{AreLeft};
 
-    /// The memory that the core's program headers tell of, with the mapped files that its NT_FILE names. No executable
+    /// The memory that the core's program headers describe, with the mapped files that its NT_FILE names. No executable
     /// is attached.
     #[tactic(auto, unfolding(crate::specs::SpaceWords::space_of))]
     pub fn new(alloc: Global, elf: &Elf<'a>, files: Option<Files<'a>>) -> AddressSpace<'a>
@@ -85,10 +85,10 @@ impl<'a> AddressSpace<'a> {
         }
     }
 
-    /// What `new` makes, with tables by which the segment and the file of an address are found in logarithmic time. If no
-    /// two PT_LOADs have an address in common the table is that of the segments, sorted by address. If two have, it is a
-    /// sheet: its rows are the addresses that each segment decides. The entries of NT_FILE have such tables too. The error
-    /// is that there is no memory for the tables.
+    /// Makes the same memory as `new`, with tables by which the segment and the file of an address are found in
+    /// logarithmic time. If no two PT_LOADs have an address in common the table is that of the segments, sorted by
+    /// address. If two have, it is a sheet: its rows are the addresses that each segment decides. The entries of NT_FILE
+    /// have such tables too. The only error is that there is no memory for the tables.
     #[tactic(auto, unfolding(crate::specs::SpaceWords::space_of))]
     pub fn indexed(
         alloc: Global,
@@ -116,8 +116,8 @@ impl<'a> AddressSpace<'a> {
         })
     }
 
-    /// Attaches an executable for the mapped file of that path, where the core has no bytes. Of two with one path the first
-    /// stays. Where there is no memory nothing is attached.
+    /// Attaches an executable for the mapped file of that path, for addresses at which the core has no bytes. Of two with
+    /// one path the first stays. If there is no memory nothing is attached.
     #[tactic(auto, unfolding(crate::specs::SpaceWords::space_of))]
     pub fn attach(&mut self, path: &'a [u8], elf: Elf<'a>) -> Result<(), AllocError>
         ensures ok { OnOk result (space_of self.new
@@ -133,7 +133,7 @@ impl<'a> AddressSpace<'a> {
         })
     }
 
-    /// What is at an address. The first segment, in table order, that covers it decides.
+    /// The content of an address. The first segment, in table order, that covers it decides.
     pub fn at(&self, address: u64) -> Source<'a>
         ensures { source_view result ≡ source_at (space_of self.now) address }
     {
@@ -146,7 +146,7 @@ impl<'a> AddressSpace<'a> {
         }
     }
 
-    /// The pieces of `length` addresses from `first` on, in rising order: neighbours are in one piece exactly where kind,
+    /// The pieces of `length` addresses from `first` on, in rising order: neighbours are in one piece if and only if kind,
     /// deciding segment and, for those without bytes in the core, the entry of NT_FILE are the same.
     pub fn pieces(&self, first: u64, length: u64) -> Pieces<'_, 'a>
         requires { first + length ≤ 2 ^ 64 }
@@ -155,8 +155,8 @@ impl<'a> AddressSpace<'a> {
         Pieces::new(self, first, length)
     }
 
-    /// The same without the bytes that the core has: their places in its image. The core may be the first bytes alone of an image of
-    /// `size` bytes. What any such image shows of a stretch is the piece of that image.
+    /// The same, with places in the core's image instead of the bytes that the core has. The core may be only the first bytes of an
+    /// image of `size` bytes. Each item gives the same piece for every such image.
     pub fn stretches(&self, size: u64, first: u64, length: u64) -> Stretches<'_, 'a>
         requires { first + length ≤ 2 ^ 64 }
         ensures { AreLeft (space_of self.now) (core_of self.now) size first length result }
@@ -172,8 +172,8 @@ impl<'a> AddressSpace<'a> {
         Matches::new(self, needle)
     }
 
-    /// The stretches of text, each as long as can be, of at least `least` bytes: first address and length, ordered as matches
-    /// are by their first addresses. Bytes of text are those from the space to `~` and the tab.
+    /// The texts, each as long as it can be, of at least `least` bytes: first address and length, ordered by their first
+    /// addresses like matches. Bytes of text are those from the space to `~` and the tab.
     pub fn strings(&self, least: u64) -> Strings<'_, 'a>
         ensures { strings_left result ≡ strings_of (space_of self.now) least }
     {

@@ -1,4 +1,4 @@
-// The stretches of a range of addresses, and the places of a range's bytes in an image.
+// The parts of a range of addresses, each of one place, and the places of a range's bytes in an image.
 ghost use Rattle.std.specs.Prelude.{◌+◌, ◌^◌, ◌≤◌};
 ghost use Rattle.elf_view.specs.Header.{segments_of};
 ghost use Rattle.elf_view.specs.SegmentWords.{segment_view, segments_left};
@@ -76,7 +76,7 @@ pub fn image_range(elf: &Elf<'_>, size: u64, first: u64, length: u64) -> ImageRa
     }
 }
 
-/// The stretches of a range of addresses, in rising order.
+/// The parts of a range of addresses, in rising order; each has one place.
 #[derive(Clone, Copy)]
 pub struct Stretches<'s, 'a> {
     space: &'s AddressSpace<'a>,

@@ -10,8 +10,8 @@ ghost use Rattle.address_space.specs.SpaceWords.{space_of};
 use crate::cursor::Cursor;
 use crate::space::AddressSpace;
 
-/// The texts in memory: stretches of bytes of text, each as long as can be and at least as long as asked for, by their
-/// first address and their length. They are ordered as matches are by their first addresses.
+/// The texts in memory, by their first address and their length: runs of bytes of text, each as long as it can be and at
+/// least as long as requested. They are ordered by their first addresses like matches.
 #[derive(Clone, Copy)]
 pub struct Strings<'s, 'a> {
     space: &'s AddressSpace<'a>,

@@ -52,7 +52,7 @@ fn are_apart(rows: &[Row]) -> bool
 }
 
 impl Table {
-    /// The table of rows that have addresses. There is none where two of them have an address in common.
+    /// The table of rows that have addresses. There is no table if two of them have an address in common.
     pub(crate) fn of(rows: Vec<Row>) -> Option<Table>
         ensures whole { (extents : List Extent) → map row_view rows.items ≡ taking_from 0 extents
             → ForSome result (λ t. ∥ IsPermutation (taking_from 0 extents) (map row_view t.rows.items) ∥₁) }
@@ -66,7 +66,7 @@ impl Table {
         Some(Table { rows })
     }
 
-    /// The table of rows that may have addresses in common, where the first row that has an address decides it. The error is
+    /// The table of rows that may have addresses in common: the first row that has an address decides it. The only error is
     /// that there is no memory for it.
     pub(crate) fn layered(alloc: Global, rows: &[Row]) -> Result<Table, AllocError>
         requires { IsNumbered 0 rows.now }

@@ -22,7 +22,7 @@ impl<'a> AddressSpace<'a> {
         Some(bytes)
     }
 
-    /// The little-endian number in the values of eight addresses, or `None` where one of them has none.
+    /// The little-endian number in the values of eight addresses, or `None` if one of them has no value.
     pub fn read_u64(&self, address: u64) -> Option<u64>
         ensures { result ≡ word_at (space_of self.now) address 8 }
     {

@@ -1,4 +1,4 @@
--- What copying bytes from one disk to another does to both.
+-- The effect of copying bytes from one disk to another on both.
 use Rattle.std.specs.Prelude.{ℕ, ◌≤◌, Result, Ok, Err}
 use Rattle.disk_model.specs.Disk.{HasRisen}
 use Rattle.disk_model.specs.declared.disk.Disk as disk

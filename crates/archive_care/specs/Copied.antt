@@ -1,4 +1,4 @@
--- What a copy of an archive is, and what a call that makes one promises.
+-- The definition of a copy of an archive, and the promise of a call that makes one.
 use Rattle.std.specs.Prelude.{◌≡◌, ◌⊎◌, ℕ, ◌+◌, ◌*◌, ◌<◌, ◌≤◌, Bool, false, List, [], length, map, if◌then◌else◌, Result, Ok, Err, OnOk, IsTrue}
 use Rattle.disk_model.specs.Disk.{HasRisen}
 use Rattle.disk_model.specs.Moments.{IsSettled}
@@ -26,12 +26,12 @@ use Rattle.archive_care.specs.declared.faults.CopyFault.TheVariants.{Open, BadSh
 abbrev pub unplaced : FoundCase → FoundCase
 unplaced c = record c { case = moved [] c.case }
 
--- what an archive holds, wherever its images lie
+-- the content of an archive, wherever its images lie
 abbrev pub held_by : Durable → Durable
 held_by x = record x { cases = map unplaced x.cases }
 
--- The second holds what the first does: the same cases, each with its number, facts, pin, label and image, and the same next number.
--- It is of this version of the layout.
+-- The second holds the same as the first: the same cases, each with its number, facts, pin, label and image, and the same next number. It
+-- has this version of the layout.
 abbrev pub IsCopyOf : ℕ → Durable → Durable → Type 0
 IsCopyOf version x y = held_by y ≡ record (held_by x) { version = version }
 
@@ -55,13 +55,13 @@ RightShape size shape (Ok u) = IsWithinLimits shape × (size ≡ disk_length sha
 RightShape size shape (Err BadShape) = is_shape_of size shape ≡ false
 RightShape size shape (Err _) = ⊥
 
--- The new disk has an archive with no case, and the images in their places. A crash leaves what reads give.
+-- The new disk has an archive with no case, and the images in their places. A crash leaves the bytes that reads give.
 pub record HoldsImages {N : Type 0} (h : disk.Ghosts N) (onto : N) (from : List ℕ) (s : Standing) (shape : Shape) : Type 0 where
   pub stands : Stands (h.seen onto) (fresh shape A 1 1)
   pub settled : IsSettled h onto
   pub images : part (h.seen onto) (data_start shape) (4096 * length (used_blocks s.cases)) ≡ joined s.shape from (used_blocks s.cases)
 
--- What is answered, by the archive that there is: a refusal for want of room comes exactly where there is none.
+-- The answer, by the archive on the disk: the copy is refused for lack of room if and only if there is no room.
 abbrev pub CopyStep : ℕ → Shape → Standing → Result (Unit {0}) CopyFault → Type 0
 CopyStep size shape s (Ok u) = HasSpace shape s × (copied_size s + 1 ≤ half_length shape)
 CopyStep size shape s (Err (Open fault)) = (fault ≡ open_fault.Disk) ⊎ (fault ≡ open_fault.OutOfMemory)
@@ -79,7 +79,7 @@ SparesNew (Err Source) onto onto' = Unit {0}
 SparesNew (Err Target) onto onto' = Unit {0}
 SparesNew (Err _) onto onto' = onto' ≡ onto
 
--- where the archive could not be opened, that is what its opening answers
+-- if the archive could not be opened, the fault is that of its opening
 abbrev pub IsOpeningsFault : {D : Type 0} → disk.Ghosts D → D → Result (Unit {0}) CopyFault → Type 0
 IsOpeningsFault g from (Err (Open fault)) = ShowsOpening g from (Err fault)
 IsOpeningsFault g from _ = Unit {0}
@@ -91,12 +91,12 @@ OpenedCause g h from from' onto onto' (Err Source) = HasRisen (g.failures from) 
 OpenedCause g h from from' onto onto' (Err Target) = HasRisen (h.failures onto) (h.failures onto')
 OpenedCause g h from from' onto onto' r = Unit {0}
 
--- A copy: what it answers, what it leaves of both disks, and what is found of it.
+-- A copy: its answer, both disks after it, and the archive that is found on the new disk.
 pub record CopyCall {D N : Type 0} (g : disk.Ghosts D) (h : disk.Ghosts N) (wanted : CopyWish) (from from' : D) (onto onto' : N) (r : Result (Unit {0}) CopyFault) : Type 0 where
   -- an opening of the new disk finds the archive's cases, whatever a crash from then on leaves of it
   pub copied : (x : Durable) → IsTrue (g.is_honest from) → IsTrue (h.is_honest onto) → StandsFor (g.seen from) x
       → OnOk r ((c : List ℕ) → h.may_leave onto' c → FindsCopy (copy_version wanted.keeps_labels x.version) x c)
-  -- which refusal comes is told by the archive
+  -- the archive determines the refusal
   pub step : (s : Standing) → IsTrue (g.is_honest from) → Stands (g.seen from) s → CopyStep (h.size onto) wanted.shape s r
   pub opening : IsOpeningsFault g from r
   pub spares : SparesNew r onto onto'

@@ -1,4 +1,4 @@
--- What a copy is to hold, and whether it has room.
+-- The content that a copy is to hold, and whether it has room.
 use Rattle.std.specs.Prelude.{◌≡◌, ℕ, ◌+◌, ◌<◌, ◌≤◌, length, map, Result, Ok, Err, Some}
 use Rattle.journal_layout.specs.Case.{case_of}
 use Rattle.journal_layout.specs.Folding.{Folded, used_blocks}
@@ -13,7 +13,7 @@ use Rattle.archive_care.specs.declared.faults.CopyFault.{CopyFault}
 use Rattle.archive_care.specs.declared.faults.CopyFault.TheVariants.{BadShape, SpaceFull, JournalFull, OutOfMemory}
 use Rattle.archive_care.specs.declared.planning.Plan.{Plan}
 
--- what the journal of a copy says, in this version of the layout
+-- the content of a copy's journal, in this version of the layout
 abbrev pub copied_cases : ℕ → Standing → Folded
 copied_cases version s = record { version = version; cases = placed 0 s.cases; next = s.next }
 
@@ -25,7 +25,7 @@ HasSpace shape s = length (used_blocks s.cases) ≤ shape.data_blocks
 abbrev pub copied_size : Standing → ℕ
 copied_size s = snapshot_size (copied_cases s.version s)
 
--- the cases have their places, or what there is no room for
+-- the cases with their places, or the refusal for lack of room
 abbrev pub IsPlan : Shape → Standing → Result Plan CopyFault → Type 0
 IsPlan shape s (Ok p) =
     IsWithinLimits shape × HasSpace shape s × (map case_of p.entries.items ≡ placed 0 s.cases) × IsMeasure (half_length shape) Nothing p.entries.items (Some p.measure)

@@ -31,8 +31,8 @@ fn copy_block<D: Disk, N: Disk>(
     Ok(())
 }
 
-/// Copies `count` blocks from place `source` of one disk on to place `target` of the other. Answers `Source` where the first
-/// disk failed; `Target` where the other one did.
+/// Copies `count` blocks from place `source` of one disk on to place `target` of the other. Answers `Source` if the first
+/// disk failed; `Target` if the other one did.
 pub(crate) fn copy_blocks<D: Disk, N: Disk>(
     from: &mut D,
     onto: &mut N,

@@ -24,7 +24,7 @@ use journal_layout::{Half, Shape};
 use journal_snapshot::Target;
 use std::alloc::Global;
 
-/// What is asked of a copy.
+/// The wish for a copy.
 #[derive(Clone, Copy, Debug, PartialEq, Eq)]
 pub struct CopyWish {
     /// The shape of the new archive.
@@ -81,7 +81,7 @@ fn version_of(keeps_labels: bool, version: u32) -> u32
     if keeps_labels { 2 } else { version }
 }
 
-// Where the records of the copy of a journal go: into the second half of a new archive.
+// The place for the records of the copy of a journal: the second half of a new archive.
 fn target_of(journal: &Journal, wanted: CopyWish) -> Target
     ensures start { result.start ≡ half_start wanted.shape B }
     ensures version { result.version ≡ copy_version wanted.keeps_labels journal.now.standing.version }
@@ -166,9 +166,9 @@ fn put_copy<D: Disk, N: Disk>(
 /// Copies the cases of the archive on a disk onto a new disk, whose bytes may be any: an archive of the wanted shape, in which each
 /// image lies in one run. The archive is only read. The next number is the archive's.
 ///
-/// Answers, in this order: `Open` with what an opening answers; `BadShape`; `SpaceFull`; `OutOfMemory`; `JournalFull`; `OutOfMemory`;
-/// and then `Source` where the archive's disk failed, or `Target` where the new one did, after which nothing is promised of that.
-/// Any other refusal leaves the new disk as it is.
+/// Answers, in this order: `Open` with the fault of the opening; `BadShape`; `SpaceFull`; `OutOfMemory`; `JournalFull`;
+/// `OutOfMemory`; and then `Source` if the archive's disk failed, or `Target` if the new one did, after which nothing is promised of
+/// that. Any other refusal leaves the new disk as it is.
 pub fn copy_archive<D: Disk, N: Disk>(
     alloc: Global,
     from: &mut D,

@@ -16,7 +16,7 @@ use disk_model::Disk;
 use extents::Run;
 use journal_layout::{BLOCK, Entry, Shape};
 
-// Copies the blocks of these runs, of an archive of this shape, to place `target` of the other disk on. Answers where they end there.
+// Copies the blocks of these runs, of an archive of this shape, to place `target` of the other disk on. Returns the place where they end.
 fn copy_runs<D: Disk, N: Disk>(
     from: &mut D,
     onto: &mut N,
@@ -43,7 +43,7 @@ fn copy_runs<D: Disk, N: Disk>(
 }
 
 /// Copies the images of cases of an archive of this shape to place `target` of the other disk on, block by block, each right after
-/// the one before it. Answers `Source` where the archive's disk failed; `Target` where the other one did.
+/// the one before it. Answers `Source` if the archive's disk failed; `Target` if the other one did.
 pub(crate) fn copy_images<D: Disk, N: Disk>(
     from: &mut D,
     onto: &mut N,

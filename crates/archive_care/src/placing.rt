@@ -65,7 +65,7 @@ fn add_placed(
 }
 
 /// The same cases, each with its image in one run of blocks right after the one before it, from the first data block on. Answers
-/// `SpaceFull` where they take more than `data_blocks` blocks; `OutOfMemory`.
+/// `SpaceFull` if they take more than `data_blocks` blocks; `OutOfMemory`.
 pub(crate) fn placed(
     alloc: Global,
     entries: &[Entry],

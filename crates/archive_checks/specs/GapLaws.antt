@@ -1,4 +1,4 @@
--- What the two halves of a journal say of one another is one thing.
+-- The gap between the two halves of a journal is determined by the bytes.
 use Rattle.std.proofs.Common.{◌≡◌, ℕ, ◌-◌, ◌^◌, ◌≤◌, List, Option, None, Some, arith, drop, length, refl, sym, ap, ◌∙◌}
 use Rattle.std.proofs.lemmas.List.{length-take}
 use Rattle.disk_model.specs.Places.{part}
@@ -40,7 +40,7 @@ module _ (b : List ℕ) (s : Shape) (limits : IsWithinLimits s) where
       ∙ ap (λ n. record { is_open = y.is_open; generation = n; next = x.next }) (one.generation ∙ sym two.generation)
       ∙ ap (λ n. record { is_open = y.is_open; generation = y.generation; next = n }) (one_next half _ _ x.next y.next one.next two.next)
 
--- so is what is told of an archive
+-- the gap of an archive is determined by its bytes
 pub one_gap : (b : List ℕ) (s : Standing) (gap told : Option Gap) → IsWithinLimits s.shape → IsGapOf b s gap → IsGapOf b s told → gap ≡ told
 one_gap b s gap told limits one two =
     one.4

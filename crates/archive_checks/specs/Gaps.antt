@@ -1,4 +1,4 @@
--- What the two halves of a journal say of one another, though no writing leaves them so: then the half that is taken may be the wrong one.
+-- Disagreements between the two halves of a journal that no writing leaves: then the half that is taken may be the wrong one.
 use Rattle.std.specs.Prelude.{◌≡◌, ◌≢◌, ℕ, ◌-◌, Bool, ◌&&◌, ◌==◌, not, nat_lt, if◌then◌else◌, List, slice_index, Option, None, Some}
 use Rattle.std.specs.Option.{unwrap_or}
 use Rattle.disk_model.specs.Places.{part}
@@ -30,7 +30,7 @@ abbrev pub IsNext : ℕ → List ℕ → ℕ → ℕ → Option ℕ → Type 0
 IsNext limit bytes gate version (Some next) = (gate ≢ 0) × SaysNext limit bytes version next
 IsNext limit bytes gate version None = gate ≢ 0 → (next : ℕ) → SaysNext limit bytes version next → ⊥
 
--- what a half says
+-- the gate, the generation and the next number of a half
 pub record IsSaid (b : List ℕ) (s : Shape) (half : Half) (h : HalfSaid) : Type 0 where
   pub is_open : h.is_open ≡ (header_of_half s b half).is_open
   pub generation : h.generation ≡ (header_of_half s b half).generation
@@ -54,13 +54,13 @@ is_apart a b = a.is_open && b.is_open && not (higher a b - lower a b == 1)
 abbrev pub next_of : HalfSaid → ℕ
 next_of h = unwrap_or h.next 0
 
--- what two halves say of one another, where the taken one says this next number
+-- the disagreement of two halves, if the taken one says this next number
 abbrev pub gap_between : HalfSaid → HalfSaid → ℕ → Option Gap
 gap_between a b taken =
     if is_apart a b then Some (Generation (lower_half a b) (lower a b) (higher a b - 1)) else
     if nat_lt taken (next_of a) then Some (Newer A (next_of a) taken) else
     if nat_lt taken (next_of b) then Some (Newer B (next_of b) taken) else None
 
--- That is what is told of an archive, or nothing.
+-- The disagreement in an archive, or nothing.
 abbrev pub IsGapOf : List ℕ → Standing → Option Gap → Type 0
 IsGapOf b s gap = (x : HalfSaid) × (y : HalfSaid) × IsSaid b s.shape A x × IsSaid b s.shape B y × (gap ≡ gap_between x y s.next)

@@ -1,4 +1,4 @@
--- The lines that `check` tells of an archive.
+-- The lines that `check` prints about an archive.
 use Rattle.std.specs.Prelude.{ℕ, List, [], ◌∷◌, ◌++◌, codes, decimal}
 use Rattle.intake.specs.declared.space.Space.{Space}
 use Rattle.journal_layout.specs.declared.shape.Half.{Half}
@@ -22,11 +22,11 @@ place_words Superblock = codes ", the superblock\n"
 place_words (Header half) = codes ", the header of half " ++ (half_name half ++ (codes " of the journal\n"))
 place_words (Record half number) = codes ", record " ++ (decimal number ++ (codes " of half " ++ (half_name half ++ (codes " of the journal\n"))))
 
--- the block, and in words what it is a part of
+-- the block, and in words the part that it belongs to
 abbrev pub place_line : ℕ → Place → List ℕ
 place_line block place = codes "damaged in block " ++ (decimal block ++ place_words place)
 
--- what it may mean if no writing leaves the halves of a journal so
+-- a possible cause, if no writing leaves the halves of a journal so
 abbrev pub doubt : List ℕ
 doubt = codes ": a header may be damaged, and the half that is not taken the right one: docs/OPERATIONS.md has a recipe for that, under 'The care of an archive'"
 

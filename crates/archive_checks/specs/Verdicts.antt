@@ -1,4 +1,4 @@
--- What is found of the image of a case, and the line that tells it.
+-- The verdict on the image of a case, and the line that prints it.
 use Rattle.std.specs.Prelude.{ℕ, nat_lt, length, if◌then◌else◌, List, [], ◌∷◌, ◌++◌, Option, None, Some, codes, decimal}
 use Rattle.core_length.specs.Whole.{whole_length}
 use Rattle.elf_view.specs.Sound.{first_fault}
@@ -28,7 +28,7 @@ abbrev pub exec_verdict : Option ElfFault → Verdict
 exec_verdict None = Sound
 exec_verdict (Some fault) = Exec fault
 
--- what is found of the bytes of an image
+-- the verdict on the bytes of an image
 abbrev pub verdict_of : Kind → List ℕ → Verdict
 verdict_of kind.Core b = core_verdict (core_fault_of b) (length b) (whole_length b)
 verdict_of kind.Exec b = exec_verdict (first_fault want.Exec b)

@@ -1,17 +1,17 @@
-// Whether an archive is sound, and where it is not.
+// Whether an archive is sound, and the place of the damage if it is not.
 ghost use Rattle.std.specs.Prelude.{◌≡◌, ◌≤◌, ℕ, false, List, Option, Some, Result, Ok, OnOk, length, slice_get};
 ghost use Rattle.std.specs.Option.{option_map};
-ghost use Rattle.archive_checks.specs.Checking.{ChecksOnDisk, IsDamageLine, TellsHoldings, TellsImage, TellsImages, ToldOf, case_words, cases_seen, check_end};
+ghost use Rattle.archive_checks.specs.Checking.{ChecksOnDisk, IsDamageLine, PrintsHoldings, PrintsImage, PrintsImages, ToldOf, case_words, cases_seen, check_end};
 ghost use Rattle.case_journal.specs.Viewing.{OnlyReads};
 ghost use Rattle.intake.specs.Parts.{state_of};
 ghost use Rattle.journal_layout.specs.Case.{Case};
-ghost use Rattle.script_streams.specs.Replies.{TellsReply, telling};
-ghost use Rattle.script_streams.specs.Telling.{IsDelivered};
+ghost use Rattle.script_streams.specs.Replies.{PrintsReply, printing};
+ghost use Rattle.script_streams.specs.Printing.{IsDelivered};
 ghost use Rattle.script_streams.specs.declared.streams.StreamFault.{StreamFault};
 
-use crate::lines::{Place, tell_facts, tell_place};
+use crate::lines::{Place, print_facts, print_place};
 use crate::shapes::shape_on;
-use crate::verdict::{tell_verdict, verdict_of};
+use crate::verdict::{print_verdict, verdict_of};
 use disk_model::Disk;
 use intake::{Archive, ArchiveFault, Settings};
 use journal_layout::{Half, Kind, OpenFault, Shape};
@@ -25,7 +25,7 @@ pub enum CheckFault {
     Open(OpenFault),
     /// It could not be read, or there was no memory for an image.
     Archive(ArchiveFault),
-    /// What is told could not be written.
+    /// The text could not be written.
     Output,
 }
 
@@ -42,8 +42,8 @@ const MOST_RECORDS: u64 = 1_048_576;
 // The bytes of a block.
 const BLOCK: u64 = 4096;
 
-/// Opens the archive on a disk, and tells what it holds and that it is sound, or where it is damaged; and hands the disk back. With
-/// `sees_images` it reads each image too, and tells whether its headers and notes are sound, or the first faulty field: that takes
+/// Opens the archive on a disk, and prints its content and that it is sound, or where it is damaged; and returns the disk. With
+/// `sees_images` it also reads each image, and prints whether its headers and notes are sound, or the first bad field: that takes
 /// as much memory as the longest image has bytes. The disk is only read.
 pub fn check_archive<D: Disk, O: Output>(
     alloc: Global,
@@ -56,20 +56,20 @@ pub fn check_archive<D: Disk, O: Output>(
     match Archive::open(alloc, disk, Settings { limit: 0 }) {
         Ok(archive) => {
             let mut archive = archive;
-            let told = tell_archive(&mut archive, sees_images, output);
+            let told = print_archive(&mut archive, sees_images, output);
             let disk = archive.close();
             (told, disk)
         }
         Err((fault, disk)) => {
             let mut disk = disk;
-            tell_damage(&mut disk, fault, output);
+            print_damage(&mut disk, fault, output);
             (Err(CheckFault::Open(fault)), disk)
         }
     }
 }
 
-// Tells what an archive holds.
-fn tell_archive<D: Disk, O: Output>(
+// Prints the content of an archive.
+fn print_archive<D: Disk, O: Output>(
     archive: &mut Archive<D>,
     sees_images: bool,
     output: &mut O,
@@ -79,12 +79,12 @@ fn tell_archive<D: Disk, O: Output>(
     ensures quiet { OnlyReads D.Disk archive.old.disk archive.new.disk }
 {
     let mut reply = Reply::new(output);
-    let told = tell_holdings(archive, sees_images, &mut reply);
+    let told = print_holdings(archive, sees_images, &mut reply);
     let sent = reply.finish();
     check_end(sent, told)
 }
 
-// The answer, by whether all of the text was written and what it ended with.
+// The answer, by whether all of the text was written and by its end.
 fn check_end(
     sent: Result<(), StreamFault>,
     told: Result<(), ArchiveFault>,
@@ -100,28 +100,28 @@ fn check_end(
     }
 }
 
-fn tell_holdings<D: Disk, O: Output>(
+fn print_holdings<D: Disk, O: Output>(
     archive: &mut Archive<D>,
     sees_images: bool,
     reply: &mut Reply<'_, O>,
 ) -> Result<(), ArchiveFault>
     requires runs { archive.old.stopped ≡ false }
-    ensures tells { TellsReply (telling O.Output reply.old reply.new) (λ text. TellsHoldings D.Disk archive.old sees_images text result archive.new) }
+    ensures states { PrintsReply (printing O.Output reply.old reply.new) (λ text. PrintsHoldings D.Disk archive.old sees_images text result archive.new) }
     ensures quiet { OnlyReads D.Disk archive.old.disk archive.new.disk }
 {
     let version = archive.version()?;
     let count = archive.cases()?.len();
     let space = archive.free_blocks()?;
-    tell_facts(reply, version, count as u64, space);
-    if let Err(fault) = tell_seen(archive, sees_images, count, reply) {
+    print_facts(reply, version, count as u64, space);
+    if let Err(fault) = print_seen(archive, sees_images, count, reply) {
         return Err(fault);
     }
-    reply.tell(b"sound\n");
+    reply.print(b"sound\n");
     Ok(())
 }
 
-// Tells of the images, if they are asked for.
-fn tell_seen<D: Disk, O: Output>(
+// Prints the verdicts on the images, if they are asked for.
+fn print_seen<D: Disk, O: Output>(
     archive: &mut Archive<D>,
     sees_images: bool,
     count: usize,
@@ -129,24 +129,24 @@ fn tell_seen<D: Disk, O: Output>(
 ) -> Result<(), ArchiveFault>
     requires runs { archive.old.stopped ≡ false }
     requires all { count ≡ length (state_of archive.old).cases }
-    ensures tells { TellsReply (telling O.Output reply.old reply.new) (λ text. TellsImages D.Disk archive.old (cases_seen (state_of archive.old) sees_images) text result archive.new) }
+    ensures states { PrintsReply (printing O.Output reply.old reply.new) (λ text. PrintsImages D.Disk archive.old (cases_seen (state_of archive.old) sees_images) text result archive.new) }
     ensures quiet { OnlyReads D.Disk archive.old.disk archive.new.disk }
 {
     if !sees_images {
         return Ok(());
     }
-    tell_images(archive, count, reply)
+    print_images(archive, count, reply)
 }
 
-// Tells of the image of each case, in the order of their numbers.
-fn tell_images<D: Disk, O: Output>(
+// Prints the verdict on the image of each case, in the order of their numbers.
+fn print_images<D: Disk, O: Output>(
     archive: &mut Archive<D>,
     count: usize,
     reply: &mut Reply<'_, O>,
 ) -> Result<(), ArchiveFault>
     requires runs { archive.old.stopped ≡ false }
     requires all { count ≡ length (state_of archive.old).cases }
-    ensures tells { TellsReply (telling O.Output reply.old reply.new) (λ text. TellsImages D.Disk archive.old (state_of archive.old).cases text result archive.new) }
+    ensures states { PrintsReply (printing O.Output reply.old reply.new) (λ text. PrintsImages D.Disk archive.old (state_of archive.old).cases text result archive.new) }
     ensures quiet { OnlyReads D.Disk archive.old.disk archive.new.disk }
 {
     for place in 0..count {
@@ -155,15 +155,15 @@ fn tell_images<D: Disk, O: Output>(
     Ok(())
 }
 
-// Reads the image of a case, and tells of it. It takes as much memory as the image has bytes.
+// Reads the image of a case, and prints the verdict on it. It takes as much memory as the image has bytes.
 fn see_image<D: Disk, O: Output>(
     archive: &mut Archive<D>,
     place: usize,
     reply: &mut Reply<'_, O>,
 ) -> Result<(), ArchiveFault>
     requires runs { archive.old.stopped ≡ false }
-    ensures tells { (c : Case) → slice_get (state_of archive.old).cases place ≡ Some c
-        → TellsReply (telling O.Output reply.old reply.new) (λ text. TellsImage D.Disk archive.old c text result archive.new) }
+    ensures states { (c : Case) → slice_get (state_of archive.old).cases place ≡ Some c
+        → PrintsReply (printing O.Output reply.old reply.new) (λ text. PrintsImage D.Disk archive.old c text result archive.new) }
     ensures runs { OnOk result (archive.new.stopped ≡ false) }
     ensures state { OnOk result (state_of archive.new ≡ state_of archive.old) }
     ensures quiet { OnlyReads D.Disk archive.old.disk archive.new.disk }
@@ -172,7 +172,7 @@ fn see_image<D: Disk, O: Output>(
         return Ok(());
     };
     let image = archive.image(seq)?;
-    tell_verdict(reply, seq, verdict_of(kind, &image));
+    print_verdict(reply, seq, verdict_of(kind, &image));
     Ok(())
 }
 
@@ -187,8 +187,8 @@ fn case_at<D: Disk>(archive: &Archive<D>, place: usize) -> Result<Option<(u32, K
     }
 }
 
-// Tells where the first faulty field is, if there is one.
-fn tell_damage<D: Disk, O: Output>(disk: &mut D, fault: OpenFault, output: &mut O)
+// Prints the place of the first bad field, if there is one.
+fn print_damage<D: Disk, O: Output>(disk: &mut D, fault: OpenFault, output: &mut O)
     ensures told { (text : List ℕ) × (sent : Result (Unit {0}) StreamFault) × IsDamageLine fault text × IsDelivered (O.taken output.old) (O.failures output.old) (O.taken output.new) (O.failures output.new) text sent }
     ensures quiet { OnlyReads D.Disk disk.old disk.new }
 {
@@ -200,11 +200,11 @@ fn tell_damage<D: Disk, O: Output>(disk: &mut D, fault: OpenFault, output: &mut 
     };
     let place = place_of(disk, shape, at);
     let mut reply = Reply::new(output);
-    tell_place(&mut reply, at / BLOCK, place);
+    print_place(&mut reply, at / BLOCK, place);
     let _ = reply.finish();
 }
 
-// What a byte of the journal, or of the superblock, is a part of.
+// The part of the archive that a byte of the journal, or of the superblock, belongs to.
 fn place_of<D: Disk>(disk: &mut D, shape: Shape, at: u64) -> Place
     ensures quiet { OnlyReads D.Disk disk.old disk.new }
 {

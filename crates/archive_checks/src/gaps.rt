@@ -1,4 +1,4 @@
-// Whether the half of a journal that is taken may be the wrong one: what the two halves say of one another.
+// Whether the half of a journal that is taken may be the wrong one: the two halves disagree.
 ghost use Rattle.std.specs.Prelude.{◌≡◌, IfOk, IsTrue, length};
 ghost use Rattle.case_journal.specs.Viewing.{OnlyReads};
 ghost use Rattle.disk_model.specs.Places.{part};
@@ -17,7 +17,7 @@ use std::alloc::Global;
 // The bytes of a half's header.
 const HEADER: u64 = 32;
 
-/// What the two halves of a journal say of one another, though no writing leaves them so.
+/// A disagreement between the two halves of a journal that no writing leaves.
 #[derive(Clone, Copy, Debug, PartialEq, Eq)]
 pub enum Gap {
     /// Both are open. This one has the lower generation, and that isn't the one before the other's.
@@ -26,7 +26,7 @@ pub enum Gap {
     Newer { half: Half, next: u64, taken: u64 },
 }
 
-// What the header of a half says.
+// The header of a half.
 #[derive(Clone, Copy)]
 struct HalfHead {
     gate: u8,
@@ -34,7 +34,7 @@ struct HalfHead {
     generation: u64,
 }
 
-// What a half says: of the generation, and of the next number if its gate isn't closed and its records can be read.
+// The content of a half: the generation, and the next number if its gate isn't closed and its records can be read.
 #[derive(Clone, Copy)]
 struct HalfSaid {
     is_open: bool,
@@ -42,8 +42,8 @@ struct HalfSaid {
     next: Option<u64>,
 }
 
-/// What tells of the archive on a disk that the half which is taken may be the wrong one, if anything does. Answers what its opening is
-/// refused by. The disk is only read.
+/// The disagreement in the archive on a disk that shows that the half which is taken may be the wrong one, if there is any. If the
+/// archive is refused, the opening's fault is returned. The disk is only read.
 pub fn find_gap<D: Disk>(alloc: Global, disk: &mut D) -> Result<Option<Gap>, OpenFault>
     ensures gap { IsTrue (D.is_honest disk.old) → (s : Standing) → Stands (D.seen disk.old) s → IfOk result (IsGapOf (D.seen disk.old) s) }
     ensures quiet { OnlyReads D.Disk disk.old disk.new }
@@ -55,7 +55,7 @@ pub fn find_gap<D: Disk>(alloc: Global, disk: &mut D) -> Result<Option<Gap>, Ope
     Ok(gap_between(a, b, journal.next_seq()))
 }
 
-// What two halves say of one another, where the taken one says this next number.
+// The disagreement of two halves, if the taken one says this next number.
 fn gap_between(a: HalfSaid, b: HalfSaid, taken: u64) -> Option<Gap>
     ensures { result ≡ gap_between a b taken }
 {
@@ -88,7 +88,7 @@ fn gap_between(a: HalfSaid, b: HalfSaid, taken: u64) -> Option<Gap>
     None
 }
 
-// Reads what a half says.
+// Reads the content of a half.
 fn read_half<D: Disk>(
     alloc: Global,
     disk: &mut D,
@@ -127,7 +127,7 @@ fn read_head<D: Disk>(disk: &mut D, shape: Shape, half: Half) -> Result<HalfHead
     })
 }
 
-// Reads the next number that the records of a half say, unless its gate is closed or a record is faulty.
+// Reads the next number that the records of a half say, unless its gate is closed or a record is bad.
 fn read_next<D: Disk>(
     alloc: Global,
     disk: &mut D,

@@ -1,4 +1,4 @@
-//! Whether an archive is sound, where it is damaged, and whether the other half of its journal may be the right one.
+//! Whether an archive is sound, the place of the damage, and whether the other half of its journal may be the right one.
 #![tactic(auto)]
 
 mod checking;
@@ -9,6 +9,6 @@ mod verdict;
 
 pub use checking::{CheckFault, check_archive};
 pub use gaps::{Gap, find_gap};
-pub use lines::{tell_facts, tell_gap};
+pub use lines::{print_facts, print_gap};
 pub use shapes::shape_on;
-pub use verdict::{Verdict, tell_gone, tell_verdict, verdict_of};
+pub use verdict::{Verdict, print_gone, print_verdict, verdict_of};

@@ -1,6 +1,6 @@
-// What `check` tells of an archive, line by line.
+// The lines that `check` prints about an archive.
 ghost use Rattle.std.specs.Prelude.{◌≡◌};
-ghost use Rattle.script_streams.specs.Replies.{TellsText, telling};
+ghost use Rattle.script_streams.specs.Replies.{PrintsText, printing};
 ghost use Rattle.archive_checks.specs.Texts.{facts_lines, half_name, gap_line, place_line, place_words};
 
 use crate::gaps::Gap;
@@ -8,11 +8,11 @@ use intake::Space;
 use journal_layout::Half;
 use script_streams::{Output, Reply};
 
-// What it may mean if no writing leaves the halves of a journal so.
+// A possible cause, if no writing leaves the halves of a journal so.
 const DOUBT: &[u8] =
     b": a header may be damaged, and the half that is not taken the right one: docs/OPERATIONS.md has a recipe for that, under 'The care of an archive'";
 
-/// Where the first faulty field of an archive is.
+/// The part of an archive that the first bad field belongs to.
 #[derive(Clone, Copy)]
 pub(crate) enum Place {
     Superblock,
@@ -22,75 +22,75 @@ pub(crate) enum Place {
     Record(Half, u64),
 }
 
-/// Tells the version of the layout, how many cases there are, and how many data blocks are free.
-pub fn tell_facts<O: Output>(reply: &mut Reply<'_, O>, version: u32, count: u64, space: Space)
-    ensures { TellsText (telling O.Output reply.old reply.new) (facts_lines version count space) }
+/// Prints the version of the layout, how many cases there are, and how many data blocks are free.
+pub fn print_facts<O: Output>(reply: &mut Reply<'_, O>, version: u32, count: u64, space: Space)
+    ensures { PrintsText (printing O.Output reply.old reply.new) (facts_lines version count space) }
 {
-    reply.tell(b"version ");
-    reply.tell_decimal(u128::from(version));
-    reply.tell(b"\n");
-    reply.tell(b"cases ");
-    reply.tell_decimal(u128::from(count));
-    reply.tell(b"\n");
-    reply.tell(b"free ");
-    reply.tell_decimal(u128::from(space.free));
-    reply.tell(b" of ");
-    reply.tell_decimal(u128::from(space.data_blocks));
-    reply.tell(b"\n");
+    reply.print(b"version ");
+    reply.print_decimal(u128::from(version));
+    reply.print(b"\n");
+    reply.print(b"cases ");
+    reply.print_decimal(u128::from(count));
+    reply.print(b"\n");
+    reply.print(b"free ");
+    reply.print_decimal(u128::from(space.free));
+    reply.print(b" of ");
+    reply.print_decimal(u128::from(space.data_blocks));
+    reply.print(b"\n");
 }
 
-/// Tells in words where a byte of the archive is.
-pub(crate) fn tell_place<O: Output>(reply: &mut Reply<'_, O>, block: u64, place: Place)
-    ensures { TellsText (telling O.Output reply.old reply.new) (place_line block place) }
+/// Prints in words where a byte of the archive is.
+pub(crate) fn print_place<O: Output>(reply: &mut Reply<'_, O>, block: u64, place: Place)
+    ensures { PrintsText (printing O.Output reply.old reply.new) (place_line block place) }
 {
-    reply.tell(b"damaged in block ");
-    reply.tell_decimal(u128::from(block));
-    tell_part(reply, place);
+    reply.print(b"damaged in block ");
+    reply.print_decimal(u128::from(block));
+    print_part(reply, place);
 }
 
-// Tells what a byte is a part of.
-fn tell_part<O: Output>(reply: &mut Reply<'_, O>, place: Place)
-    ensures { TellsText (telling O.Output reply.old reply.new) (place_words place) }
+// Prints the part that a byte belongs to.
+fn print_part<O: Output>(reply: &mut Reply<'_, O>, place: Place)
+    ensures { PrintsText (printing O.Output reply.old reply.new) (place_words place) }
 {
     match place {
-        Place::Superblock => reply.tell(b", the superblock\n"),
+        Place::Superblock => reply.print(b", the superblock\n"),
         Place::Header(half) => {
-            reply.tell(b", the header of half ");
-            reply.tell(half_word(half));
-            reply.tell(b" of the journal\n");
+            reply.print(b", the header of half ");
+            reply.print(half_word(half));
+            reply.print(b" of the journal\n");
         }
         Place::Record(half, number) => {
-            reply.tell(b", record ");
-            reply.tell_decimal(u128::from(number));
-            reply.tell(b" of half ");
-            reply.tell(half_word(half));
-            reply.tell(b" of the journal\n");
+            reply.print(b", record ");
+            reply.print_decimal(u128::from(number));
+            reply.print(b" of half ");
+            reply.print(half_word(half));
+            reply.print(b" of the journal\n");
         }
     }
 }
 
-/// Tells in words what the two halves of a journal say of one another. The line is not ended.
-pub fn tell_gap<O: Output>(reply: &mut Reply<'_, O>, gap: Gap)
-    ensures { TellsText (telling O.Output reply.old reply.new) (gap_line gap) }
+/// Prints in words the disagreement of the two halves of a journal. The line is not ended.
+pub fn print_gap<O: Output>(reply: &mut Reply<'_, O>, gap: Gap)
+    ensures { PrintsText (printing O.Output reply.old reply.new) (gap_line gap) }
 {
     match gap {
         Gap::Generation { half, is, wants } => {
-            reply.tell(b"the generation of half ");
-            reply.tell(half_word(half));
-            reply.tell(b" of the journal is ");
-            reply.tell_decimal(u128::from(is));
-            reply.tell(b", not ");
-            reply.tell_decimal(u128::from(wants));
-            reply.tell(DOUBT);
+            reply.print(b"the generation of half ");
+            reply.print(half_word(half));
+            reply.print(b" of the journal is ");
+            reply.print_decimal(u128::from(is));
+            reply.print(b", not ");
+            reply.print_decimal(u128::from(wants));
+            reply.print(DOUBT);
         }
         Gap::Newer { half, next, taken } => {
-            reply.tell(b"by half ");
-            reply.tell(half_word(half));
-            reply.tell(b" of the journal, which is not taken, the next case is ");
-            reply.tell_decimal(u128::from(next));
-            reply.tell(b", by the other ");
-            reply.tell_decimal(u128::from(taken));
-            reply.tell(DOUBT);
+            reply.print(b"by half ");
+            reply.print(half_word(half));
+            reply.print(b" of the journal, which is not taken, the next case is ");
+            reply.print_decimal(u128::from(next));
+            reply.print(b", by the other ");
+            reply.print_decimal(u128::from(taken));
+            reply.print(DOUBT);
         }
     }
 }

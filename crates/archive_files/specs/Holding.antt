@@ -1,4 +1,4 @@
--- What an output has taken that holds a reply.
+-- The bytes that an output which holds a reply has taken.
 use Rattle.std.specs.Prelude.{ℕ, List, Option}
 use Rattle.std.specs.Io.KnownBytes.{append_known}
 use Rattle.script_streams.specs.declared.streams.Output as output

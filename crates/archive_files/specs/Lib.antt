@@ -11,5 +11,5 @@ pub mod Making
 pub mod OverDisks
 pub mod Salvaging
 pub mod Taken
-pub mod Telling
+pub mod Printing
 pub mod Told

@@ -8,7 +8,7 @@ use Rattle.script_lines.specs.Said.{Said, silence, long_line, only_looks, said}
 use Rattle.script_streams.specs.Lines.{KeepsLine}
 use Rattle.script_streams.specs.Reading.{GivesLine}
 use Rattle.script_streams.specs.Replies.{no_reply}
-use Rattle.script_streams.specs.Telling.{IsDelivered}
+use Rattle.script_streams.specs.Printing.{IsDelivered}
 use Rattle.script_streams.specs.declared.reader.LineEnding.{LineEnding}
 use Rattle.script_streams.specs.declared.reader.ReadStop.{ReadStop}
 use Rattle.script_streams.specs.declared.reader.ReadStop.TheVariants.{ReadFailed, TooManyReads}
@@ -24,7 +24,7 @@ use Rattle.archive_files.specs.declared.look_session.LookLine.{LookLine}
 use Rattle.archive_files.specs.declared.look_session.LookLine.TheVariants as line
 use Rattle.archive_files.specs.declared.look_session.LookLines.{LookLines}
 use Rattle.archive_files.specs.Asking.{AsksLooked}
-use Rattle.archive_files.specs.Telling.{refusal_words}
+use Rattle.archive_files.specs.Printing.{refusal_words}
 
 -- The request of a line: a question only if it changes nothing. Any other line that has a reply is refused.
 abbrev pub IsTakenAs : Said → LookLine → Type 0

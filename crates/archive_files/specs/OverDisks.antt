@@ -107,8 +107,7 @@ sparing request = record request { policy = None; options = record request.optio
 abbrev pub is_too_long : ℕ → StoreRequest → Bool
 is_too_long size request = is_none request.options.cut && nat_lt request.limit size
 
--- The request where so many bytes come first, or none that can be read: no case goes before a stream that can't be read, or is over the
--- limit.
+-- The request if so many bytes come first, or if none can be read: no case goes before a stream that can't be read, or is over the limit.
 abbrev pub fitted_by : Option ℕ → StoreRequest → StoreRequest
 fitted_by None request = record request { policy = None }
 fitted_by (Some size) request = if is_too_long size request then record request { policy = None } else request

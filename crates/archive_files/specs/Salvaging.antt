@@ -7,7 +7,7 @@ use Rattle.disk_model.specs.declared.disk.Disk as disk
 use Rattle.salvage.specs.Copying.{CopiesAs, found_bytes}
 use Rattle.salvage.specs.Mending.{IsMend, IsSureMend, MendsArchive, restored}
 use Rattle.salvage.specs.Readings.{FindsCases, SeesCases, first_fault}
-use Rattle.salvage.specs.Told.{IsAll, TellsCases}
+use Rattle.salvage.specs.Told.{IsAll, PrintsCases}
 use Rattle.salvage.specs.declared.cases_found.Found.{Found}
 use Rattle.salvage.specs.declared.mending.Mended.{Mended}
 use Rattle.salvage.specs.declared.mending.ShapeWish.{ShapeWish}
@@ -31,7 +31,7 @@ SalvagesOnto g h s found wish onto r onto' =
 abbrev pub IsSalvagedBy : {S N : Type 0} → source.Ghosts S → disk.Ghosts N → S → Found → CopyWish → Type 0
 IsSalvagedBy {N = N} g h s found wish = (onto onto' : N) × SalvagesOnto g h s found wish onto (Ok tt) onto'
 
--- The new archive has the shape that was found, except where the request says otherwise, and is of version 1.
+-- The new archive has the shape that was found, except if the request says otherwise, and has version 1.
 abbrev pub wish_for : Found → ShapeWish → CopyWish
 wish_for f asked = record {
   shape = record {
@@ -78,15 +78,15 @@ IsEnd f false r = r ≡ Err (Faulted WriteFailed)
 IsEnd f true r = (IsAll f × (r ≡ Ok tt)) ⊎ ((IsAll f → ⊥) × (r ≡ Err Told))
 
 -- The cases that were found are reported.
-abbrev pub TellsFound : {O : Type 0} → output.Ghosts O → Found → O → O → Result (Unit {0}) Failure → Type 0
-TellsFound g f before after r =
-    (done : Bool) × TellsCases f (g.taken before) (g.taken after) (g.failures before) (g.failures after) done × IsEnd f done r
+abbrev pub PrintsFound : {O : Type 0} → output.Ghosts O → Found → O → O → Result (Unit {0}) Failure → Type 0
+PrintsFound g f before after r =
+    (done : Bool) × PrintsCases f (g.taken before) (g.taken after) (g.failures before) (g.failures after) done × IsEnd f done r
 
 -- The salvage is refused, or the cases of some source are reported.
-abbrev pub TellsSalvage : {O : Type 0} → output.Ghosts O → O → O → Result (Unit {0}) Failure → Type 0
-TellsSalvage g before after r = IsRefusedAside before after r ⊎ ((f : Found) × TellsFound g f before after r)
+abbrev pub PrintsSalvage : {O : Type 0} → output.Ghosts O → O → O → Result (Unit {0}) Failure → Type 0
+PrintsSalvage g before after r = IsRefusedAside before after r ⊎ ((f : Found) × PrintsFound g f before after r)
 
--- It is refused, or the cases of an archive are found and told.
+-- It is refused, or the cases of an archive are found and printed.
 abbrev pub Salvages : {S O : Type 0} → source.Ghosts S → output.Ghosts O → S → O → O → Result (Unit {0}) Failure → Type 0
 Salvages h g s before after r =
-    IsRefusedAside before after r ⊎ ((f : Found) × (IsTrue (h.is_honest s) → IsFoundIn (h.seen s) f) × TellsFound g f before after r)
+    IsRefusedAside before after r ⊎ ((f : Found) × (IsTrue (h.is_honest s) → IsFoundIn (h.seen s) f) × PrintsFound g f before after r)

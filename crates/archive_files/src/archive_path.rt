@@ -1,4 +1,4 @@
-/// The file of an archive, and whether to wait for it where another process has it.
+/// The file of an archive, and whether to wait for it if another process has it.
 #[derive(Clone, Copy)]
 pub struct ArchivePath<'a> {
     pub path: &'a str,

@@ -92,7 +92,7 @@ fn make_whole<'a, R: Files<File = File>, W: Onlooker>(
     clear(file).map_err(|fault| Refusal::File(FileWord::NewArchive, fault))?;
     let disk = make_file(alloc, file, length, wanted.is_sparse, onlooker)?;
     let (formatted, mut disk) = format_over(alloc, disk, wanted);
-    tell_trouble(&disk, onlooker);
+    print_trouble(&disk, onlooker);
     settle_made(file, &mut disk, formatted)?;
     // The lock of its file is kept until it has its name.
     let named = give_name(file);
@@ -219,7 +219,7 @@ fn write_zeros<W: Onlooker>(file: &File, length: u64, onlooker: &mut W) -> Resul
 }
 
 /// Reports to an onlooker the last call on the disk's file that failed, if one has.
-pub fn tell_trouble<W: Onlooker>(disk: &FileDisk, onlooker: &mut W) {
+pub fn print_trouble<W: Onlooker>(disk: &FileDisk, onlooker: &mut W) {
     if let Some(trouble) = disk.trouble() {
         onlooker.fail(trouble);
     }
@@ -250,12 +250,10 @@ fn disk_of<R: AllocGlobal + Files<File = File> + Clock, W: Onlooker>(
     }
 }
 
-// The disk of an archive in a file that is open for reading and writing, and that has its lock alone. It has the gates written again that
-// an
-// earlier process may have failed to write: reads don't show that. If the system reports a lost write, another program may have written any
-// byte, as one that restored the file: then the superblock and all of the journal are written again. All that is built on them is as
-// durable
-// as they are.
+// The disk of an archive in a file that is open for reading and writing, and that has its lock alone. It has
+// the gates written again that an earlier process may have failed to write: reads don't show that. If the
+// system reports a lost write, another program may have written any byte, as one that restored the file: then
+// the superblock and all of the journal are written again. All that is built on them is as durable as they are.
 pub(crate) fn disk_to_change(alloc: Global, file: OpenFile) -> Result<FileDisk, FileFault>
     requires alone { ⟦<OpenFile as HeldFile>⟧.facts file ≡ locked_if true Alone just_opened }
 {
@@ -377,7 +375,7 @@ fn await_lock<R: Clock, W: Onlooker>(
     file.lock(hold, true)
 }
 
-// Refuses a path that names neither a regular file nor a folder, which is refused once it is open.
+// Refuses a path that names neither a regular file nor a directory, which is refused once it is open.
 pub(crate) fn look_at_file<R: Files<File = File>>(rt: &R, path: &str) -> Result<(), FileFault> {
     let named = fs::metadata(rt, path)?;
     if named.is_file() || named.is_dir() {

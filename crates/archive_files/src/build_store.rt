@@ -9,7 +9,7 @@ ghost use Rattle.archive_files.specs.declared.build_store.BuildFault.{BuildFault
 ghost use Rattle.archive_files.specs.declared.failures.Refusal.TheVariants.{Build, OutOfMemory};
 
 use crate::archive_path::ArchivePath;
-use crate::archives::{Access, take_disk, tell_trouble};
+use crate::archives::{Access, print_trouble, take_disk};
 use crate::failures::{Failure, FileWord, Refusal};
 use crate::file_store::refuse_taken;
 use crate::storing::{StoreRequest, StoreWords};
@@ -44,7 +44,7 @@ pub enum BuildFault {
 /// A request to store a file under the name of its build.
 #[derive(Drop)]
 pub struct BuildRequest {
-    /// The build ID that it has to have, if one is stated.
+    /// The build ID that it must have, if one is stated.
     pub id: Option<ArrayVec<u8, 64>>,
     /// It is stored as a debug file, whatever it is.
     pub is_debug: bool,
@@ -186,7 +186,7 @@ pub fn refuse_file<R: AllocGlobal + Files<File = File> + Clock, W: Onlooker>(
     let taken = take_disk(rt, place, Access::Changing, onlooker);
     let (ended, disk) = refuse_taken(rt.alloc(), taken, limit, refusal);
     if let Some(disk) = &disk {
-        tell_trouble(disk, onlooker);
+        print_trouble(disk, onlooker);
     }
     (ended, disk)
 }

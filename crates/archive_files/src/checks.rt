@@ -1,14 +1,14 @@
 // Whether the archive in a file is sound.
 ghost use Rattle.std.specs.Prelude.{◌≡◌};
 ghost use Rattle.archive_files.specs.Checks.{ChecksHeld, ChecksLooked, ChecksTaken, check_told, hidden_line};
-ghost use Rattle.archive_files.specs.Telling.{IsToldAs};
+ghost use Rattle.archive_files.specs.Printing.{IsToldAs};
 ghost use Rattle.archive_files.specs.declared.failures.Failure.TheVariants.{Refused};
 ghost use Rattle.archive_files.specs.declared.failures.Refusal.TheVariants.{Open};
-ghost use Rattle.script_streams.specs.Replies.{TellsText, telling};
+ghost use Rattle.script_streams.specs.Replies.{PrintsText, printing};
 ghost use Rattle.shared_disk.specs.Looks.{shared_of};
 
 use crate::archive_path::ArchivePath;
-use crate::archives::{Access, take_disk, tell_trouble};
+use crate::archives::{Access, print_trouble, take_disk};
 use crate::failures::{Failure, FileWord, Refusal};
 use crate::held::Held;
 use crate::looking::{look_fault, take_look};
@@ -26,12 +26,10 @@ use std::rt::Files;
 use std::time::Clock;
 use unlocked_reading::{UnlockedCheckFault, check_unlocked};
 
-/// Prints the contents of the archive in a file and that it is sound, or where it is damaged. With `sees_images` each image is read too. It
-/// takes
-/// no lock: a case that is deleted meanwhile is reported as missing. Only an archive that can't be opened is looked at under its
-/// lock, which is shared with others that only look. An archive that opens, but with a damaged gate that may hide records, is not sound;
-/// the
-/// gates are looked at if nobody changes the archive.
+/// Prints the contents of the archive in a file and that it is sound, or the place of the damage. With `sees_images` each image is read
+/// too. It takes no lock: a case that is deleted meanwhile is reported as missing. Only if an archive can't be opened is it examined under
+/// its lock, which is shared with other readers. An archive that opens, but has a damaged gate that may hide records, is not sound; the
+/// gates are checked if nobody changes the archive.
 pub fn check<R: AllocGlobal + Files<File = File> + Clock, O: Output, W: Onlooker>(
     rt: &R,
     place: ArchivePath<'_>,
@@ -47,7 +45,7 @@ pub fn check<R: AllocGlobal + Files<File = File> + Clock, O: Output, W: Onlooker
     };
     if let (Ok(()), Some(fault)) = (&checked, fault_found(rt, place, onlooker)) {
         drop(reply);
-        return Err(tell_hidden(fault, output));
+        return Err(print_hidden(fault, output));
     }
     reply.finish()?;
     checked
@@ -77,7 +75,7 @@ fn check_looked<S: SharedDisk + Drop, O: Output>(
     }
 }
 
-// The same for an archive whose lock is shared. It says where the archive is damaged.
+// The same for an archive whose lock is shared. It reports the place of the damage.
 fn check_locked<R: AllocGlobal + Files<File = File> + Clock, O: Output, W: Onlooker>(
     rt: &R,
     place: ArchivePath<'_>,
@@ -91,7 +89,7 @@ fn check_locked<R: AllocGlobal + Files<File = File> + Clock, O: Output, W: Onloo
     let mut reply = Held::new(rt.alloc(), output);
     let (checked, disk) = check_taken(rt.alloc(), taken, sees_images, &mut reply);
     if let Some(disk) = &disk {
-        tell_trouble(disk, onlooker);
+        print_trouble(disk, onlooker);
     }
     match reply.finish() {
         Ok(()) => checked,
@@ -100,28 +98,28 @@ fn check_locked<R: AllocGlobal + Files<File = File> + Clock, O: Output, W: Onloo
 }
 
 // Prints the place of the gate that may hide records.
-fn tell_hidden<O: Output>(fault: OpenFault, output: &mut O) -> Failure
+fn print_hidden<O: Output>(fault: OpenFault, output: &mut O) -> Failure
     ensures failure { result ≡ Refused (Open fault) }
     ensures told { IsToldAs (O.taken output.old) (O.taken output.new) (O.failures output.old) (O.failures output.new) (hidden_line fault) }
 {
     let mut reply = Reply::new(output);
-    tell_gate(&mut reply, fault);
+    print_gate(&mut reply, fault);
     let _ = reply.finish();
     Failure::Refused(Refusal::Open(fault))
 }
 
-fn tell_gate<O: Output>(reply: &mut Reply<'_, O>, fault: OpenFault)
-    ensures { TellsText (telling O.Output reply.old reply.new) (hidden_line fault) }
+fn print_gate<O: Output>(reply: &mut Reply<'_, O>, fault: OpenFault)
+    ensures { PrintsText (printing O.Output reply.old reply.new) (hidden_line fault) }
 {
     if let OpenFault::Damaged { at, .. } = fault {
-        reply.tell(b"damaged in block ");
-        reply.tell_decimal(u128::from(at / BLOCK));
-        reply.tell(b": a gate that may hide the records after it\n");
+        reply.print(b"damaged in block ");
+        reply.print_decimal(u128::from(at / BLOCK));
+        reply.print(b": a gate that may hide the records after it\n");
     }
 }
 
-// Prints the contents of the archive on the disk that was taken and that it is sound, or where it is damaged, and hands the disk on; or
-// reports why no disk was taken.
+// Prints the contents of the archive on the disk that was taken and that it is sound, or the place of the damage, and passes the disk
+// on; or reports why no disk was taken.
 fn check_taken<D: Disk, O: Output>(
     alloc: Global,
     taken: Result<D, Refusal>,

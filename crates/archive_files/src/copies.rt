@@ -7,7 +7,7 @@ ghost use Rattle.whole_files.specs.Whole.{IsWritten, IsWhole};
 
 use crate::archive_path::ArchivePath;
 use crate::archives::{
-    Access, disk_to_change, make_file, name_refusal, settle_made, take_file, tell_trouble,
+    Access, disk_to_change, make_file, name_refusal, print_trouble, settle_made, take_file,
 };
 use crate::asking::unasked;
 use crate::copy_over::{copy_disk, larger_wish};
@@ -53,9 +53,9 @@ const OTHERS_RIGHTS: u32 = 0o077;
 // How often an archive is copied of which a case is gone before the copy is whole.
 const MOST_COPIES: u32 = 3;
 
-/// Copies the archive in a file into a new file, which has its name only once it is whole and durable: until then it is called
-/// NEW.part. It takes no lock, so others may change the archive meanwhile: the copy is the archive as it was at the beginning. If a case is
-/// gone by the end, the copy is made anew. The last time the archive's lock is shared with others that only look, so that no case goes.
+/// Copies the archive in a file into a new file, which has its name only once it is whole and durable: until then it is called NEW.part. It
+/// takes no lock, so others may change the archive meanwhile: the copy is the archive as it was at the start. If a case is gone by the end,
+/// the copy is made anew. The last attempt shares the archive's lock with other readers, so that no case goes.
 pub fn copy_archive_file<R: AllocGlobal + Files<File = File> + Clock, W: Onlooker>(
     rt: &R,
     place: ArchivePath<'_>,
@@ -114,11 +114,9 @@ fn copy_named<'a, R: Files<File = File>, S: SharedDisk + Drop, W: Onlooker>(
     }
 }
 
-/// Copies the archive in a file into a file in the same folder, which takes its place once it is whole and durable. The archive's lock is
-/// held
-/// alone meanwhile: whoever waits for it finds the new file. The new file has the owner of the old one, and the rights that this owner has.
-/// A link
-/// stays, and the file that it names is resized.
+/// Copies the archive in a file into a file in the same directory, which takes its place once it is whole and durable. The archive's lock
+/// is exclusive meanwhile: a process that waits for it finds the new file. The new file has the owner of the old one, and the rights that
+/// this owner has. A link stays, and the file that it names is resized.
 pub fn resize_archive_file<R: AllocGlobal + Files<File = File> + Clock, W: Onlooker>(
     rt: &R,
     place: ArchivePath<'_>,
@@ -163,7 +161,7 @@ fn copy_in_place<'a, R: Files<File = File>, W: Onlooker>(
     clear_part(file).map_err(refused)?;
     let from = disk_beside(alloc, old).map_err(refused)?;
     let (copied, from) = copy_part(alloc, from, file, wanted, onlooker);
-    tell_trouble(&from, onlooker);
+    print_trouble(&from, onlooker);
     // The locks of both files are kept until the new one has its name.
     let onto = copied?;
     let placed = take_place(file, old.file());
@@ -246,7 +244,7 @@ fn copy_into<'a, R: Files<File = File>, D: Disk, W: Onlooker>(
         Err(refusal) => return (Err(refusal), from),
     };
     let (copied, from, mut onto) = copy_counted(alloc, from, onto, wish, onlooker);
-    tell_trouble(&onto, onlooker);
+    print_trouble(&onto, onlooker);
     match settle_made(file, &mut onto, copied) {
         Ok(()) => (Ok(onto), from),
         Err(refusal) => (Err(refusal), from),

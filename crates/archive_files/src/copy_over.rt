@@ -1,4 +1,4 @@
-// What `copy` and `resize` do over disks.
+// `copy` and `resize` over disks.
 ghost use Rattle.std.specs.Prelude.{◌≡◌};
 ghost use Rattle.archive_files.specs.Copying.{CopiesDisk, copy_refusal, larger_wish};
 

@@ -1,9 +1,9 @@
 // Why the program ends with a status other than 0, and how it says so.
 ghost use Rattle.std.specs.Prelude.{◌≡◌, ◌≢◌, ◌≤◌, true};
 ghost use Rattle.image_replies.specs.Reasons.{elf_reason};
-ghost use Rattle.script_streams.specs.Replies.{TellsText, telling, no_reply};
-ghost use Rattle.script_streams.specs.Telling.{IsDelivered};
-ghost use Rattle.archive_files.specs.Telling.{IfFaulted, IfRefused, IsKeptAs, IsToldAs, build_words, fault_line, fault_words, file_words, is_aside, open_words, refusal_words, stall_words, stalled_line};
+ghost use Rattle.script_streams.specs.Replies.{PrintsText, printing, no_reply};
+ghost use Rattle.script_streams.specs.Printing.{IsDelivered};
+ghost use Rattle.archive_files.specs.Printing.{IfFaulted, IfRefused, IsKeptAs, IsToldAs, build_words, fault_line, fault_words, file_words, is_aside, open_words, refusal_words, stall_words, stalled_line};
 ghost use Rattle.archive_files.specs.declared.failures.Failure.TheVariants.{Faulted, Refused};
 ghost use Rattle.archive_files.specs.declared.failures.Refusal.{Refusal};
 ghost use Rattle.inspector_cli.specs.declared.session.SessionFault.{SessionFault};
@@ -21,7 +21,7 @@ use script_streams::{Output, Reply, StreamFault, write_whole};
 use std::alloc::{AllocError, Global};
 use std::io;
 
-/// Why the program did not do what its words ask for.
+/// Why the program did not carry out the command.
 #[derive(Drop)]
 pub enum Failure {
     /// It was refused.
@@ -53,12 +53,12 @@ pub enum FileWord {
     New,
     /// Whichever word names the file of a new archive.
     Made,
-    /// DIR, a folder that is made.
+    /// DIR, a directory that is made.
     Folder,
     /// The name that DIR has until it is whole.
     FolderPart,
-    /// The word that is shown so. Its file is there under its name, and whole, and what came after failed, with this number of the system's
-    /// error (errno(3)), if there is one.
+    /// The word that is shown for it. Its file is there under its name, and whole, and a later step failed, with this number of the
+    /// system's error (errno(3)), if there is one.
     Named(&'static str, Option<i32>),
 }
 
@@ -76,7 +76,7 @@ impl FileWord {
         }
     }
 
-    // Whether its file is to be made. Then it is the folder that is missing, if something is.
+    // Whether its file is to be made. Then the missing part, if there is one, is the directory.
     fn is_made(self) -> bool {
         !matches!(self, FileWord::Archive | FileWord::File)
     }
@@ -87,7 +87,7 @@ impl FileWord {
 pub enum Danger {
     /// Another file is under that name, or under that of its .part.
     Exchanged,
-    /// Others may write a folder on its path.
+    /// Others may write a directory on its path.
     SharedFolder,
     /// Its group or others have a right, or may have one by an access control list.
     Rights,
@@ -201,8 +201,8 @@ impl From<FormatFault> for Refusal {
     }
 }
 
-/// Says why the program failed, and answers its status, which is 1.
-pub fn tell_failure<O: Output, E: Output>(
+/// Prints why the program failed, and returns its status, which is 1.
+pub fn print_failure<O: Output, E: Output>(
     alloc: Global,
     failure: &Failure,
     output: &mut O,
@@ -217,47 +217,47 @@ pub fn tell_failure<O: Output, E: Output>(
 {
     match failure {
         Failure::Refused(refusal) => {
-            tell_in_words(alloc, *refusal, errors);
-            tell_refusal(*refusal, output)
+            print_in_words(alloc, *refusal, errors);
+            print_refusal(*refusal, output)
         }
         Failure::Aside(refusal) => {
-            tell_in_words(alloc, *refusal, errors);
-            tell_refusal(*refusal, errors)
+            print_in_words(alloc, *refusal, errors);
+            print_refusal(*refusal, errors)
         }
-        Failure::Faulted(fault) => tell_fault(*fault, errors),
+        Failure::Faulted(fault) => print_fault(*fault, errors),
         Failure::Unwritten(kind) => {
-            tell_unwritten(b"FILE", *kind, errors);
-            tell_fault(SessionFault::WriteFailed, errors)
+            print_unwritten(b"FILE", *kind, errors);
+            print_fault(SessionFault::WriteFailed, errors)
         }
         Failure::Told => 1,
-        Failure::Stalled(seconds) => tell_stalled(*seconds, errors),
+        Failure::Stalled(seconds) => print_stalled(*seconds, errors),
     }
 }
 
 // Reports to people that standard input gave nothing for so many seconds.
-fn tell_stalled<E: Output>(seconds: u64, errors: &mut E) -> u8
+fn print_stalled<E: Output>(seconds: u64, errors: &mut E) -> u8
     ensures status { result ≡ 1 }
     ensures told { IsToldAs (E.taken errors.old) (E.taken errors.new) (E.failures errors.old) (E.failures errors.new) (stalled_line seconds) }
 {
     let mut reply = Reply::new(errors);
-    reply.tell(b"corekeep: ");
-    tell_stall(&mut reply, seconds);
-    reply.tell(b"\n");
+    reply.print(b"corekeep: ");
+    print_stall(&mut reply, seconds);
+    reply.print(b"\n");
     let _ = reply.finish();
     1
 }
 
 /// The message that standard input gave nothing for so many seconds.
-pub fn tell_stall<O: Output>(reply: &mut Reply<'_, O>, seconds: u64)
-    ensures { TellsText (telling O.Output reply.old reply.new) (stall_words seconds) }
+pub fn print_stall<O: Output>(reply: &mut Reply<'_, O>, seconds: u64)
+    ensures { PrintsText (printing O.Output reply.old reply.new) (stall_words seconds) }
 {
-    reply.tell(b"standard input gave nothing for ");
-    reply.tell_decimal(u128::from(seconds));
-    reply.tell(b" seconds");
+    reply.print(b"standard input gave nothing for ");
+    reply.print_decimal(u128::from(seconds));
+    reply.print(b" seconds");
 }
 
-/// The message for people why this file could not be written, if the file system has no room for it; there is none for other reasons.
-pub fn tell_unwritten<E: Output>(file: &[u8], kind: io::ErrorKind, errors: &mut E) {
+/// The message for people why this file could not be written, if the file system has no room for it; nothing for other reasons.
+pub fn print_unwritten<E: Output>(file: &[u8], kind: io::ErrorKind, errors: &mut E) {
     let why: &[u8] = match kind {
         io::ErrorKind::StorageFull => b"the file system is full",
         io::ErrorKind::QuotaExceeded => b"the quota is used up",
@@ -265,16 +265,16 @@ pub fn tell_unwritten<E: Output>(file: &[u8], kind: io::ErrorKind, errors: &mut 
         _ => return,
     };
     let mut reply = Reply::new(errors);
-    reply.tell(b"corekeep: ");
-    reply.tell(file);
-    reply.tell(b": ");
-    reply.tell(why);
-    reply.tell(b"\n");
+    reply.print(b"corekeep: ");
+    reply.print(file);
+    reply.print(b": ");
+    reply.print(why);
+    reply.print(b"\n");
     let _ = reply.finish();
 }
 
 // The message for people that explains a reason for scripts.
-fn tell_in_words<E: Output>(alloc: Global, refusal: Refusal, errors: &mut E) {
+fn print_in_words<E: Output>(alloc: Global, refusal: Refusal, errors: &mut E) {
     let text = match refusal {
         Refusal::File(word, fault) => file_text(alloc, word, fault),
         Refusal::Unsafe(word, danger) => danger_text(alloc, word, danger),
@@ -321,7 +321,7 @@ fn named_text(alloc: Global, name: &str, number: Option<i32>) -> Result<String, 
     )
 }
 
-// Why it isn't safe to put a file under the name that a word says, and what to do.
+// Why it isn't safe to put a file under the name that a word gives, and a way out.
 fn danger_text(alloc: Global, word: FileWord, danger: Danger) -> Result<String, AllocError> {
     let name = word.shown();
     match danger {
@@ -338,7 +338,7 @@ fn danger_text(alloc: Global, word: FileWord, danger: Danger) -> Result<String, 
 }
 
 // Prints the refusal.
-fn tell_refusal<O: Output>(refusal: Refusal, output: &mut O) -> u8
+fn print_refusal<O: Output>(refusal: Refusal, output: &mut O) -> u8
     ensures status { result ≡ 1 }
     ensures told { IsToldAs (O.taken output.old) (O.taken output.new) (O.failures output.old) (O.failures output.new) (no_reply (refusal_words refusal)) }
 {
@@ -351,9 +351,9 @@ pub(crate) fn write_refusal<O: Output>(refusal: Refusal, output: &mut O) -> Resu
     ensures { IsDelivered (O.taken output.old) (O.failures output.old) (O.taken output.new) (O.failures output.new) (no_reply (refusal_words refusal)) result }
 {
     let mut reply = Reply::new(output);
-    reply.tell(b"no ");
-    tell_reason(&mut reply, refusal);
-    reply.tell(b"\n");
+    reply.print(b"no ");
+    print_reason(&mut reply, refusal);
+    reply.print(b"\n");
     reply.finish()
 }
 
@@ -363,54 +363,54 @@ pub fn reason_of(alloc: Global, refusal: Refusal) -> Collected
 {
     let mut words = Collected::new(alloc);
     let mut reply = Reply::new(&mut words);
-    tell_reason(&mut reply, refusal);
+    print_reason(&mut reply, refusal);
     let _ = reply.finish();
     words
 }
 
 // Prints the reason of a refusal.
-fn tell_reason<O: Output>(reply: &mut Reply<'_, O>, refusal: Refusal)
-    ensures { TellsText (telling O.Output reply.old reply.new) (refusal_words refusal) }
+fn print_reason<O: Output>(reply: &mut Reply<'_, O>, refusal: Refusal)
+    ensures { PrintsText (printing O.Output reply.old reply.new) (refusal_words refusal) }
 {
     match refusal {
-        Refusal::BadLine | Refusal::NoLine(_) => reply.tell(b"BadLine"),
-        Refusal::Pipe => reply.tell(b"Pipe"),
-        Refusal::TemplateTooLong => reply.tell(b"TemplateTooLong"),
-        Refusal::BadShape => reply.tell(b"BadShape"),
-        Refusal::File(_, fault) => reply.tell(file_reason(fault)),
-        Refusal::Unsafe(_, _) => reply.tell(b"File"),
-        Refusal::Output => reply.tell(b"File"),
-        Refusal::LineTooLong => reply.tell(b"LineTooLong"),
-        Refusal::NotUtf8(_) => reply.tell(b"NotUtf8"),
-        Refusal::OutOfMemory => reply.tell(b"OutOfMemory"),
-        Refusal::Disk => reply.tell(b"Disk"),
-        Refusal::Open(fault) => tell_open_fault(reply, fault),
-        Refusal::Call(fault) => reply.tell(reason(fault)),
-        Refusal::Build(fault) => tell_build_fault(reply, fault),
+        Refusal::BadLine | Refusal::NoLine(_) => reply.print(b"BadLine"),
+        Refusal::Pipe => reply.print(b"Pipe"),
+        Refusal::TemplateTooLong => reply.print(b"TemplateTooLong"),
+        Refusal::BadShape => reply.print(b"BadShape"),
+        Refusal::File(_, fault) => reply.print(file_reason(fault)),
+        Refusal::Unsafe(_, _) => reply.print(b"File"),
+        Refusal::Output => reply.print(b"File"),
+        Refusal::LineTooLong => reply.print(b"LineTooLong"),
+        Refusal::NotUtf8(_) => reply.print(b"NotUtf8"),
+        Refusal::OutOfMemory => reply.print(b"OutOfMemory"),
+        Refusal::Disk => reply.print(b"Disk"),
+        Refusal::Open(fault) => print_open_fault(reply, fault),
+        Refusal::Call(fault) => reply.print(reason(fault)),
+        Refusal::Build(fault) => print_build_fault(reply, fault),
     }
 }
 
 // Prints why a file can't be stored under the name of its build.
-fn tell_build_fault<O: Output>(reply: &mut Reply<'_, O>, fault: BuildFault)
-    ensures { TellsText (telling O.Output reply.old reply.new) (build_words fault) }
+fn print_build_fault<O: Output>(reply: &mut Reply<'_, O>, fault: BuildFault)
+    ensures { PrintsText (printing O.Output reply.old reply.new) (build_words fault) }
 {
     match fault {
-        BuildFault::Short => reply.tell(b"Short"),
-        BuildFault::TooLong => reply.tell(b"TooLong"),
-        BuildFault::Headers(fault) => tell_header_fault(reply, fault),
-        BuildFault::NoBuildId => reply.tell(b"NoBuildId"),
-        BuildFault::OtherBuild => reply.tell(b"OtherBuild"),
+        BuildFault::Short => reply.print(b"Short"),
+        BuildFault::TooLong => reply.print(b"TooLong"),
+        BuildFault::Headers(fault) => print_header_fault(reply, fault),
+        BuildFault::NoBuildId => reply.print(b"NoBuildId"),
+        BuildFault::OtherBuild => reply.print(b"OtherBuild"),
     }
 }
 
 // Prints which field of the headers has the fault.
-fn tell_header_fault<O: Output>(reply: &mut Reply<'_, O>, fault: ElfFault)
-    ensures { TellsText (telling O.Output reply.old reply.new) (elf_reason fault) }
+fn print_header_fault<O: Output>(reply: &mut Reply<'_, O>, fault: ElfFault)
+    ensures { PrintsText (printing O.Output reply.old reply.new) (elf_reason fault) }
 {
-    reply.tell(fault.field.name().as_bytes());
+    reply.print(fault.field.name().as_bytes());
     if fault.field.has_index() {
-        reply.tell(b" ");
-        reply.tell_decimal(u128::from(fault.index));
+        reply.print(b" ");
+        reply.print_decimal(u128::from(fault.index));
     }
 }
 
@@ -427,35 +427,35 @@ fn file_reason(fault: FileFault) -> &'static [u8]
 }
 
 // Prints why an archive could not be opened.
-fn tell_open_fault<O: Output>(reply: &mut Reply<'_, O>, fault: OpenFault)
-    ensures { TellsText (telling O.Output reply.old reply.new) (open_words fault) }
+fn print_open_fault<O: Output>(reply: &mut Reply<'_, O>, fault: OpenFault)
+    ensures { PrintsText (printing O.Output reply.old reply.new) (open_words fault) }
 {
     match fault {
-        OpenFault::Disk => reply.tell(b"Disk"),
-        OpenFault::NotAnArchive => reply.tell(b"NotAnArchive"),
-        OpenFault::OutOfMemory => reply.tell(b"OutOfMemory"),
+        OpenFault::Disk => reply.print(b"Disk"),
+        OpenFault::NotAnArchive => reply.print(b"NotAnArchive"),
+        OpenFault::OutOfMemory => reply.print(b"OutOfMemory"),
         OpenFault::UnknownVersion(version) => {
-            reply.tell(b"UnknownVersion ");
-            reply.tell_decimal(u128::from(version));
+            reply.print(b"UnknownVersion ");
+            reply.print_decimal(u128::from(version));
         }
         OpenFault::Damaged { at, field } => {
-            reply.tell(b"Damaged ");
-            reply.tell_decimal(u128::from(at));
-            reply.tell(b" ");
-            reply.tell(field.name().as_bytes());
+            reply.print(b"Damaged ");
+            reply.print_decimal(u128::from(at));
+            reply.print(b" ");
+            reply.print(field.name().as_bytes());
         }
     }
 }
 
 // Prints why a session ended before its script.
-fn tell_fault<E: Output>(fault: SessionFault, errors: &mut E) -> u8
+fn print_fault<E: Output>(fault: SessionFault, errors: &mut E) -> u8
     ensures status { result ≡ 1 }
     ensures told { IsToldAs (E.taken errors.old) (E.taken errors.new) (E.failures errors.old) (E.failures errors.new) (fault_line fault) }
 {
     let mut reply = Reply::new(errors);
-    reply.tell(b"fault ");
-    reply.tell(fault_name(fault));
-    reply.tell(b"\n");
+    reply.print(b"fault ");
+    reply.print(fault_name(fault));
+    reply.print(b"\n");
     let _ = reply.finish();
     1
 }

@@ -3,7 +3,7 @@ ghost use Rattle.std.specs.Prelude.{◌≡◌};
 ghost use Rattle.archive_files.specs.Taken.{OnlyReadsTaken, RefusesTaken, StoresTaken, refused_after};
 
 use crate::archive_path::ArchivePath;
-use crate::archives::{Access, take_disk, tell_trouble};
+use crate::archives::{Access, print_trouble, take_disk};
 use crate::failures::{Failure, FileWord, Refusal};
 use crate::over_disk::look_over;
 use crate::storing::{StoreRequest, store_from};
@@ -78,7 +78,7 @@ fn store_counted<I: Read, O: Output, W: Onlooker>(
     let (ended, disk) = store_taken(alloc, taken, request, &mut counted, output);
     onlooker.end();
     if let Some(disk) = &disk {
-        tell_trouble(disk, onlooker);
+        print_trouble(disk, onlooker);
     }
     (ended, disk)
 }

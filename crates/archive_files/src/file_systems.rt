@@ -1,5 +1,5 @@
 // The kind of the file system that an archive lies on, if it is one to be known of.
-ghost use Rattle.script_streams.specs.Replies.{TellsText, telling};
+ghost use Rattle.script_streams.specs.Replies.{PrintsText, printing};
 ghost use Rattle.archive_files.specs.FileSystems.{kind_words};
 
 use crate::collected::Collected;
@@ -26,7 +26,7 @@ pub fn note_file_system<R: AllocGlobal + Files<File = File>>(
         return;
     };
     let mut reply = Reply::new(note);
-    tell_kind(&mut reply, kind);
+    print_kind(&mut reply, kind);
     let _ = reply.finish();
 }
 
@@ -43,12 +43,12 @@ fn kind_under<'a, R: AllocGlobal + Files<File = File>>(
 }
 
 // Prints a kind of file system, and its limits, if it has any.
-fn tell_kind<O: Output>(reply: &mut Reply<'_, O>, kind: &[u8])
-    ensures { TellsText (telling O.Output reply.old reply.new) (kind_words kind.now) }
+fn print_kind<O: Output>(reply: &mut Reply<'_, O>, kind: &[u8])
+    ensures { PrintsText (printing O.Output reply.old reply.new) (kind_words kind.now) }
 {
     if let Some(concern) = concern_of(kind) {
-        reply.tell_text(kind);
-        reply.tell(b": ");
-        reply.tell(concern.words());
+        reply.print_text(kind);
+        reply.print(b": ");
+        reply.print(concern.words());
     }
 }

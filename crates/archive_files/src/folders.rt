@@ -11,10 +11,10 @@ use whole_files::folder_of;
 // The bits of a mode by which the group and others may write.
 const OTHERS_WRITE: u32 = 0o022;
 
-// The bit of a folder in which only a file's owner, and the folder's, take a name away.
+// The bit of a directory in which only a file's owner, and the directory's, take a name away.
 const STICKY: u32 = 0o1000;
 
-/// The first folder that others may write, from this one upwards. Its path has to go through no link.
+/// The first directory that others may write, from this one upwards. Its path must go through no link.
 pub fn shared_among<'a, R: Files<File = File>>(rt: &R, folder: Path<'a>) -> Option<Path<'a>> {
     let own = own_user(rt);
     for place in folder.ancestors() {
@@ -33,8 +33,8 @@ fn own_user<R: Files<File = File>>(rt: &R) -> Option<u32> {
     }
 }
 
-// Whether others may write a folder: its owner may, and neither is that root nor who runs the program; or its group or others may, and it
-// is not sticky. What can't be looked at is taken for shared.
+// Whether others may write a directory: its owner may, and is neither root nor the user who runs the program; or its group or others may,
+// and it is not sticky. A directory that can't be examined counts as shared.
 fn is_shared<R: Files<File = File>>(rt: &R, folder: Path<'_>, own: Option<u32>) -> bool {
     let Ok(about) = fs::symlink_metadata(rt, folder) else {
         return true;
@@ -44,7 +44,7 @@ fn is_shared<R: Files<File = File>>(rt: &R, folder: Path<'_>, own: Option<u32>) 
     !is_owned || is_open
 }
 
-/// A folder that others may write, on the path of a file or of the target of a link there, if there is one.
+/// A directory that others may write, on the path of a file or of the target of a link there, if there is one.
 pub fn shared_folder<R: AllocGlobal + Files<File = File>>(rt: &R, path: &str) -> Option<String> {
     if let Ok(folder) = fs::canonicalize(rt, folder_of(path)) {
         if let Some(shared) = shared_among(rt, folder.as_path()) {
@@ -56,13 +56,13 @@ pub fn shared_folder<R: AllocGlobal + Files<File = File>>(rt: &R, path: &str) ->
     String::from_str(rt.alloc(), shared.as_str()).ok()
 }
 
-/// Notes a folder that others may write, on the path of a file.
+/// Notes a directory that others may write, on the path of a file.
 pub fn note_shared<R: AllocGlobal + Files<File = File>>(rt: &R, path: &str, note: &mut Collected) {
     let Some(folder) = shared_folder(rt, path) else {
         return;
     };
     let mut reply = Reply::new(note);
-    reply.tell_text(folder.as_bytes());
-    reply.tell(b": others may write it, and could put another file in the place of this one");
+    reply.print_text(folder.as_bytes());
+    reply.print(b": others may write it, and could put another file in the place of this one");
     let _ = reply.finish();
 }

@@ -3,7 +3,7 @@ use crate::archive_path::ArchivePath;
 use crate::archives::{Access, take_disk};
 use crate::collected::Collected;
 use crate::failures::Refusal;
-use archive_checks::{find_gap, tell_gap};
+use archive_checks::{find_gap, print_gap};
 use diagnostics::Nobody;
 use disk_model::FileFault;
 use script_streams::{Output, Reply};
@@ -28,15 +28,15 @@ pub fn note_gap<R: AllocGlobal + Files<File = File> + Clock>(
             let mut disk = disk;
             if let Ok(Some(gap)) = find_gap(rt.alloc(), &mut disk) {
                 let mut reply = Reply::new(note);
-                tell_subject(&mut reply, place.path);
-                tell_gap(&mut reply, gap);
+                print_subject(&mut reply, place.path);
+                print_gap(&mut reply, gap);
                 let _ = reply.finish();
             }
         }
         Err(Refusal::File(_, FileFault::Busy)) => {
             let mut reply = Reply::new(note);
-            tell_subject(&mut reply, place.path);
-            reply.tell(UNSEEN);
+            print_subject(&mut reply, place.path);
+            reply.print(UNSEEN);
             let _ = reply.finish();
         }
         Err(_) => {}
@@ -44,7 +44,7 @@ pub fn note_gap<R: AllocGlobal + Files<File = File> + Clock>(
 }
 
 // Prints which archive a note is about.
-fn tell_subject<O: Output>(reply: &mut Reply<'_, O>, path: &str) {
-    reply.tell_text(path.as_bytes());
-    reply.tell(b": ");
+fn print_subject<O: Output>(reply: &mut Reply<'_, O>, path: &str) {
+    reply.print_text(path.as_bytes());
+    reply.print(b": ");
 }

@@ -9,8 +9,8 @@ use diagnostics::after_failure;
 use script_streams::{Output, StreamFault};
 use std::alloc::Global;
 
-/// An output that takes a reply and holds it. So whoever reads the reply slowly keeps nobody from the archive. If there is
-/// no memory to hold it, it is passed to the output below this one, byte for byte, and so is the rest.
+/// An output that takes a reply and holds it. So a slow reader of the reply keeps nobody from the archive. If there is no
+/// memory to hold it, it is passed to the output below this one, byte for byte, and the rest is passed on too.
 #[derive(Drop)]
 pub struct Held<'a, O: Output> {
     output: &'a mut O,
@@ -20,7 +20,7 @@ pub struct Held<'a, O: Output> {
     failures: u64,
 }
 
-// Writes a text, in as many writes as it takes. Says how many bytes of it were taken.
+// Writes a text, in as many writes as it takes. Returns how many bytes of it were taken.
 fn send<O: Output>(output: &mut O, text: &[u8]) -> (usize, Result<(), StreamFault>)
     ensures count { result.0 ≤ length text.now }
     ensures taken { Appends (O.taken output.old) (O.taken output.new) (take result.0 text.now) }
@@ -82,7 +82,7 @@ impl<'a, O: Output> Held<'a, O> {
         sent
     }
 
-    // Holds these bytes, if there is memory. Says whether they are held.
+    // Holds these bytes, if there is memory. Returns whether they are held.
     fn hold(&mut self, from: &[u8]) -> bool
         ensures held { result ≡ true → Appends (taken_by O.Output self.old) (taken_by O.Output self.new) from.now }
         ensures not { result ≡ false → taken_by O.Output self.new ≡ taken_by O.Output self.old }
@@ -111,7 +111,7 @@ impl<'a, O: Output> Held<'a, O> {
         self.output.write(from)
     }
 
-    // Holds these bytes, or passes on some of them. Says how many were taken.
+    // Holds these bytes, or passes on some of them. Returns how many were taken.
     fn take(&mut self, from: &[u8]) -> Result<usize, StreamFault>
         requires some { 0 < length from.now }
         ensures count { IfOk result (λ n. (0 < n) × (n ≤ length from.now)) }

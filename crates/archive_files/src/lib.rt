@@ -28,7 +28,7 @@ mod unsent;
 pub use archive_checks::shape_on;
 pub use archive_path::ArchivePath;
 pub use archives::{
-    Access, NewArchive, WAITING, make_archive, names_output, take_disk, tell_trouble,
+    Access, NewArchive, WAITING, make_archive, names_output, print_trouble, take_disk,
 };
 pub use asking::{ask_looked, unasked};
 pub use build_store::{BuildFault, BuildRequest, read_whole, refuse_file};
@@ -37,8 +37,8 @@ pub use collected::Collected;
 pub use copies::{CopyWords, copy_archive_file, resize_archive_file};
 pub use copy_over::copy_disk;
 pub use failures::{
-    Danger, Failure, FileWord, Refusal, WordPart, reason_of, tell_failure, tell_stall,
-    tell_unwritten,
+    Danger, Failure, FileWord, Refusal, WordPart, print_failure, print_stall, print_unwritten,
+    reason_of,
 };
 pub use file_store::{refuse_taken, store_file, store_taken};
 pub use file_systems::note_file_system;

@@ -19,10 +19,9 @@ use std::alloc::Global;
 use std::fs::File;
 use std::rt::Files;
 
-/// Answers each line of a script that only looks as `ask` does, from a look of its own on, with executables chosen by build or by path. Any
-/// other line is refused as `BadLine`, and no bytes follow a line. A refusal is the line's reply, and the session goes on. Each reply is
-/// written
-/// before the next line is read. A fault of the archive at the start is reported instead of any reply.
+/// Answers each line of a script that only looks as `ask` does, from a look of its own on, with executables chosen by build or by
+/// path. Any other line is refused as `BadLine`, and no bytes follow a line. A refusal is the line's reply, and the session goes
+/// on. Each reply is written before the next line is read. A fault of the archive at the start is reported instead of any reply.
 pub fn look<R: AllocGlobal + Files<File = File>, I: Input, O: Output>(
     rt: &R,
     place: ArchivePath<'_>,

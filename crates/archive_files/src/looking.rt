@@ -81,9 +81,8 @@ fn copy_told(fault: CopyFault) -> Failure
     }
 }
 
-/// Whether a case is known to have been there all the time that it was read, by how its copy ended. If not, the bytes that were written may
-/// be
-/// no front of its image.
+/// Whether a case is known to have been there all the time that it was read, by how
+/// its copy ended. If not, the bytes that were written may be no front of its image.
 pub(crate) fn was_there(fault: &UnlockedFault) -> bool
     ensures { result ≡ was_there fault.now }
 {

@@ -1,4 +1,4 @@
-// What `format` does on a disk.
+// `format` on a disk.
 ghost use Rattle.std.specs.Prelude.{true};
 ghost use Rattle.journal_layout.specs.Standing.{fresh};
 ghost use Rattle.journal_layout.specs.Stands.{Stands};

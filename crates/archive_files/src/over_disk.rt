@@ -1,4 +1,4 @@
-// What `run`, `ask` and `extract` do over the archive on a disk.
+// `run`, `ask` and `extract` over the archive on a disk.
 ghost use Rattle.std.specs.Prelude.{◌≡◌, ◌^◌, ◌-◌, option_map, Err};
 ghost use Rattle.script_lines.specs.Commands.{question_said};
 ghost use Rattle.inspector_cli.specs.Session.{streams_of};

@@ -3,11 +3,11 @@ ghost use Rattle.std.specs.Prelude.{◌≡◌, ◌⊎◌, ◌^◌, ◌<◌, [], 
 ghost use Rattle.disk_model.specs.Calls.{read};
 ghost use Rattle.std.proofs.lemmas.Bool.{false≢true};
 ghost use Rattle.salvage.specs.Readings.{FoundWithin};
-ghost use Rattle.archive_files.specs.Salvaging.{IsFaultIn, IsRefusedAside, IsSalvaged, IsSalvagedBy, Salvages, SalvagesOnto, TellsFound, TellsSalvage};
+ghost use Rattle.archive_files.specs.Salvaging.{IsFaultIn, IsRefusedAside, IsSalvaged, IsSalvagedBy, Salvages, SalvagesOnto, PrintsFound, PrintsSalvage};
 ghost use Rattle.whole_files.specs.Whole.{IsWhole};
 
 use crate::archive_path::ArchivePath;
-use crate::archives::{Access, make_file, name_refusal, settle_made, take_file, tell_trouble};
+use crate::archives::{Access, make_file, name_refusal, print_trouble, settle_made, take_file};
 use crate::copy_over::{copy_refusal, larger_wish};
 use crate::failures::{Failure, FileWord, Refusal};
 use archive_care::CopyWish;
@@ -16,7 +16,8 @@ use disk_model::{Disk, DiskFault, FileDisk, FileFault, HeldFile, OpenFile};
 use inspector_cli::SessionFault;
 use journal_layout::{OpenFault, Shape};
 use salvage::{
-    Found, Restored, ShapeWish, Source, copy_cases, find_cases, find_mended, find_shape, tell_cases,
+    Found, Restored, ShapeWish, Source, copy_cases, find_cases, find_mended, find_shape,
+    print_cases,
 };
 use script_streams::Output;
 use std::alloc::Global;
@@ -77,12 +78,11 @@ pub struct Salvaged<'a> {
     pub wish: ShapeWish,
 }
 
-/// Copies the cases of the archive in a file into a new file, as far as its records can be read, and reports the first fault and for each
-/// case whether it is whole. The archive's file is opened for reading, and its lock is shared meanwhile with others that only look. The
-/// new file has its name only once it is whole and durable: until then it is called NEW.part. If the superblock is damaged, the header of
-/// a half or the length of the file, a shape is found for it (see `find_shape`). Returns `Told` if all that is done and a case is lost, or
-/// the
-/// version of a half is unknown.
+/// Copies the cases of the archive in a file into a new file, as far as its records can be read, and reports the first
+/// fault and for each case whether it is whole. The archive's file is opened for reading, and its lock is shared
+/// meanwhile with others that only look. The new file has its name only once it is whole and durable: until then it is
+/// called NEW.part. If the superblock is damaged, the header of a half or the length of the file, a shape is found for
+/// it (see `find_shape`). Returns `Told` if all that is done and a case is lost, or the version of a half is unknown.
 pub fn salvage<R: AllocGlobal + Files<File = File> + Clock, O: Output, W: Onlooker>(
     rt: &R,
     place: ArchivePath<'_>,
@@ -90,7 +90,7 @@ pub fn salvage<R: AllocGlobal + Files<File = File> + Clock, O: Output, W: Onlook
     output: &mut O,
     onlooker: &mut W,
 ) -> Result<(), Failure>
-    ensures told { TellsSalvage O.Output output.old output.new result }
+    ensures told { PrintsSalvage O.Output output.old output.new result }
 {
     match open_source(rt, place, onlooker) {
         Ok(source) => salvage_source(rt, &source, new, output, onlooker),
@@ -147,27 +147,27 @@ fn salvage_found<R: AllocGlobal + Files<File = File>, S: Source, O: Output, W: O
     onlooker: &mut W,
 ) -> Result<(), Failure>
     requires { FoundWithin (S.size source.now) found.now }
-    ensures told { IsRefusedAside output.old output.new result ⊎ TellsFound O.Output found.now output.old output.new result }
+    ensures told { IsRefusedAside output.old output.new result ⊎ PrintsFound O.Output found.now output.old output.new result }
 {
     let Ok(mut file) = PartFile::new(rt.alloc(), rt, new.path) else {
         return Err(Failure::Refused(Refusal::OutOfMemory));
     };
     match put_cases(rt.alloc(), source, found, &mut file, new.wish, onlooker) {
-        Ok(()) => tell_found(&file, found, output),
+        Ok(()) => print_found(&file, found, output),
         Err(refusal) => Err(Failure::Refused(refusal)),
     }
 }
 
 // Reports the copied cases, once the new file is whole.
-fn tell_found<'a, R: Files<File = File>, O: Output>(
+fn print_found<'a, R: Files<File = File>, O: Output>(
     file: &PartFile<'a, R>,
     found: &Found,
     output: &mut O,
 ) -> Result<(), Failure>
     requires whole { IsWhole false (⟦<PartFile<'a, R> as NewFile>⟧.facts file.now) }
-    ensures told { TellsFound O.Output found.now output.old output.new result }
+    ensures told { PrintsFound O.Output found.now output.old output.new result }
 {
-    if !tell_cases(found, output) {
+    if !print_cases(found, output) {
         return Err(Failure::Faulted(SessionFault::WriteFailed));
     }
     if found.is_all() {
@@ -252,7 +252,7 @@ fn put_wished<'a, R: Files<File = File>, S: Source, W: Onlooker>(
     clear(file).map_err(|fault| Refusal::File(FileWord::New, fault))?;
     let onto = make_file(alloc, file, wish.shape.length()?, false, onlooker)?;
     let (copied, mut onto) = salvage_onto(alloc, source, found, wish, onto);
-    tell_trouble(&onto, onlooker);
+    print_trouble(&onto, onlooker);
     settle_made(file, &mut onto, copied)?;
     // The lock of its file is kept until it has its name.
     let named = give_name(file);

@@ -1,4 +1,4 @@
-// What needs no script: an image out of its archive, and one line with its reply.
+// Commands that need no script: an image out of its archive, and one line with its reply.
 ghost use Rattle.std.specs.Prelude.{◌≡◌, false, OnOk};
 ghost use Rattle.script_lines.specs.Commands.{question_said};
 ghost use Rattle.script_lines.specs.Said.{only_looks};
@@ -8,7 +8,7 @@ ghost use Rattle.archive_files.specs.Told.{access_by};
 ghost use Rattle.whole_files.specs.Whole.{IsWhole};
 
 use crate::archive_path::ArchivePath;
-use crate::archives::{Access, name_refusal, take_disk, tell_trouble};
+use crate::archives::{Access, name_refusal, print_trouble, take_disk};
 use crate::asking::ask_looked;
 use crate::failures::{Failure, FileWord, Refusal};
 use crate::held::Held;
@@ -159,7 +159,7 @@ fn ask_locked<R: AllocGlobal + Files<File = File> + Clock, O: Output, W: Onlooke
     };
     let mut reply = Held::new(rt.alloc(), output);
     let (asked, disk) = ask_over(rt.alloc(), disk, question, &mut reply);
-    tell_trouble(&disk, onlooker);
+    print_trouble(&disk, onlooker);
     drop(disk);
     match reply.finish() {
         Ok(()) => asked,

@@ -1,4 +1,4 @@
-// What `store` does over the archive on a disk.
+// `store` over the archive on a disk.
 ghost use Rattle.std.specs.Prelude.{◌≡◌, ℕ, List, None, Option, false, is_some};
 ghost use Rattle.std.specs.Option.{option_map};
 ghost use Rattle.std.specs.Io.KnownBytes.{Keeps};
@@ -6,9 +6,9 @@ ghost use Rattle.script_lines.specs.Said.{said};
 ghost use Rattle.stream_names.specs.Commands.{stream_begun, stream_found};
 ghost use Rattle.inspector_cli.specs.Session.{streams_of};
 ghost use Rattle.inspector_cli.specs.Storing.{line_stream, options_asked};
-ghost use Rattle.script_streams.specs.Replies.{TellsText, telling};
+ghost use Rattle.script_streams.specs.Replies.{PrintsText, printing};
 ghost use Rattle.archive_files.specs.OverDisks.{StoresOnDisk, StoresFile, IsFitted, IsFittedBy, is_refused, is_too_long, name_found, named_as, reason_found, sparing, sparing_for, under_name, within_limit};
-ghost use Rattle.archive_files.specs.Telling.{IsKeptAs};
+ghost use Rattle.archive_files.specs.Printing.{IsKeptAs};
 
 use crate::collected::Collected;
 use crate::failures::{Failure, Refusal};
@@ -40,7 +40,7 @@ pub struct StoreWords {
 pub struct StoreRequest {
     // By which cases are retired first, if there is one.
     policy: Option<Policy>,
-    // The stream, or why there is none.
+    // The stream, or why no stream could be begun.
     found: Result<NewStream, &'static [u8]>,
     // The other options.
     options: StoreOptions,
@@ -105,12 +105,12 @@ impl StoreRequest {
     {
         let mut name = Collected::new(alloc);
         let mut reply = Reply::new(&mut name);
-        tell_name(&mut reply, &self.found);
+        print_name(&mut reply, &self.found);
         let _ = reply.finish();
         name
     }
 
-    /// Nothing is retired for what can't be stored.
+    /// Nothing is retired for a stream that can't be stored.
     pub fn without_retiring(self) -> Self
         ensures { result ≡ record self { policy = None } }
     {
@@ -176,7 +176,7 @@ impl StoreRequest {
         self.options.cut.is_none() && size > self.limit
     }
 
-    // Nothing is retired where the first bytes of the file can't be read, or are more than an image may have and are not to be cut.
+    // Nothing is retired if the first bytes of the file can't be read, or are more than an image may have and are not to be cut.
     fn fitted<F: FirstBytes>(self, file: &mut F) -> Self
         ensures fitted { IsFitted self result }
         ensures by { IsFittedBy (F.FirstBytes.begins file.old) self result }
@@ -222,7 +222,8 @@ fn renamed(stream: NewStream, other: NewStream) -> NewStream
     }
 }
 
-// A file whose first bytes are looked at. What looks at them is generic in it, so that it decides by nothing else, and its clauses say so.
+// A file whose first bytes are examined. The functions that examine them are
+// generic in it, so that they decide by nothing else, and their clauses say so.
 trait FirstBytes {
     // Whether so many bytes may come first, or none that can be read.
     ghost begins: { Self → Option ℕ → Type 0 };
@@ -266,12 +267,12 @@ fn within_limit(
 }
 
 // Prints the name that was found, or the kind that has none.
-fn tell_name<O: Output>(reply: &mut Reply<'_, O>, found: &Result<NewStream, &'static [u8]>)
-    ensures { TellsText (telling O.Output reply.old reply.new) (name_found (stream_found found.now)) }
+fn print_name<O: Output>(reply: &mut Reply<'_, O>, found: &Result<NewStream, &'static [u8]>)
+    ensures { PrintsText (printing O.Output reply.old reply.new) (name_found (stream_found found.now)) }
 {
     match found {
-        Ok(stream) => reply.tell_text(stream.name.as_slice()),
-        Err(_) => reply.tell(b"a core"),
+        Ok(stream) => reply.print_text(stream.name.as_slice()),
+        Err(_) => reply.print(b"a core"),
     }
 }
 

@@ -47,7 +47,7 @@ handled_sample path counter count =
 abbrev pub handled_samples : List ℕ → List Counter → List ℕ → List ℕ
 handled_samples path which counts = flat_map (λ counter. handled_sample path counter (count_of counts counter)) which
 
--- what the handler has counted, if there are counts
+-- the handler's counters, if there are counts
 abbrev pub handled_text : List ℕ → Option Counts → List ℕ
 handled_text path None = []
 handled_text path (Some counts) =

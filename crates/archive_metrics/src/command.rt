@@ -1,5 +1,5 @@
 // The command.
-use crate::text::tell_metrics;
+use crate::text::print_metrics;
 use archive_files::{ArchivePath, Collected, Failure, Refusal, take_look};
 use case_info::facts_over;
 use outcome_counts::{Counts, counts_path, read_counts};
@@ -23,7 +23,7 @@ pub fn info_metrics<R: AllocGlobal + Files<File = File>, O: Output>(
     let facts = facts_over(alloc, looked.unlocked(Vec::new(alloc)))?;
     let mut text = Collected::new(alloc);
     let mut reply = Reply::new(&mut text);
-    tell_metrics(&mut reply, path.as_bytes(), &facts, counts_beside(rt, path));
+    print_metrics(&mut reply, path.as_bytes(), &facts, counts_beside(rt, path));
     match reply.finish() {
         Ok(()) => Ok(write_whole(output, text.text())?),
         Err(_) => Err(Failure::Refused(Refusal::OutOfMemory)),

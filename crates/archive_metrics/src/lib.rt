@@ -5,4 +5,4 @@ mod command;
 mod text;
 
 pub use command::info_metrics;
-pub use text::tell_metrics;
+pub use text::print_metrics;

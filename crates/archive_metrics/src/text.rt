@@ -1,14 +1,14 @@
 // The text.
 ghost use Rattle.std.specs.Prelude.{◌≡◌};
 ghost use Rattle.std.specs.List.{flat_map};
-ghost use Rattle.script_streams.specs.Replies.{TellsText, telling};
+ghost use Rattle.script_streams.specs.Replies.{PrintsText, printing};
 ghost use Rattle.archive_metrics.specs.Metrics.{handled_sample, handled_samples, handled_text, label_byte, metric_text, metrics_text, newest_text, reason_label, sample_text};
 
 use archive_screens::ArchiveFacts;
 use outcome_counts::{ALL, Counter, Counts, Reason};
 use script_streams::{Output, Reply};
 
-// A metric: its name, its type, and what it is.
+// A metric: its name, its type, and its help text.
 #[derive(Clone, Copy)]
 struct Metric {
     name: &'static [u8],
@@ -76,130 +76,130 @@ const HANDLED_HEAD: &[u8] =
 # TYPE corekeep_handled_total counter
 ";
 
-/// Tells the facts of the archive in a file of this path, as the text of Prometheus and of OpenMetrics: for each metric its help, its type,
+/// Prints the facts of the archive in a file of this path, as the text of Prometheus and of OpenMetrics: for each metric its help, its type,
 /// and one sample with the path as the label `archive`; then a sample for each counter of its handler, if there are counts; and then `# EOF`.
 /// The time of the newest core is left out if no core has one.
-pub fn tell_metrics<O: Output>(
+pub fn print_metrics<O: Output>(
     reply: &mut Reply<'_, O>,
     path: &[u8],
     facts: &ArchiveFacts,
     counts: Option<Counts>,
 )
-    ensures { TellsText (telling O.Output reply.old reply.new) (metrics_text path.now facts.now counts) }
+    ensures { PrintsText (printing O.Output reply.old reply.new) (metrics_text path.now facts.now counts) }
 {
-    tell_metric(reply, CORES, path, facts.cores);
-    tell_metric(reply, EXECUTABLES, path, facts.executables);
-    tell_metric(reply, PINNED, path, facts.pinned);
-    tell_metric(reply, DATA_BLOCKS, path, u64::from(facts.data_blocks));
-    tell_metric(reply, FREE_BLOCKS, path, facts.free_blocks);
-    tell_metric(reply, HALF_BYTES, path, facts.half);
-    tell_metric(reply, USED_BYTES, path, facts.used);
-    tell_metric(reply, STORED, path, facts.last_number);
-    tell_newest(reply, path, facts.newest);
-    tell_handled(reply, path, counts);
-    reply.tell(b"# EOF\n");
+    print_metric(reply, CORES, path, facts.cores);
+    print_metric(reply, EXECUTABLES, path, facts.executables);
+    print_metric(reply, PINNED, path, facts.pinned);
+    print_metric(reply, DATA_BLOCKS, path, u64::from(facts.data_blocks));
+    print_metric(reply, FREE_BLOCKS, path, facts.free_blocks);
+    print_metric(reply, HALF_BYTES, path, facts.half);
+    print_metric(reply, USED_BYTES, path, facts.used);
+    print_metric(reply, STORED, path, facts.last_number);
+    print_newest(reply, path, facts.newest);
+    print_handled(reply, path, counts);
+    reply.print(b"# EOF\n");
 }
 
-// Tells what the handler has counted.
-fn tell_handled<O: Output>(reply: &mut Reply<'_, O>, path: &[u8], counts: Option<Counts>)
-    ensures { TellsText (telling O.Output reply.old reply.new) (handled_text path.now counts) }
+// Prints the handler's counters.
+fn print_handled<O: Output>(reply: &mut Reply<'_, O>, path: &[u8], counts: Option<Counts>)
+    ensures { PrintsText (printing O.Output reply.old reply.new) (handled_text path.now counts) }
 {
     let Some(counts) = counts else {
         return;
     };
-    reply.tell(HANDLED_HEAD);
-    tell_samples(reply, path, &ALL, &counts);
+    reply.print(HANDLED_HEAD);
+    print_samples(reply, path, &ALL, &counts);
 }
 
-// Tells the samples of these counters.
-fn tell_samples<O: Output>(
+// Prints the samples of these counters.
+fn print_samples<O: Output>(
     reply: &mut Reply<'_, O>,
     path: &[u8],
     counters: &[Counter],
     counts: &Counts,
 )
-    ensures { TellsText (telling O.Output reply.old reply.new) (handled_samples path.now counters.now counts.now.counts) }
+    ensures { PrintsText (printing O.Output reply.old reply.new) (handled_samples path.now counters.now counts.now.counts) }
 {
     for counter in counters {
-        tell_counter(reply, path, *counter, counts.of(*counter));
+        print_counter(reply, path, *counter, counts.of(*counter));
     }
 }
 
-fn tell_counter<O: Output>(reply: &mut Reply<'_, O>, path: &[u8], counter: Counter, count: u64)
-    ensures { TellsText (telling O.Output reply.old reply.new) (handled_sample path.now counter count) }
+fn print_counter<O: Output>(reply: &mut Reply<'_, O>, path: &[u8], counter: Counter, count: u64)
+    ensures { PrintsText (printing O.Output reply.old reply.new) (handled_sample path.now counter count) }
 {
-    reply.tell(b"corekeep_handled_total{archive=\"");
-    tell_label(reply, path);
-    reply.tell(b"\",outcome=\"");
-    reply.tell(counter.outcome());
-    reply.tell(b"\"");
-    tell_reason(reply, counter.reason());
-    reply.tell(b"} ");
-    reply.tell_decimal(u128::from(count));
-    reply.tell(b"\n");
+    reply.print(b"corekeep_handled_total{archive=\"");
+    print_label(reply, path);
+    reply.print(b"\",outcome=\"");
+    reply.print(counter.outcome());
+    reply.print(b"\"");
+    print_reason(reply, counter.reason());
+    reply.print(b"} ");
+    reply.print_decimal(u128::from(count));
+    reply.print(b"\n");
 }
 
-fn tell_reason<O: Output>(reply: &mut Reply<'_, O>, reason: Option<Reason>)
-    ensures { TellsText (telling O.Output reply.old reply.new) (reason_label reason) }
+fn print_reason<O: Output>(reply: &mut Reply<'_, O>, reason: Option<Reason>)
+    ensures { PrintsText (printing O.Output reply.old reply.new) (reason_label reason) }
 {
     let Some(reason) = reason else {
         return;
     };
-    reply.tell(b",reason=\"");
-    reply.tell(reason.word());
-    reply.tell(b"\"");
+    reply.print(b",reason=\"");
+    reply.print(reason.word());
+    reply.print(b"\"");
 }
 
-fn tell_newest<O: Output>(reply: &mut Reply<'_, O>, path: &[u8], newest: u64)
-    ensures { TellsText (telling O.Output reply.old reply.new) (newest_text path.now newest) }
+fn print_newest<O: Output>(reply: &mut Reply<'_, O>, path: &[u8], newest: u64)
+    ensures { PrintsText (printing O.Output reply.old reply.new) (newest_text path.now newest) }
 {
     if newest != 0 {
-        tell_metric(reply, NEWEST, path, newest);
+        print_metric(reply, NEWEST, path, newest);
     }
 }
 
-fn tell_metric<O: Output>(reply: &mut Reply<'_, O>, metric: Metric, path: &[u8], value: u64)
-    ensures { TellsText (telling O.Output reply.old reply.new) (metric_text metric.name.now metric.kind.now metric.help.now path.now value) }
+fn print_metric<O: Output>(reply: &mut Reply<'_, O>, metric: Metric, path: &[u8], value: u64)
+    ensures { PrintsText (printing O.Output reply.old reply.new) (metric_text metric.name.now metric.kind.now metric.help.now path.now value) }
 {
-    reply.tell(b"# HELP ");
-    reply.tell(metric.name);
-    reply.tell(b" ");
-    reply.tell(metric.help);
-    reply.tell(b"\n# TYPE ");
-    reply.tell(metric.name);
-    reply.tell(b" ");
-    reply.tell(metric.kind);
-    reply.tell(b"\n");
-    tell_sample(reply, metric.name, path, value);
+    reply.print(b"# HELP ");
+    reply.print(metric.name);
+    reply.print(b" ");
+    reply.print(metric.help);
+    reply.print(b"\n# TYPE ");
+    reply.print(metric.name);
+    reply.print(b" ");
+    reply.print(metric.kind);
+    reply.print(b"\n");
+    print_sample(reply, metric.name, path, value);
 }
 
-fn tell_sample<O: Output>(reply: &mut Reply<'_, O>, name: &[u8], path: &[u8], value: u64)
-    ensures { TellsText (telling O.Output reply.old reply.new) (sample_text name.now path.now value) }
+fn print_sample<O: Output>(reply: &mut Reply<'_, O>, name: &[u8], path: &[u8], value: u64)
+    ensures { PrintsText (printing O.Output reply.old reply.new) (sample_text name.now path.now value) }
 {
-    reply.tell(name);
-    reply.tell(b"{archive=\"");
-    tell_label(reply, path);
-    reply.tell(b"\"} ");
-    reply.tell_decimal(u128::from(value));
-    reply.tell(b"\n");
+    reply.print(name);
+    reply.print(b"{archive=\"");
+    print_label(reply, path);
+    reply.print(b"\"} ");
+    reply.print_decimal(u128::from(value));
+    reply.print(b"\n");
 }
 
-// Tells a text as the value of a label.
-fn tell_label<O: Output>(reply: &mut Reply<'_, O>, text: &[u8])
-    ensures { TellsText (telling O.Output reply.old reply.new) (flat_map label_byte text.now) }
+// Prints a text as the value of a label.
+fn print_label<O: Output>(reply: &mut Reply<'_, O>, text: &[u8])
+    ensures { PrintsText (printing O.Output reply.old reply.new) (flat_map label_byte text.now) }
 {
     for byte in text {
-        tell_label_byte(reply, *byte);
+        print_label_byte(reply, *byte);
     }
 }
 
-fn tell_label_byte<O: Output>(reply: &mut Reply<'_, O>, byte: u8)
-    ensures { TellsText (telling O.Output reply.old reply.new) (label_byte byte) }
+fn print_label_byte<O: Output>(reply: &mut Reply<'_, O>, byte: u8)
+    ensures { PrintsText (printing O.Output reply.old reply.new) (label_byte byte) }
 {
     match byte {
-        b'\\' => reply.tell(b"\\\\"),
-        b'"' => reply.tell(b"\\\""),
-        b'\n' => reply.tell(b"\\n"),
-        _ => reply.tell(&[byte]),
+        b'\\' => reply.print(b"\\\\"),
+        b'"' => reply.print(b"\\\""),
+        b'\n' => reply.print(b"\\n"),
+        _ => reply.print(&[byte]),
     }
 }

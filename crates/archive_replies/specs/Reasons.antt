@@ -1,9 +1,9 @@
--- How refusals are told.
+-- The names of refusals in replies.
 use Rattle.std.specs.Prelude.{ℕ, List, codes}
 use Rattle.intake.specs.declared.faults.ArchiveFault.{ArchiveFault}
 use Rattle.intake.specs.declared.faults.ArchiveFault.TheVariants.{Stopped, BadSlot, SlotBusy, NameTaken, NoStream, TooLong, SpaceFull, NoCase, Pinned, JournalFull, NumbersSpent, OutOfMemory, Disk, OldVersion}
 
--- the name that a refusal is told by
+-- the name of a refusal
 abbrev pub reason_of : ArchiveFault → List ℕ
 reason_of Stopped = codes "Stopped"
 reason_of BadSlot = codes "BadSlot"

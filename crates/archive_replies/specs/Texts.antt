@@ -16,7 +16,7 @@ abbrev pub plain_reply : Result (Unit {0}) ArchiveFault → List ℕ
 plain_reply (Ok u) = ok_reply
 plain_reply (Err fault) = no_reply (reason_of fault)
 
--- `name NAME`, and what the call answers
+-- `name NAME`, and the answer of the call
 abbrev pub begin_reply : List ℕ → Result (Unit {0}) ArchiveFault → List ℕ
 begin_reply name (Ok u) = ((codes "name " ++ shown name) ++ 10 ∷ []) ++ ok_reply
 begin_reply name (Err fault) = no_reply (reason_of fault)
@@ -30,7 +30,7 @@ end_reply (Err fault) = no_reply (reason_of fault)
 abbrev pub dropped_line : ℕ → List ℕ
 dropped_line seq = (codes "dropped " ++ decimal seq) ++ 10 ∷ []
 
--- `unmet`, where the limits do not hold even so
+-- `unmet`, if the limits do not hold even so
 abbrev pub unmet_line : Bool → List ℕ
 unmet_line unmet = if unmet then codes "unmet" ++ 10 ∷ [] else []
 

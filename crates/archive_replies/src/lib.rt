@@ -5,4 +5,6 @@ mod reasons;
 mod replies;
 
 pub use reasons::reason;
-pub use replies::{tell_begun, tell_cases, tell_free, tell_outcome, tell_retired, tell_stored};
+pub use replies::{
+    print_begun, print_cases, print_free, print_outcome, print_retired, print_stored,
+};

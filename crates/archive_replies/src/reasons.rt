@@ -1,10 +1,10 @@
-// How refusals are told.
+// The names of refusals in replies.
 ghost use Rattle.std.specs.Prelude.{◌≡◌};
 ghost use Rattle.archive_replies.specs.Reasons.{reason_of};
 
 use intake::ArchiveFault;
 
-/// The name that a refusal is told by, as a reply has it after `no `.
+/// The name of a refusal, as a reply has it after `no `.
 pub fn reason(fault: ArchiveFault) -> &'static [u8]
     ensures { result.now ≡ reason_of fault }
 {

@@ -21,7 +21,7 @@ count_before day back cases = length (filter (is_core_before day back) cases)
 abbrev pub cores_by_day : ℕ → List Case → List ℕ
 cores_by_day newest cases = map (λ back. count_before (newest / 86_400) back cases) (6 ∷ 5 ∷ 4 ∷ 3 ∷ 2 ∷ 1 ∷ 0 ∷ [])
 
--- how many marks stand for a count: one for each, or fewer in proportion if the greatest count has more than 40
+-- how many marks stand for a count: one for each, or fewer in proportion if the highest count is over 40
 abbrev pub bar_length : ℕ → ℕ → ℕ
 bar_length most count = if nat_le most 40 then count else count * 40 / most
 
@@ -32,7 +32,7 @@ bar_text n = if nat_lt 0 n then codes "  " ++ replicate n 35 else []
 abbrev pub count_text : ℕ → List ℕ
 count_text count = spaces (6 - length (decimal count)) ++ decimal count
 
--- what stands before a row: the first one has the name of the line
+-- the text before a row: the first one has the name of the line
 abbrev pub row_label : ℕ → ℕ → List ℕ
 row_label day back = if back == min day 6 then codes "days      " else codes "          "
 

@@ -1,10 +1,10 @@
 // The screen of an archive.
 ghost use Rattle.std.specs.Prelude.{◌≡◌};
-ghost use Rattle.script_streams.specs.Replies.{TellsText, telling};
+ghost use Rattle.script_streams.specs.Replies.{PrintsText, printing};
 ghost use Rattle.archive_screens.specs.Archive.{archive_text, cases_text, counted_text, data_text, journal_text, layout_text, numbers_text, times_text};
 
-use crate::days::tell_days;
-use case_tables::{tell_size, tell_time};
+use crate::days::print_days;
+use case_tables::{print_size, print_time};
 use script_streams::{Output, Reply};
 
 /// The known facts of an archive.
@@ -34,85 +34,85 @@ pub struct ArchiveFacts {
 }
 
 /// Prints the known facts of an archive.
-pub fn tell_archive_screen<O: Output>(reply: &mut Reply<'_, O>, facts: &ArchiveFacts)
-    ensures is_screen { TellsText (telling O.Output reply.old reply.new) (archive_text facts.now) }
+pub fn print_archive_screen<O: Output>(reply: &mut Reply<'_, O>, facts: &ArchiveFacts)
+    ensures is_screen { PrintsText (printing O.Output reply.old reply.new) (archive_text facts.now) }
 {
-    tell_layout(reply, facts);
-    tell_data(reply, facts);
-    tell_journal(reply, facts);
-    tell_cases(reply, facts);
-    tell_times(reply, facts);
-    tell_numbers(reply, facts);
-    tell_days(reply, facts.newest, &facts.days);
+    print_layout(reply, facts);
+    print_data(reply, facts);
+    print_journal(reply, facts);
+    print_cases(reply, facts);
+    print_times(reply, facts);
+    print_numbers(reply, facts);
+    print_days(reply, facts.newest, &facts.days);
 }
 
-fn tell_layout<O: Output>(reply: &mut Reply<'_, O>, facts: &ArchiveFacts)
-    ensures { TellsText (telling O.Output reply.old reply.new) (layout_text facts.now) }
+fn print_layout<O: Output>(reply: &mut Reply<'_, O>, facts: &ArchiveFacts)
+    ensures { PrintsText (printing O.Output reply.old reply.new) (layout_text facts.now) }
 {
-    reply.tell(b"layout    version ");
-    reply.tell_decimal(u128::from(facts.version));
-    reply.tell(b", ");
-    tell_size(reply, facts.length);
-    reply.tell(b"\n");
+    reply.print(b"layout    version ");
+    reply.print_decimal(u128::from(facts.version));
+    reply.print(b", ");
+    print_size(reply, facts.length);
+    reply.print(b"\n");
 }
 
-fn tell_data<O: Output>(reply: &mut Reply<'_, O>, facts: &ArchiveFacts)
-    ensures { TellsText (telling O.Output reply.old reply.new) (data_text facts.now) }
+fn print_data<O: Output>(reply: &mut Reply<'_, O>, facts: &ArchiveFacts)
+    ensures { PrintsText (printing O.Output reply.old reply.new) (data_text facts.now) }
 {
-    reply.tell(b"data      ");
-    tell_counted(reply, u64::from(facts.data_blocks), b" block");
-    reply.tell(b" of 4096 bytes, ");
-    reply.tell_decimal(u128::from(facts.free_blocks));
-    reply.tell(b" free\n");
+    reply.print(b"data      ");
+    print_counted(reply, u64::from(facts.data_blocks), b" block");
+    reply.print(b" of 4096 bytes, ");
+    reply.print_decimal(u128::from(facts.free_blocks));
+    reply.print(b" free\n");
 }
 
-fn tell_journal<O: Output>(reply: &mut Reply<'_, O>, facts: &ArchiveFacts)
-    ensures { TellsText (telling O.Output reply.old reply.new) (journal_text facts.now) }
+fn print_journal<O: Output>(reply: &mut Reply<'_, O>, facts: &ArchiveFacts)
+    ensures { PrintsText (printing O.Output reply.old reply.new) (journal_text facts.now) }
 {
-    reply.tell(b"journal   ");
-    reply.tell_decimal(u128::from(facts.used));
-    reply.tell(b" of ");
-    reply.tell_decimal(u128::from(facts.half));
-    reply.tell(b" bytes of a half in use\n");
+    reply.print(b"journal   ");
+    reply.print_decimal(u128::from(facts.used));
+    reply.print(b" of ");
+    reply.print_decimal(u128::from(facts.half));
+    reply.print(b" bytes of a half in use\n");
 }
 
-fn tell_cases<O: Output>(reply: &mut Reply<'_, O>, facts: &ArchiveFacts)
-    ensures { TellsText (telling O.Output reply.old reply.new) (cases_text facts.now) }
+fn print_cases<O: Output>(reply: &mut Reply<'_, O>, facts: &ArchiveFacts)
+    ensures { PrintsText (printing O.Output reply.old reply.new) (cases_text facts.now) }
 {
-    reply.tell(b"cases     ");
-    tell_counted(reply, facts.cores, b" core");
-    reply.tell(b", ");
-    tell_counted(reply, facts.executables, b" executable");
-    reply.tell(b", ");
-    reply.tell_decimal(u128::from(facts.pinned));
-    reply.tell(b" pinned\n");
+    reply.print(b"cases     ");
+    print_counted(reply, facts.cores, b" core");
+    reply.print(b", ");
+    print_counted(reply, facts.executables, b" executable");
+    reply.print(b", ");
+    reply.print_decimal(u128::from(facts.pinned));
+    reply.print(b" pinned\n");
 }
 
 // Prints a number of things that a word names. The word has an s unless there is one.
-fn tell_counted<O: Output>(reply: &mut Reply<'_, O>, count: u64, word: &[u8])
-    ensures { TellsText (telling O.Output reply.old reply.new) (counted_text count word.now) }
+fn print_counted<O: Output>(reply: &mut Reply<'_, O>, count: u64, word: &[u8])
+    ensures { PrintsText (printing O.Output reply.old reply.new) (counted_text count word.now) }
 {
-    reply.tell_decimal(u128::from(count));
-    reply.tell(word);
+    reply.print_decimal(u128::from(count));
+    reply.print(word);
     if count != 1 {
-        reply.tell(b"s");
+        reply.print(b"s");
     }
 }
 
-fn tell_times<O: Output>(reply: &mut Reply<'_, O>, facts: &ArchiveFacts)
-    ensures { TellsText (telling O.Output reply.old reply.new) (times_text facts.now) }
+fn print_times<O: Output>(reply: &mut Reply<'_, O>, facts: &ArchiveFacts)
+    ensures { PrintsText (printing O.Output reply.old reply.new) (times_text facts.now) }
 {
-    reply.tell(b"cores     oldest ");
-    tell_time(reply, facts.oldest);
-    reply.tell(b", newest ");
-    tell_time(reply, facts.newest);
-    reply.tell(b"\n");
+    reply.print(b"cores     oldest ");
+    print_time(reply, facts.oldest);
+    reply.print(b", newest ");
+    print_time(reply, facts.newest);
+    reply.print(b"\n");
 }
 
-fn tell_numbers<O: Output>(reply: &mut Reply<'_, O>, facts: &ArchiveFacts)
-    ensures { TellsText (telling O.Output reply.old reply.new) (numbers_text facts.now) }
+fn print_numbers<O: Output>(reply: &mut Reply<'_, O>, facts: &ArchiveFacts)
+    ensures { PrintsText (printing O.Output reply.old reply.new) (numbers_text facts.now) }
 {
-    reply.tell(b"numbers   ");
-    reply.tell_decimal(u128::from(facts.last_number));
-    reply.tell(b" is the greatest that was given\n");
+    reply.print(b"numbers   ");
+    reply.print_decimal(u128::from(facts.last_number));
+    reply.print(b" is the greatest that was given\n");
 }

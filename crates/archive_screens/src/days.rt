@@ -2,10 +2,10 @@
 ghost use Rattle.std.specs.Prelude.{◌≡◌, ◌<◌, map, replicate};
 ghost use Rattle.journal_layout.specs.Case.{case_of};
 ghost use Rattle.case_tables.specs.Table.{greatest};
-ghost use Rattle.script_streams.specs.Replies.{TellsText, telling};
+ghost use Rattle.script_streams.specs.Replies.{PrintsText, printing};
 ghost use Rattle.archive_screens.specs.Days.{bar_length, bar_text, cores_by_day, count_before, count_text, day_row, days_text, is_core_before, rows_text};
 
-use case_tables::{tell_day, tell_spaces};
+use case_tables::{print_day, print_spaces};
 use journal_layout::{Entry, Kind};
 use script_streams::{Output, Reply};
 use script_words::print_decimal;
@@ -57,7 +57,7 @@ pub fn cores_by_day(cases: &[Entry], newest: u64) -> [u64; 7]
     ]
 }
 
-// The greatest of these counts.
+// The highest of these counts.
 fn greatest_of(counts: &[u64]) -> u64
     ensures { result ≡ greatest counts.now }
 {
@@ -68,7 +68,7 @@ fn greatest_of(counts: &[u64]) -> u64
     greatest
 }
 
-// How many marks stand for so many cores: one for each, or fewer in proportion if the greatest count has more than fit.
+// How many marks stand for so many cores: one for each, or fewer in proportion if the highest count has more than fit.
 fn bar_length(greatest: u64, count: u64) -> u64
     ensures { result ≡ bar_length greatest count }
 {
@@ -79,69 +79,69 @@ fn bar_length(greatest: u64, count: u64) -> u64
 }
 
 // Prints a number in a column of six letters, at its right.
-fn tell_count<O: Output>(reply: &mut Reply<'_, O>, count: u64)
-    ensures { TellsText (telling O.Output reply.old reply.new) (count_text count) }
+fn print_count<O: Output>(reply: &mut Reply<'_, O>, count: u64)
+    ensures { PrintsText (printing O.Output reply.old reply.new) (count_text count) }
 {
     let digits = print_decimal(u128::from(count));
-    tell_spaces(reply, 6usize.saturating_sub(digits.len()));
-    reply.tell(digits.as_slice());
+    print_spaces(reply, 6usize.saturating_sub(digits.len()));
+    reply.print(digits.as_slice());
 }
 
 // Prints so many marks.
-fn tell_marks<O: Output>(reply: &mut Reply<'_, O>, count: u64)
-    ensures { TellsText (telling O.Output reply.old reply.new) (replicate count 35) }
+fn print_marks<O: Output>(reply: &mut Reply<'_, O>, count: u64)
+    ensures { PrintsText (printing O.Output reply.old reply.new) (replicate count 35) }
 {
     for _ in 0..count {
-        reply.tell(b"#");
+        reply.print(b"#");
     }
 }
 
 // Prints a bar of so many marks, after two spaces.
-fn tell_bar<O: Output>(reply: &mut Reply<'_, O>, length: u64)
-    ensures { TellsText (telling O.Output reply.old reply.new) (bar_text length) }
+fn print_bar<O: Output>(reply: &mut Reply<'_, O>, length: u64)
+    ensures { PrintsText (printing O.Output reply.old reply.new) (bar_text length) }
 {
     if length > 0 {
-        reply.tell(b"  ");
-        tell_marks(reply, length);
+        reply.print(b"  ");
+        print_marks(reply, length);
     }
 }
 
 // Prints the row of the day that is so many days before this one. There is no day before 1970-01-01.
-fn tell_row<O: Output>(reply: &mut Reply<'_, O>, greatest: u64, day: u64, back: u64, count: u64)
-    ensures { TellsText (telling O.Output reply.old reply.new) (day_row greatest day back count) }
+fn print_row<O: Output>(reply: &mut Reply<'_, O>, greatest: u64, day: u64, back: u64, count: u64)
+    ensures { PrintsText (printing O.Output reply.old reply.new) (day_row greatest day back count) }
 {
     if back > day {
         return;
     }
-    reply.tell(if back == day.min(6) {
+    reply.print(if back == day.min(6) {
         b"days      "
     } else {
         b"          "
     });
-    tell_day(reply, day - back);
-    tell_count(reply, count);
-    tell_bar(reply, bar_length(greatest, count));
-    reply.tell(b"\n");
+    print_day(reply, day - back);
+    print_count(reply, count);
+    print_bar(reply, bar_length(greatest, count));
+    reply.print(b"\n");
 }
 
 // Prints the rows of seven days, of which this is the last.
-fn tell_rows<O: Output>(reply: &mut Reply<'_, O>, greatest: u64, day: u64, counts: &[u64; 7])
-    ensures { TellsText (telling O.Output reply.old reply.new) (rows_text greatest day counts.now) }
+fn print_rows<O: Output>(reply: &mut Reply<'_, O>, greatest: u64, day: u64, counts: &[u64; 7])
+    ensures { PrintsText (printing O.Output reply.old reply.new) (rows_text greatest day counts.now) }
 {
-    tell_row(reply, greatest, day, 6, counts[0]);
-    tell_row(reply, greatest, day, 5, counts[1]);
-    tell_row(reply, greatest, day, 4, counts[2]);
-    tell_row(reply, greatest, day, 3, counts[3]);
-    tell_row(reply, greatest, day, 2, counts[4]);
-    tell_row(reply, greatest, day, 1, counts[5]);
-    tell_row(reply, greatest, day, 0, counts[6]);
+    print_row(reply, greatest, day, 6, counts[0]);
+    print_row(reply, greatest, day, 5, counts[1]);
+    print_row(reply, greatest, day, 4, counts[2]);
+    print_row(reply, greatest, day, 3, counts[3]);
+    print_row(reply, greatest, day, 2, counts[4]);
+    print_row(reply, greatest, day, 1, counts[5]);
+    print_row(reply, greatest, day, 0, counts[6]);
 }
 
 // Prints how many cores are of each of the seven days up to that of this time; nothing, if there is no time.
-pub(crate) fn tell_days<O: Output>(reply: &mut Reply<'_, O>, newest: u64, counts: &[u64; 7])
-    ensures { TellsText (telling O.Output reply.old reply.new) (days_text newest counts.now) }
+pub(crate) fn print_days<O: Output>(reply: &mut Reply<'_, O>, newest: u64, counts: &[u64; 7])
+    ensures { PrintsText (printing O.Output reply.old reply.new) (days_text newest counts.now) }
 {
     if newest > 0 {
-        tell_rows(reply, greatest_of(counts), newest / DAY, counts);
+        print_rows(reply, greatest_of(counts), newest / DAY, counts);
     }
 }

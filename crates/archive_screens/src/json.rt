@@ -6,7 +6,7 @@ use jiff::civil::date;
 use serde_json::{Value, json};
 use std::alloc::{AllocError, Global};
 
-// The first number that a JSON number may not be told as.
+// The first number that is too large for a JSON number.
 const FIRST_LARGE: u64 = 1 << 53;
 
 // The seconds of a day.
@@ -15,7 +15,7 @@ const DAY: u64 = 86_400;
 // The number of 9999-12-31.
 const LAST_DAY: u64 = 2_932_896;
 
-/// A JSON object with the facts that `tell_archive_screen` shows.
+/// A JSON object with the facts that `print_archive_screen` prints.
 ///
 /// # Errors
 ///

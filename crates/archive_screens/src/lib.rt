@@ -6,7 +6,7 @@ mod days;
 mod json;
 mod tally;
 
-pub use archive::{ArchiveFacts, tell_archive_screen};
+pub use archive::{ArchiveFacts, print_archive_screen};
 pub use days::cores_by_day;
 pub use json::archive_json;
 pub use tally::{Tally, tally_of};

@@ -5,7 +5,7 @@ ghost use Rattle.archive_screens.specs.Tally.{older, tally_of, with_case, with_c
 
 use journal_layout::{Entry, Kind};
 
-/// What cases are counted by.
+/// The classes by which cases are counted.
 #[derive(Clone, Copy, Debug, PartialEq, Eq)]
 pub struct Tally {
     pub cores: u64,

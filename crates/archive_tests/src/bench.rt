@@ -1,4 +1,4 @@
-// Archives over a disk in memory, and images whose bytes are told by their place.
+// Archives over a disk in memory, and images whose bytes are determined by their place.
 ghost use Rattle.std.specs.Prelude.{◌≡◌, ◌+◌, ◌<◌, ◌≤◌, IfOk};
 ghost use Rattle.journal_layout.specs.Folding.{is_among};
 ghost use Rattle.journal_layout.specs.Soundness.{IsName};
@@ -36,7 +36,7 @@ pub fn opened<D: Disk + Drop>(alloc: Global, disk: D) -> Result<Archive<D>, Fail
     Ok(archive)
 }
 
-/// What a crash leaves of a disk.
+/// A disk after a crash.
 pub fn crashed(disk: &MemDisk, pick: Pick) -> Result<MemDisk, Fail> {
     Ok(disk.after_crash(pick)?)
 }

@@ -105,8 +105,8 @@ fn store_two<D: Disk>(archive: &mut Archive<D>) -> Result<(), Fail> {
     Ok(())
 }
 
-// The other half's gate is read, and where it is open it is closed and synced; the header and the record of the next number
-// are written, and that of each case, and synced; the gate is opened, and synced.
+// The other half's gate is read, and closed and synced if it is open; the header and the record of the next number are
+// written, and that of each case, and synced; the gate is opened, and synced.
 #[test]
 fn the_calls_of_a_compaction_are_few(rt: HostRuntime) -> Result<(), Fail> {
     let alloc = rt.alloc();

@@ -9,7 +9,7 @@ use std::test::Fail;
 // How often a case with a long name was stored and deleted before the script: the records leave no room for another.
 const TURNS: u32 = 21;
 
-// The first finish writes the journal anew into half B. What follows fits after it.
+// The first finish writes the journal anew into half B. The later records fit after it.
 static ANEW: [Step; 9] = [
     Step::Begin(1, CORE),
     Step::Put(1, CORE, 0, 4500),
@@ -58,7 +58,7 @@ static ANEW_STATES: [State; 5] = [
 // How often the case's pin was set or taken back before the script: here too the records leave no room for another.
 const FLIPS: u32 = 242;
 
-// The pin writes the journal anew into half B. What follows fits after it.
+// The pin writes the journal anew into half B. The later records fit after it.
 static PINNED: [Step; 4] = [
     Step::Pin(1, true),
     Step::Begin(1, CORE),
@@ -87,7 +87,7 @@ static PINNED_STATES: [State; 3] = [
     },
 ];
 
-// The deletion does. Only the record of the next number tells it then.
+// The deletion does. Only the record of the next number shows it then.
 static DELETED: [Step; 4] = [
     Step::Delete(1),
     Step::Begin(1, CORE),
@@ -231,11 +231,11 @@ fn flipped(alloc: Global) -> Result<MemDisk, Fail> {
 pub enum Course {
     /// Eight streams in turn, on a fresh archive.
     Streams,
-    /// A store that writes a full half anew, and what follows it.
+    /// A store that writes a full half anew, and the calls after it.
     Anew,
-    /// A pin that does, and what follows it.
+    /// A pin that does, and the calls after it.
     Pinned,
-    /// A deletion that does, and what follows it.
+    /// A deletion that does, and the calls after it.
     Deleted,
     /// An archive that is upgraded, and labels, on a fresh archive.
     Labels,

@@ -1,4 +1,4 @@
-// A disk in memory and what crashes leave of it, a disk with a cache, and maps of free blocks.
+// A disk in memory before and after crashes, a disk with a cache, and maps of free blocks.
 use crate::bench::crashed;
 use crate::refused::no_memory_from_here;
 use disk_model::{CachedDisk, Disk, DiskFault, MemDisk, Pick};
@@ -8,7 +8,7 @@ use std::test::Fail;
 
 const DONE: Result<(), DiskFault> = Ok(());
 
-// Writes bytes, which have to lie within the disk.
+// Writes bytes, which must lie within the disk.
 fn put<D: Disk>(disk: &mut D, at: u64, bytes: &[u8]) -> Result<Result<(), DiskFault>, Fail> {
     if disk.length() < at || disk.length() - at < bytes.len() as u64 {
         return Err(Fail::from("these bytes leave the disk"));
@@ -32,7 +32,7 @@ fn a_refused_write_changes_nothing(rt: HostRuntime) -> Result<(), Fail> {
     Ok(())
 }
 
-// A write, made again where it was refused. Answers whether it was.
+// A write, made again if it was refused. Returns whether it was.
 fn is_write_refused(rt: &impl Abort, disk: &mut MemDisk) -> Result<bool, Fail> {
     let refused = put(disk, 1, &[7, 8])?.is_err();
     if refused {
@@ -53,7 +53,7 @@ fn three_writes<D: Disk>(disk: &mut D) -> Result<(), Fail> {
     Ok(())
 }
 
-// What each kind of crash leaves of them.
+// The bytes that each kind of crash leaves of them.
 static LEFT: [(Pick, [u8; 8]); 4] = [
     (Pick::Nothing, [1, 2, 3, 4, 0, 0, 0, 0]),
     (Pick::Whole, [1, 2, 5, 8, 9, 10, 11, 0]),
@@ -80,7 +80,8 @@ fn leaves_each(rt: &impl Abort, disk: &mut MemDisk) -> Result<(), Fail> {
     Ok(())
 }
 
-// The second sync is lost, and so is each after it. The cache reads as if it were not; the device has what was synced before.
+// The second sync is lost, and each after it too. The cache reads as
+// if it were not; the device has the bytes that were synced before.
 #[test]
 fn a_lost_sync_reaches_no_device(rt: HostRuntime) -> Result<(), Fail> {
     let mut disk = CachedDisk::new(MemDisk::new(rt.alloc(), 8)?, 1);
@@ -89,7 +90,7 @@ fn a_lost_sync_reaches_no_device(rt: HostRuntime) -> Result<(), Fail> {
     has_synced(&rt, &disk.reopened()?)
 }
 
-// The writes, two syncs that are lost, and what is read then.
+// The writes, two syncs that are lost, and the bytes that are read then.
 fn loses_syncs<D: Disk>(rt: &impl Abort, disk: &mut D) -> Result<(), Fail> {
     three_writes(disk)?;
     assert_eq!(rt;
@@ -104,7 +105,7 @@ fn loses_syncs<D: Disk>(rt: &impl Abort, disk: &mut D) -> Result<(), Fail> {
     Ok(())
 }
 
-// A stop leaves what was synced before.
+// A stop leaves the bytes that were synced before.
 fn has_synced(rt: &impl Abort, disk: &CachedDisk) -> Result<(), Fail> {
     assert_eq!(rt;
         disk.after_stop()?.bytes(),

@@ -1,5 +1,5 @@
 //! Tests of the calls of an archive over disks in memory that stop, fail, lose a sync or crash, and of calls that are refused memory.
-//! What is answered where nothing fails is shown by rows of `examples/rows`.
+//! Rows of `examples/rows` show the answers if nothing fails.
 #![tactic(auto)]
 
 #[cfg(test)]

@@ -10,7 +10,7 @@ use std::alloc::{AllocError, Global};
 use std::process::Abort;
 use std::test::Fail;
 
-/// A call that is accepted where there is memory; and the numbers and pins of the cases, and the free blocks, before it.
+/// A call that is accepted if there is memory; and the numbers and pins of the cases, and the free blocks, before it.
 struct Step {
     call: Call,
     cases: &'static [(u32, bool)],
@@ -71,8 +71,8 @@ static STEPS: [Step; 10] = [
     },
 ];
 
-/// The call is accepted, the second time where memory was refused: then everything is as before, and no stream is left of
-/// one that was to be stored. Answers whether it was refused.
+/// The call is accepted, the second time if memory was refused: then everything is as before, and no stream is left of
+/// one that was to be stored. Returns whether it was refused.
 fn is_refused<D: Disk>(
     rt: &impl Abort,
     archive: &mut Archive<D>,
@@ -91,7 +91,7 @@ fn is_refused<D: Disk>(
     Ok(true)
 }
 
-/// The image of case 4 is read, the second time where memory was refused. Answers whether it was.
+/// The image of case 4 is read, the second time if memory was refused. Returns whether it was.
 fn is_image_refused<D: Disk>(rt: &impl Abort, archive: &mut Archive<D>) -> bool {
     match archive.image(4) {
         Ok(bytes) => {
@@ -106,7 +106,7 @@ fn is_image_refused<D: Disk>(rt: &impl Abort, archive: &mut Archive<D>) -> bool 
     }
 }
 
-/// The archive on a disk, which is opened the second time where memory was refused, and whether it was.
+/// The archive on a disk, which is opened the second time if memory was refused, and whether it was.
 fn opened_at_last(
     rt: &(impl AllocGlobal + Abort),
     disk: MemDisk,
@@ -130,7 +130,7 @@ fn is_one_refused<D: Disk>(rt: &impl Abort, archive: &mut Archive<D>) -> Result<
     Ok(refused)
 }
 
-/// The journal on a disk is written anew, the second time where memory was refused: then it is as before. Answers whether it was.
+/// The journal on a disk is written anew, the second time if memory was refused: then it is as before. Returns whether it was.
 fn is_compaction_refused(
     rt: &(impl AllocGlobal + Abort),
     disk: &mut MemDisk,

@@ -1,4 +1,4 @@
-// Calls in a row, each with what it is to answer.
+// Calls in a row, each with its expected answer.
 use crate::bench::{begin, label, put, store};
 use disk_model::Disk;
 use intake::{Archive, ArchiveFault, Space};
@@ -6,7 +6,7 @@ use retention::Policy;
 use std::process::Abort;
 use std::test::Fail;
 
-/// A call, or a look at the cases. Executables are meant, whose bytes are told by a seed.
+/// A call, or a look at the cases. Images are executables, whose bytes a seed determines.
 #[derive(Clone, Copy)]
 pub enum Call {
     /// A stream begins in the slot, with this name.
@@ -25,7 +25,7 @@ pub enum Call {
     Label(u32, &'static [u8]),
     /// The archive is brought to version 2 of the layout.
     Upgrade,
-    /// Where at most this number of cases is to stay, these end, and the limit does not hold even then or it does.
+    /// If at most this number of cases is to stay, these end; and whether the limit does not hold even then.
     Keep(u64, &'static [u32], bool),
     /// This number of the four data blocks is free.
     Free(u32),
@@ -36,10 +36,10 @@ pub enum Call {
 /// A call with its answer.
 pub type Row = (Call, Result<(), ArchiveFault>);
 
-/// What a call answers that is not refused.
+/// The answer of a call that is not refused.
 pub const OK: Result<(), ArchiveFault> = Ok(());
 
-// What a look answers.
+// The answer of a look.
 fn seen(stands: bool) -> Result<Result<(), ArchiveFault>, Fail> {
     if stands {
         Ok(Ok(()))
@@ -48,7 +48,7 @@ fn seen(stands: bool) -> Result<Result<(), ArchiveFault>, Fail> {
     }
 }
 
-// What a call answers that gives a number.
+// The answer of a call that gives a number.
 fn numbered(answer: Result<u32, ArchiveFault>, seq: u32) -> Result<Result<(), ArchiveFault>, Fail> {
     match answer {
         Ok(number) if number == seq => Ok(Ok(())),
@@ -132,7 +132,7 @@ pub fn follow<D: Disk>(archive: &mut Archive<D>, rows: &[Row]) -> Result<usize, 
     Ok(rows.len())
 }
 
-/// Each call answers what its row says.
+/// Each call gives the answer in its row.
 pub fn answers_on<D: Disk>(
     rt: &impl Abort,
     archive: &mut Archive<D>,

@@ -8,7 +8,7 @@ pub const SHAPE: Shape = Shape {
     data_blocks: 9,
 };
 
-/// An image: what it is of, how many bytes it has, and the seed of its bytes.
+/// An image: its kind and name, how many bytes it has, and the seed of its bytes.
 #[derive(Clone, Copy)]
 pub struct Image {
     pub kind: Kind,

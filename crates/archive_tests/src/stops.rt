@@ -1,4 +1,4 @@
-// Stops and faults at each disk call of five scripts, and what the archive shows once it is opened again.
+// Stops and faults at each disk call of five scripts, and the cases that the archive shows once it is opened again.
 use crate::bench::{
     SETTINGS, begin, crashed, has_image, is_image, label, name_of, opened, put, put_nothing, store,
 };
@@ -13,7 +13,7 @@ use std::alloc::Global;
 use std::process::Abort;
 use std::test::Fail;
 
-/// Of what was written since the last sync nothing is left, or its first bytes, or all of it.
+/// Of the bytes that were written since the last sync no byte is left, or the first of them, or all of them.
 pub static CUT: [Pick; 3] = [Pick::Nothing, Pick::FirstHalf, Pick::Whole];
 
 /// In its place are the bytes of open gates, or others.
@@ -178,7 +178,7 @@ fn free_without(cases: &[(u32, u8, bool)]) -> u64 {
     free
 }
 
-// Whether the archive shows this state, where no stream is open.
+// Whether the archive shows this state, if no stream is open.
 fn shows<D: Disk>(archive: &mut Archive<D>, state: &State) -> bool {
     let Ok(space) = archive.free_blocks() else {
         return false;
@@ -234,7 +234,7 @@ fn check_archive<D: Disk>(
     Err(Fail::from("the archive shows neither state"))
 }
 
-/// The same of what each of these crashes leaves.
+/// The same for the disks that each of these crashes leaves.
 pub fn check_crashes(
     alloc: Global,
     disk: &MemDisk,
@@ -308,7 +308,7 @@ fn run_to_stop<D: Disk>(archive: &mut Archive<D>, course: Course) -> Result<Endi
     Ok(ending)
 }
 
-// The same once the archive of a disk is opened, where the disk may fail too. Answers the disk.
+// The same once the archive of a disk is opened, and the disk may fail too. Returns the disk.
 fn open_and_run<D: Disk + Drop>(
     alloc: Global,
     disk: D,
@@ -330,7 +330,7 @@ fn open_and_run<D: Disk + Drop>(
     }
 }
 
-// Stops the disk after `limit` calls, with these crashes. Answers how many changes were answered, or `None` where nothing
+// Stops the disk after `limit` calls, with these crashes. Returns how many changes were answered, or `None` if nothing
 // was stopped.
 fn stop_after(
     alloc: Global,
@@ -359,8 +359,8 @@ fn stop_after(
     }
 }
 
-// Stops the disk after each number of calls, with these crashes. Each call that changes the cases is stopped somewhere,
-// and none is passed over.
+// Stops the disk after each number of calls, with these crashes. Each
+// call that changes the cases is stopped somewhere, and none is skipped.
 fn stop_everywhere(alloc: Global, course: Course, picks: &[Pick]) -> Result<(), Fail> {
     let begun = course.begins(alloc)?;
     let mut last = 0usize;
@@ -412,8 +412,8 @@ fn a_stop_within_an_upgrade_or_a_label_leaves_the_cases_from_before_or_after(
     stop_everywhere(rt.alloc(), Course::Labels, &FILLED)
 }
 
-// Fails this call of the disk alone, and then has the journal written anew. Answers how many changes were answered, or `None`
-// where nothing failed.
+// Fails this call of the disk alone, and then has the journal written anew.
+// Returns how many changes were answered, or `None` if nothing failed.
 fn fault_at(
     alloc: Global,
     course: Course,
@@ -437,7 +437,7 @@ fn fault_at(
     Ok(Some(before))
 }
 
-// Each call fails alone, and none of the changes is passed over.
+// Each call fails alone, and none of the changes is skipped.
 fn fault_everywhere(rt: &(impl AllocGlobal + Abort), course: Course) -> Result<(), Fail> {
     let begun = course.begins(rt.alloc())?;
     let mut last = 0usize;

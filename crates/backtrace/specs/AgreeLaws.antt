@@ -7,7 +7,7 @@ use Rattle.backtrace.specs.declared.frames.Frame.{Frame}
 use Rattle.backtrace.specs.declared.frames.Stop.{Stop}
 use Rattle.backtrace.specs.declared.frames.Stop.TheVariants.{NotRising, ZeroLink, Misaligned, Unreadable, Limit}
 
--- where a frame's words are the same, so is what comes after it
+-- if a frame's words are the same, the step after it is the same
 pub step_alike : (m p : Memory) (before : Option ℕ) (f : Frame) → link_below m f.fp ≡ link_below p f.fp → step m before f ≡ step p before f
 unfolding step
 step_alike m p before f same =

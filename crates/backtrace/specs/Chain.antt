@@ -9,7 +9,7 @@ use Rattle.backtrace.specs.declared.frames.Stop.TheVariants.{NotRising, ZeroLink
 abbrev pub Memory : Type 0
 Memory = ℕ → Option ℕ
 
--- the words at 8 and at 16 below a frame pointer, where both are there
+-- the words at 8 and at 16 below a frame pointer, if both are there
 abbrev pub both : Option ℕ → Option ℕ → Option (ℕ × ℕ)
 both None q = None
 both (Some x) None = None
@@ -54,7 +54,7 @@ abbrev pub IsChainFrom : Memory → Option ℕ → Frame → List Frame → Stop
 IsChainFrom m before f [] stop = stop_at m before f ≡ Some stop
 IsChainFrom m before f (g ∷ fs) stop = (stop_at m before f ≡ None) × (caller m f ≡ Some g) × IsChainFrom m (Some f.fp) g fs stop
 
--- what follows a frame: its caller, or the reason why there is none
+-- the step after a frame: its caller, or the reason why it has no caller
 abbrev pub step_by : Option Stop → Option Frame → Result Frame Stop
 step_by (Some stop) next = Err stop
 step_by None (Some next) = Ok next
@@ -90,7 +90,7 @@ chain m pc fp = frames_from m 1023 None (first_frame pc fp)
 unfoldable pub stop_of : Memory → ℕ → ℕ → Stop
 stop_of m pc fp = stop_from m 1023 None (first_frame pc fp)
 
--- what is told of why frames end, given those that are still to come
+-- why frames end, if no more of them are to come
 abbrev pub told : List Frame → Stop → Option Stop
 told [] stop = Some stop
 told (f ∷ fs) stop = None

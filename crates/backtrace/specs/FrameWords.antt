@@ -1,4 +1,4 @@
--- What the code's iterator over frames means.
+-- The meaning of the code's iterator over frames.
 use Rattle.std.specs.Prelude.{◌≡◌, ℕ, ◌-◌, List, Option}
 use Rattle.std.specs.Iterator.{YieldsFirst}
 use Rattle.backtrace.specs.Chain.{Memory, frames_behind, frames_from, stop_behind, stop_from}
@@ -21,8 +21,7 @@ frames_left f = frames_behind (rest_from (words_by f.words) f.before) f.next
 unfoldable pub stop_left : Frames → Stop
 stop_left f = stop_behind (end_from (words_by f.words) f.before) f.next
 
--- what a call of `next` does: it gives the first of the frames that are still to come, if there is one, and keeps why they
--- end
+-- a call of `next`: it gives the first of the frames that are still to come, if there is one, and keeps why they end
 pub record GivesFrames (old : Frames) (result : Option Frame) (new : Frames) : Type 0 where
   pub frames : YieldsFirst frames_left old result new
   pub stop : stop_left new ≡ stop_left old

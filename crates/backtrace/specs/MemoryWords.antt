@@ -8,7 +8,7 @@ use Rattle.backtrace.specs.Chain.{Memory}
 use Rattle.backtrace.specs.declared.words.Words.{Words}
 use Rattle.backtrace.specs.declared.words.Words.TheVariants.{Space, Stack}
 
--- the word of eight bytes at each address where all of them are there
+-- the word of eight bytes at each address if all of them are there
 abbrev pub memory_of : AddressSpace → Memory
 memory_of space a = word_at (space_of space) a 8
 

@@ -56,8 +56,8 @@ fn is_not_rising(before: Option<u64>, fp: u64) -> bool
     }
 }
 
-/// Whether what comes after a frame, with that frame pointer before it, depends on the words below its own. If it doesn't,
-/// each memory has the same there.
+/// Whether the step after a frame, with that frame pointer before it, depends on the words below its own. If it doesn't,
+/// it is the same in each memory.
 #[tactic(auto, unfolding(crate::specs::Chain::link_below, crate::specs::Chain::step))]
 pub fn needs_words(before: Option<u64>, frame: Frame) -> bool
     ensures { result ≡ false → (m p : spec.Memory) → spec.step m before frame ≡ spec.step p before frame }
@@ -81,7 +81,7 @@ fn link_below(words: &Words<'_, '_>, fp: u64) -> Option<(u64, u64)>
     Some((pc, link))
 }
 
-/// The frame after one, or the first reason why there is none.
+/// The frame after one, or the first reason why there is no such frame.
 #[tactic(auto, unfolding(crate::specs::Chain::step))]
 fn step(words: &Words<'_, '_>, before: Option<u64>, frame: Frame) -> Result<Frame, Stop>
     requires { frame.index ≤ 1023 }
@@ -121,7 +121,7 @@ impl<'s, 'a> Frames<'s, 'a> {
         Frames::of(Words::Space(space), pc, fp)
     }
 
-    /// The same where these bytes of the stack are all that is known of the memory.
+    /// The same if these bytes of the stack are all that is known of the memory.
     pub fn in_stack(stack: StackBytes<'s>, pc: u64, fp: u64) -> Frames<'s, 'a>
         ensures frames { frames_left result ≡ spec.chain (words_in stack.entry.first stack.entry.bytes.now) pc fp }
         ensures stop { stop_left result ≡ spec.stop_of (words_in stack.entry.first stack.entry.bytes.now) pc fp }

@@ -1,4 +1,4 @@
-// What the definitions that the contracts cite say together.
+// Consequences of the definitions that the contracts cite.
 ghost use Rattle.std.specs.Prelude.{◌≡◌, ◌∷◌, ℕ, List, None};
 ghost use Rattle.backtrace.specs.Chain as spec;
 ghost use Rattle.backtrace.specs.declared.frames.Frame as numbers;

@@ -1,4 +1,4 @@
-// Where frames take their words from.
+// The source of the words of frames.
 ghost use Rattle.std.specs.Prelude.{◌≡◌, length};
 ghost use Rattle.backtrace.specs.MemoryWords.{words_by, words_in};
 
@@ -15,7 +15,7 @@ pub struct StackBytes<'a> {
 }
 
 impl<'a> StackBytes<'a> {
-    /// The little-endian number in the values of eight addresses, or `None` where they are not all here.
+    /// The little-endian number in the values of eight addresses, or `None` if they are not all here.
     #[tactic(auto, unfolding(crate::specs::MemoryWords::words_in))]
     pub fn word(&self, address: u64) -> Option<u64>
         ensures { result ≡ words_in self.now.first self.now.bytes.now address }

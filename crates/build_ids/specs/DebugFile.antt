@@ -1,5 +1,5 @@
--- Debug files: what `objcopy --only-keep-debug` leaves of an executable (GDB, "Debugging Information in Separate Files"; System V gABI,
--- "Sections"). Their program headers may be the executable's own, though the file has not the bytes of which these speak. So a debug
+-- Debug files: the files that `objcopy --only-keep-debug` makes of an executable (GDB, "Debugging Information in Separate Files"; System V
+-- gABI, "Sections"). Their program headers may be the executable's own, though the file lacks the bytes that these describe. So a debug
 -- file's notes are found by its section headers.
 use Rattle.std.specs.Prelude.{ℕ, ◌==◌, ◌&&◌, ◌||◌, not, if◌then◌else◌, Bool, List, [], map, bit_and, is_none, Option, None, Some, Result, Ok, Err}
 use Rattle.std.specs.List.{flat_map, list_any, range_with_len}

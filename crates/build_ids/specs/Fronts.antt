@@ -1,4 +1,4 @@
--- What the first bytes of an image tell of its build ID.
+-- The build ID of an image that its first bytes determine.
 use Rattle.std.specs.Prelude.{◌≡◌, ◌≤◌, ◌<◌, ℕ, ◌+◌, List, length, take, Option, Result, Ok, Err}
 use Rattle.std.specs.Borrow.{Bor}
 use Rattle.std.specs.Option.{option_map}
@@ -15,6 +15,6 @@ abbrev pub BeginsWith : List ℕ → ℕ → List ℕ → Type 0
 BeginsWith front size image = (length image ≡ size) × (front ≡ take (length front) image)
 
 -- it is the build ID of each image that begins so; or more bytes are wanted
-abbrev pub TellsId : List ℕ → ℕ → Result (Option (Bor (List ℕ))) ShortFront → Type 0
-TellsId front size (Ok id) = (image : List ℕ) → BeginsWith front size image → option_map (λ (x : Bor (List ℕ)). x.now) id ≡ build_id_of image
-TellsId front size (Err short) = (length front < short.wanted) × (short.wanted ≤ size)
+abbrev pub GivesId : List ℕ → ℕ → Result (Option (Bor (List ℕ))) ShortFront → Type 0
+GivesId front size (Ok id) = (image : List ℕ) → BeginsWith front size image → option_map (λ (x : Bor (List ℕ)). x.now) id ≡ build_id_of image
+GivesId front size (Err short) = (length front < short.wanted) × (short.wanted ≤ size)

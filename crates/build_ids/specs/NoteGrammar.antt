@@ -16,7 +16,7 @@ pub record SpellsNote (p : Padding) (text : List ℕ) (note : NoteView) : Type 0
   pub kind : field head 8 4 ≡ note.kind
   pub gap_len : 12 + length note.name + length gap ≡ padded p (12 + length note.name)
 
--- A note, and then those from the first place on that its padding allows; none where no note's text begins the bytes.
+-- A note, and then those from the first place on that its padding allows; no notes if the bytes do not start with a note's text.
 abbrev pub IsNoteRun : Padding → List ℕ → List NoteView → Type 0
 IsNoteRun p bytes [] = (text more : List ℕ) (note : NoteView) → bytes ≡ text ++ more → SpellsNote p text note → ⊥
 IsNoteRun p bytes (note ∷ notes) =

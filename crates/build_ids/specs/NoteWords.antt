@@ -1,4 +1,4 @@
--- What the code's note means.
+-- The meaning of the code's note.
 use Rattle.build_ids.specs.Notes.{NoteView}
 use Rattle.build_ids.specs.declared.notes.Note.{Note}
 

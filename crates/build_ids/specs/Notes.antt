@@ -10,7 +10,7 @@ pub record NoteView : Type 0 where
   pub kind : ℕ
   pub desc : List ℕ
 
--- notes are padded to eight bytes where p_align is 8, else to four
+-- notes are padded to eight bytes if p_align is 8, else to four
 abbrev pub padding_by : ℕ → Padding
 padding_by align = if align == 8 then Eight else Four
 
@@ -50,7 +50,7 @@ note_at p bytes = record {
   desc = part bytes (desc_at p bytes) (n_descsz bytes);
 }
 
--- The notes of the bytes, where the first begins k places on. The first that is not whole ends them.
+-- The notes of the bytes, if the first starts k places on. The first that is not whole ends them.
 unfoldable pub notes_past : Padding → ℕ → List ℕ → List NoteView
 notes_past p k [] = []
 notes_past p zero (x ∷ xs) = if is_whole p (x ∷ xs) then note_at p (x ∷ xs) ∷ notes_past p (note_len p (x ∷ xs) - 1) xs else []

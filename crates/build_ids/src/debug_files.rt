@@ -69,9 +69,9 @@ fn has_empty_code(elf: &Elf<'_>) -> bool
     false
 }
 
-/// Whether an image is a debug file, as `objcopy --only-keep-debug` makes it: an executable without fault, of which some section of code
-/// (SHF_ALLOC and SHF_EXECINSTR) has no bytes in the file (SHT_NOBITS). One without a section table is none, and so is one whose section
-/// table has a fault.
+/// Whether an image is a debug file, as `objcopy --only-keep-debug` makes it: an executable
+/// without fault, of which some section of code (SHF_ALLOC and SHF_EXECINSTR) has no bytes in the
+/// file (SHT_NOBITS). An image is no debug file if it has no section table, or one with a fault.
 #[tactic(auto, unfolding(crate::specs::DebugFile::is_debug))]
 pub fn is_debug(image: &[u8]) -> bool
     ensures { result ≡ spec.is_debug image.now }
@@ -106,8 +106,8 @@ fn id_by_sections<'a>(elf: &Elf<'a>) -> Option<&'a [u8]>
 }
 
 /// The build ID of a debug file: that of the first note of a build ID in its sections of notes (SHT_NOTE), in table order. Its program
-/// headers may be the executable's own, so that they speak of bytes that are not in the file. Notes are padded to 4 bytes, and to 8 if
-/// sh_addralign is 8. There is none if the bytes have a fault as an executable, or no such note.
+/// headers may be the executable's own, so that they describe bytes that are not in the file. Notes are padded to 4 bytes, and to 8 if
+/// sh_addralign is 8. `None` if the bytes have a fault as an executable, or there is no such note.
 #[tactic(auto, unfolding(crate::specs::DebugFile::debug_id_of))]
 pub fn debug_id(image: &[u8]) -> Option<&[u8]>
     ensures { option_map (λ id. id.now) result ≡ spec.debug_id_of image.now }

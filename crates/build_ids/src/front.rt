@@ -2,7 +2,7 @@
 ghost use Rattle.std.specs.Prelude.{◌≡◌, ◌+◌, ◌*◌, ◌≤◌, ◌<◌, ℕ, length};
 ghost use Rattle.elf_view.specs.Header.{segment_at, segment_count};
 ghost use Rattle.elf_view.specs.ViewWords.{image_of};
-ghost use Rattle.build_ids.specs.Fronts.{HasNotesBefore, TellsId};
+ghost use Rattle.build_ids.specs.Fronts.{HasNotesBefore, GivesId};
 
 use crate::ids::{PT_NOTE, build_id, header_at, id_of};
 use elf_view::{Elf, Want, a_sound_front_is_enough, soundness_has_no_order, u16_at, u64_at};
@@ -12,7 +12,7 @@ const FILE_HEADER: u64 = 64;
 
 const PROGRAM_HEADER: u64 = 56;
 
-/// The first bytes of an image that are at hand don't tell its build ID.
+/// The first bytes of an image that are at hand don't determine its build ID.
 #[derive(Clone, Copy, Debug, PartialEq, Eq)]
 pub struct ShortFront {
     /// How many first bytes are wanted. Once they are at hand, more may be.
@@ -47,7 +47,8 @@ fn last_end(elf: &Elf<'_>, size: u64) -> u64
     end
 }
 
-/// How many of the first bytes of an image of `size` bytes its headers want, as far as these tell. No answer rests on the number.
+/// How many of the first bytes of an image of `size` bytes its headers
+/// need, as far as these show. No answer depends on the number.
 fn headers_end(front: &[u8], size: u64) -> u64
     requires { length front.now < size }
     ensures more { length front.now < result }
@@ -65,12 +66,12 @@ fn headers_end(front: &[u8], size: u64) -> u64
     size
 }
 
-/// The build ID of an image of `size` bytes, of which these are the first, if they tell it: `None` is an image that has none. All
-/// bytes tell it; so do those of an executable's headers and notes, and 64 bytes of a file that is none. The error is how many are
-/// wanted: more than there are.
+/// The build ID of an image of `size` bytes, of which these are the first, if they determine it: `None` is an image that has no
+/// build ID. All bytes determine it; the bytes of an executable's headers and notes do too, and so do 64 bytes of a file that is
+/// no executable. The error is how many bytes are wanted: more than there are.
 pub fn build_id_by_front(front: &[u8], size: u64) -> Result<Option<&[u8]>, ShortFront>
     requires { length front.now ≤ size }
-    ensures { TellsId front.now size result }
+    ensures { GivesId front.now size result }
 {
     a_sound_front_is_enough();
     soundness_has_no_order();

@@ -85,9 +85,9 @@ pub(crate) fn id_of<'a>(elf: &Elf<'a>) -> Option<&'a [u8]>
 }
 
 /// The build ID of an executable: the descriptor of the first note with the name `GNU`, type NT_GNU_BUILD_ID (3) and 1 to 64
-/// bytes. There is none where the bytes have a fault as an executable, or no such note.
+/// bytes. `None` if the bytes have a fault as an executable, or there is no such note.
 ///
-/// Notes are those of the PT_NOTEs all of which lie in the bytes, in table order. They are padded to 4 bytes, and to 8 where
+/// Notes are those of the PT_NOTEs all of which lie in the bytes, in table order. They are padded to 4 bytes, and to 8 if
 /// p_align is 8. The first note that is not whole ends those of its segment. The bytes may be a front of the file.
 #[tactic(auto, unfolding(crate::specs::BuildId::build_id_of))]
 pub fn build_id(image: &[u8]) -> Option<&[u8]>

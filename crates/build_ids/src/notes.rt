@@ -68,7 +68,7 @@ impl<'a> Note<'a> {
         }
     }
 
-    /// The note at the front of the bytes, where it is whole.
+    /// The note at the front of the bytes, if it is whole.
     #[tactic(auto, unfolding(crate::specs::Notes::is_whole))]
     pub(crate) fn first(bytes: &'a [u8], padding: Padding) -> Option<Note<'a>>
         ensures { MatchOption result (spec.is_whole padding bytes.now ≡ false)

@@ -37,7 +37,7 @@ abbrev pub first_bytes : List PieceView → List ℕ
 first_bytes [] = []
 first_bytes (p ∷ ps) = bytes_of p.content
 
--- what the core has of the front of a file: the bytes of the first piece of the addresses where it is mapped
+-- the front of a file in the core: the bytes of the first piece of the addresses where the file is mapped
 unfoldable pub front_of : Space → FileView → ExecutableView
 front_of space f = record { path = f.name; image = first_bytes (pieces_of space f.start (f.past - f.start)) }
 
@@ -49,12 +49,12 @@ fronts_of space files = map (front_of space) (filter is_front files)
 abbrev pub id_named : List ExecutableView → List ℕ → Option (List ℕ)
 id_named xs name = option_and_then (λ (x : ExecutableView). build_id_of x.image) (find (is_named name) xs)
 
--- an ID in hexadecimal digits, or `-` where there is none
+-- an ID in hexadecimal digits, or `-` if there is no ID
 abbrev pub id_word : Option (List ℕ) → List ℕ
 id_word None = codes "-"
 id_word (Some id) = hex_of id
 
--- what the two IDs say
+-- the result of comparing the two IDs
 abbrev pub verdict : Option (List ℕ) → Option (List ℕ) → List ℕ
 verdict (Some core) (Some stored) = if bytes_eq core stored then codes "same" else codes "differs"
 verdict (Some core) None = codes "unknown"
@@ -64,7 +64,7 @@ verdict None stored = codes "unknown"
 abbrev pub ids_words : Option (List ℕ) → Option (List ℕ) → List ℕ
 ids_words core stored = id_word core ++ (32 ∷ [] ++ (id_word stored ++ (32 ∷ [] ++ verdict core stored)))
 
--- a mapped file, by its name, with the build ID that the core tells for it: that of its front
+-- a mapped file, by its name, with the build ID that the core gives for it: that of its front
 abbrev pub NamedId : Type 0
 NamedId = List ℕ × Option (List ℕ)
 
@@ -85,7 +85,8 @@ abbrev pub told_or_none : Option (List NamedId) → List NamedId
 told_or_none None = []
 told_or_none (Some told) = told
 
--- a mapped file, by its name, with the build ID of its front, what is chosen for it of what is stored, and the debug file of what is used
+-- a mapped file, by its name, with the build ID of its front, the stored
+-- executable that is chosen for it, and the debug file of the one that is used
 pub record BuildValue : Type 0 where
   pub name : List ℕ
   pub core : Option (List ℕ)
@@ -146,7 +147,7 @@ NamedBuild = List ℕ × List ℕ
 abbrev pub id_in : NamedBuild → List ℕ
 id_in w = w.1
 
--- the build that the core tells for a file, if an executable can be stored by it, and none is used for the file
+-- the build that the core names for a file, if an executable can be stored by it, and none is used for the file
 abbrev pub wanted_id : Chosen → Option (List ℕ) → Option (List ℕ)
 wanted_id k None = None
 wanted_id k (Some id) = if has_name id && is_none (used_executable k) then Some id else None
@@ -166,7 +167,7 @@ wants_of values = each_build (filter_map wanted_of values)
 unfoldable pub wants_line : NamedBuild → List ℕ
 wants_line w = shown w.0 ++ (32 ∷ [] ++ (hex_of w.1 ++ 10 ∷ []))
 
--- what a line asks of a core's mapped files: their build IDs; which of these cases are used; the builds that are wanted
+-- a line's question about a core's mapped files: their build IDs; which of these cases are used; the builds that are wanted
 pub data BuildsAsking : Type 0 where
   compares : BuildsAsking
   uses : List NumberedName → BuildsAsking

@@ -1,4 +1,4 @@
--- What the code's answers to lines over builds mean.
+-- The meaning of the code's answers to lines about builds.
 use Rattle.std.specs.Prelude.{◌≡◌, ℕ, not, if◌then◌else◌, List, [], ◌∷◌, ◌++◌, map, Option, None, Some}
 use Rattle.build_replies.specs.Builds.{BuildsAsking, NamedBuild, NumberedName, compares, id_in, uses, wants}
 use Rattle.build_replies.specs.NameWords.{is_one_of}

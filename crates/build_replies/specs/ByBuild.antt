@@ -1,5 +1,5 @@
--- What a mapped file has of the executables that are stored: the one that is stored under the name of its build, else the one under its
--- path; never a file of another build, nor a debug file (GDB, "Debugging Information in Separate Files").
+-- The stored executable that belongs to a mapped file: the one that is stored under the name of its build, else the one under its path;
+-- never a file of another build, nor a debug file (GDB, "Debugging Information in Separate Files").
 use Rattle.std.specs.Prelude.{ℕ, ◌&&◌, not, if◌then◌else◌, Bool, true, false, List, [], ◌∷◌, find, is_none, Option, None, Some, codes}
 use Rattle.std.specs.Option.{option_and_then}
 use Rattle.std.specs.Str.{bytes_eq}
@@ -15,7 +15,7 @@ abbrev pub is_id : List ℕ → Option (List ℕ) → Bool
 is_id id None = false
 is_id id (Some own) = bytes_eq id own
 
--- an image has the build ID that a core tells for a file, if it tells one
+-- an image has the build ID that a core gives for a file, if it gives one
 abbrev pub has_told_id : Option (List ℕ) → List ℕ → Bool
 has_told_id None image = true
 has_told_id (Some id) image = is_id id (build_id_of image)
@@ -24,8 +24,8 @@ has_told_id (Some id) image = is_id id (build_id_of image)
 abbrev pub is_executable : List ℕ → Bool
 is_executable image = is_none (first_fault Exec image)
 
--- An image may be the file that was mapped, for which a core tells that build ID, or none: it is an executable, and no debug file, whose
--- code has no bytes.
+-- An image may be the file that was mapped, for which a core gives that build ID,
+-- or gives none: it is an executable, and no debug file, whose code has no bytes.
 unfoldable pub agrees : Option (List ℕ) → List ℕ → Bool
 agrees id image = is_executable image && (not (is_debug image) && has_told_id id image)
 
@@ -42,9 +42,9 @@ abbrev pub build_stored : List ExecutableView → Option (List ℕ) → Option E
 build_stored stored None = None
 build_stored stored (Some id) = if has_name id then if_agrees (Some id) (stored_as stored (build_name id)) else None
 
--- What a mapped file has of what is stored: an executable that is used, under the name of its build or under its path; one under its path
--- that is not used, since it is of another build, has no build ID though the core tells one, or is a debug file; or none. One whose
--- headers have a fault is none.
+-- The stored executable for a mapped file: one that is used, under the name of its build or under its
+-- path; one under its path that is not used, since it is of another build, has no build ID though the
+-- core gives one, or is a debug file; or none. One whose headers have a fault does not count.
 pub data Chosen : Type 0 where
   by_build : ExecutableView → Chosen
   by_path : ExecutableView → Chosen
@@ -59,7 +59,7 @@ abbrev pub build_first : Option ExecutableView → Chosen → Chosen
 build_first None c = c
 build_first (Some x) c = by_build x
 
--- of the file of that name, for which the core tells that ID
+-- of the file of that name, for which the core gives that ID
 unfoldable pub chosen : List ExecutableView → Option (List ℕ) → List ℕ → Chosen
 chosen stored id path = build_first (build_stored stored id) (by_its_path id (stored_as stored path))
 
@@ -81,7 +81,7 @@ used_executable (by_path x) = Some x
 used_executable (other x) = None
 used_executable none = None
 
--- by what it is chosen
+-- the word for the way in which it was chosen
 abbrev pub how_word : Chosen → List ℕ
 how_word (by_build x) = codes "build"
 how_word (by_path x) = codes "path"
@@ -92,14 +92,14 @@ how_word none = codes "none"
 abbrev pub as_file : List ℕ → ExecutableView → ExecutableView
 as_file path x = record { path = path; image = x.image }
 
--- what is used for the file of that name
+-- the executable that is used for the file of that name, if any
 abbrev pub used_by : List ℕ → Chosen → List ExecutableView
 used_by path (by_build x) = as_file path x ∷ []
 used_by path (by_path x) = as_file path x ∷ []
 used_by path (other x) = []
 used_by path none = []
 
--- what is there for it, and not used
+-- the executable under the file's path that is not used, if any
 abbrev pub others_by : List ℕ → Chosen → List ExecutableView
 others_by path (by_build x) = []
 others_by path (by_path x) = []

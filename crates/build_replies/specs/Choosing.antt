@@ -17,7 +17,7 @@ others_of stored told = flat_map (λ (t : NamedId). others_by t.0 (chosen stored
 abbrev pub debugs_of : List ExecutableView → List NamedId → List ExecutableView
 debugs_of stored told = flat_map (λ (t : NamedId). debug_by t.0 (debug_of stored (chosen stored t.1 t.0))) told
 
--- what is stored under these names, whatever it is
+-- the executable under this name, if one is stored there, whatever its kind
 abbrev pub if_stored : List ℕ → Option ExecutableView → List ExecutableView
 if_stored name None = []
 if_stored name (Some x) = as_file name x ∷ []
@@ -39,11 +39,11 @@ pub record Choice : Type 0 where
 abbrev pub choice_of : List NamedId → List ExecutableView → Choice
 choice_of told stored = record { used = used_of stored told; others = others_of stored told; debugs = debugs_of stored told }
 
--- what a core has of the fronts of its mapped files
+-- the fronts of a core's mapped files, as far as the core has them
 abbrev pub core_fronts : List ℕ → List ExecutableView
 core_fronts b = fronts_of (memory_of b []) (mapped_files b)
 
--- the build ID that a core tells for a file: that of the file's front
+-- the build ID that a core gives for a file: that of the file's front
 abbrev pub told_id : List ℕ → List ℕ → Option (List ℕ)
 told_id b path = id_named (core_fronts b) path
 

@@ -63,7 +63,7 @@ pub chosen_without : (stored : List ExecutableView) (told : List NamedId) (t : N
 chosen_without stored told t is =
     sym (choice_more stored told t ∙ ap (λ k. with_debug t.0 (debug_of stored k) (with_chosen t.0 k (choice_of told stored))) is ∙ nothing_more stored t.0 (choice_of told stored))
 
--- what is chosen for some files is what is chosen for those that went by, and for one more
+-- the choice for some files is the choice for those before, and for one more
 pub chosen_as : (stored : List ExecutableView) (old new : List NamedId) (files : List FrontId) (i : ℕ) (f : FrontId) → i < length files → f ≡ get_or files i f
     → choice_of old stored ≡ choice_of (map id_view (take i files)) stored → choice_of new stored ≡ choice_of (old ++ id_view f ∷ []) stored
     → choice_of new stored ≡ choice_of (map id_view (take (i + 1) files)) stored
@@ -78,7 +78,7 @@ chosen_as stored old new files i f within is before after =
     ∙ sym (choice_more stored (map id_view (take i files)) t)
     ∙ ap (λ (ts : List NamedId). choice_of ts stored) (sym next)
 
--- The ID that is told for the file of its name is its own.
+-- The ID that is given for the file of its name is its own.
 abbrev pub IsOwn : List ExecutableView → ExecutableView → Type 0
 IsOwn fronts x = (id : List ℕ) → id_named fronts x.path ≡ Some id → build_id_of x.image ≡ Some id
 
@@ -86,7 +86,7 @@ own_by : (id : List ℕ) (o : Option (List ℕ)) → is_id id o ≡ true → o �
 own_by id None h = absurd (false≢true h)
 own_by id (Some own) h = ap Some (sym ((bytes_eq-Decides id own).0 h))
 
--- what an image that agrees is
+-- an image that agrees has that build ID
 pub agreed_id : (id image : List ℕ) → agrees (Some id) image ≡ true → build_id_of image ≡ Some id
 unfolding agrees
 agreed_id id image h = own_by id (build_id_of image) (and_parts (not (is_debug image)) (is_id id (build_id_of image)) (and_parts (is_executable image) (not (is_debug image) && is_id id (build_id_of image)) h).1).1
@@ -99,7 +99,7 @@ pub agreed_code : (id : Option (List ℕ)) (image : List ℕ) → agrees id imag
 unfolding agrees
 agreed_code id image h = not_true (is_debug image) (and_parts (not (is_debug image)) (has_told_id id image) (and_parts (is_executable image) (not (is_debug image) && has_told_id id image) h).1).0
 
--- Whatever holds of each image that agrees holds of what is used for a file.
+-- A property of each image that agrees is a property of each executable that is used for a file.
 module _ (P : ExecutableView → Type 0) (id : Option (List ℕ)) (path : List ℕ) (of_agreed : (x : ExecutableView) → agrees id x.image ≡ true → P (as_file path x)) where
   of_path : (o : Option ExecutableView) → AllByRecursion P (used_by path (by_its_path id o))
   of_path None = tt
@@ -165,7 +165,7 @@ each_with_code stored told = each_used HasCode stored told (all told)
     all [] = tt
     all (t ∷ ts) = ((λ x passes. agreed_code t.1 x.image passes), all ts)
 
--- Where no ID is told, and no debug file is stored, the path decides.
+-- If no ID is given, and no debug file is stored, the path decides.
 code_found : (p : ExecutableView → Bool) (xs : List ExecutableView) (x : ExecutableView) → AllByRecursion HasCode xs → find p xs ≡ Some x → HasCode x
 code_found p [] x all is = cc
 code_found p (y ∷ ys) x all is =

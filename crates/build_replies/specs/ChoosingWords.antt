@@ -1,4 +1,4 @@
--- What the code's choice of executables means.
+-- The meaning of the code's choice of executables.
 use Rattle.std.specs.Prelude.{ℕ, List, [], ◌++◌, map, Option}
 use Rattle.address_space.specs.Source.{ExecutableView}
 use Rattle.address_space.specs.SpaceWords.{attached_view}

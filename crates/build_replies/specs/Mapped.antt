@@ -1,4 +1,4 @@
--- The mapped files of a core of which not all bytes are at hand, and the build IDs that it tells for them.
+-- The mapped files of a core of which not all bytes are at hand, and the build IDs that it gives for them.
 use Rattle.std.specs.Prelude.{◌≡◌, ℕ, List, [], map, Option, None, Some, Vec}
 use Rattle.std.specs.Global.{Global}
 use Rattle.std.specs.Option.{option_map}
@@ -35,7 +35,7 @@ abbrev pub IsFoundOf : List ℕ → ℕ → Option MappedFiles → Type 0
 IsFoundOf front size None = first_desc 0x46494c45 (notes_of Core front) ≡ None
 IsFoundOf front size (Some m) = (desc : List ℕ) × (first_desc 0x46494c45 (notes_of Core front) ≡ Some desc) × HasFiles front size (files_of desc) m
 
--- what an image has there is the front of that name that counts
+-- the bytes of an image at this place are the front of that name that counts
 abbrev pub IsIdPlace : MappedFiles → FrontPlace → Type 0
 IsIdPlace m p = (image : List ℕ) → build_id_of (part image p.start p.count) ≡ id_named (fronts_in image m.fronts) p.path.now
 

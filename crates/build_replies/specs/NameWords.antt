@@ -38,11 +38,11 @@ name_of_debug (Some id) = if has_name id then debug_name id ∷ [] else []
 abbrev pub debug_names : List ExecutableView → List (List ℕ)
 debug_names used = flat_map (λ (x : ExecutableView). name_of_debug (build_id_of x.image)) used
 
--- those of the debug files of what is used for these mapped files
+-- the names of the debug files of the executables that are used for these mapped files
 abbrev pub wanted_debugs : List NamedId → List ExecutableView → List (List ℕ)
 wanted_debugs told stored = debug_names (choice_of told stored).used
 
--- what the code's names mean
+-- the meaning of the code's names
 abbrev pub name_bytes : ArrayVec ℕ → List ℕ
 name_bytes n = n.items
 

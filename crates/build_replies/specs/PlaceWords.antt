@@ -1,4 +1,4 @@
--- What the code's place of a front means.
+-- The meaning of the code's place of a front.
 use Rattle.std.specs.Prelude.{◌≤◌, ℕ, ◌+◌, List}
 use Rattle.elf_view.specs.Field.{part}
 use Rattle.address_space.specs.Source.{ExecutableView}
@@ -8,7 +8,7 @@ use Rattle.build_replies.specs.declared.places.FrontPlace.{FrontPlace}
 abbrev pub front_by : List ℕ → List ℕ → ExecutableView
 front_by path bytes = record { path = path; image = bytes }
 
--- what an image has there
+-- the bytes of an image at this place
 abbrev pub front_in : List ℕ → FrontPlace → ExecutableView
 front_in image p = front_by p.path.now (part image p.start p.count)
 

@@ -1,4 +1,4 @@
--- What the code's table of executables means.
+-- The meaning of the code's table of executables.
 use Rattle.std.specs.Prelude.{ℕ, Bool, if◌then◌else◌, List, [], ◌∷◌, ◌++◌, find, is_none, map}
 use Rattle.address_space.specs.Source.{ExecutableView, is_named}
 use Rattle.address_space.specs.SpaceWords.{attached_view}

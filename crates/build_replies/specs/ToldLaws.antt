@@ -1,4 +1,4 @@
--- What is told of a core of which not all bytes are at hand.
+-- The build IDs of a core of which not all bytes are at hand.
 use Rattle.std.proofs.Common.{◌≡◌, ℕ, zero, suc, ◌+◌, List, [], ◌∷◌, ◌++◌, Option, None, Some, map, take, length, refl, sym, ap, ◌∙◌, arith}
 use Rattle.std.specs.Prelude.{slice_get}
 use Rattle.std.specs.Option.{option_map}
@@ -19,7 +19,7 @@ use Rattle.build_replies.specs.PlacesWords.{fronts_in}
 use Rattle.build_replies.specs.declared.ids.FrontId.{FrontId}
 use Rattle.build_replies.specs.declared.mapped.MappedFiles.{MappedFiles}
 
--- what is told of no name, and of one name more
+-- the IDs for no name, and for one more name
 pub ids_none : (image : List ℕ) (m : MappedFiles) (ids : List FrontId) → ids ≡ [] → AreIdsFor image m (take 0 (names_of m)) ids
 ids_none image m ids none = ap (map id_view) none
 
@@ -50,7 +50,7 @@ pub memory_same : (front image : List ℕ) → notes_of Core front ≡ notes_of 
 unfolding memory_of memory_by
 memory_same front image notes = ap (λ (ns : List NoteView). memory_by (segments_of image) (files_by (first_desc 0x46494c45 ns))) notes
 
--- what is told of a core
+-- the IDs that are found are those of the whole core
 pub found_ids : (front image : List ℕ) (size : ℕ) (m : MappedFiles) (ids : List FrontId) → IsFrontOf front size image → notes_of Core front ≡ notes_of Core image → IsFoundOf front size (Some m) → AreIdsOf image m ids
     → Some (map id_view ids) ≡ told_of image
 unfolding told_of

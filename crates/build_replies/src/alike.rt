@@ -29,8 +29,8 @@ fn add_chosen<'a>(
     Ok(())
 }
 
-/// Those of mapped files that have one of these executables, used or not. What is chosen for them is what is chosen for all. The error is
-/// that there is no memory.
+/// Those of mapped files that have one of these executables, used or not. The choice for them equals the choice for all. The only error
+/// is that there is no memory.
 pub fn chosen_files<'a>(
     alloc: Global,
     files: &[FrontId<'a>],

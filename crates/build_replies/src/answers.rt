@@ -12,7 +12,7 @@ use crate::table::Table;
 use address_space::Attached;
 use std::alloc::{AllocError, Global};
 
-/// A mapped file, with the build ID of its front, and what it has of the executables that are stored.
+/// A mapped file, with the build ID of its front, and the stored executable that belongs to it.
 #[derive(Drop)]
 pub struct BuildAnswer<'a> {
     /// Its name, and the build ID of its front, as far as the core has it.
@@ -23,7 +23,7 @@ pub struct BuildAnswer<'a> {
     pub debug: Option<Attached<'a>>,
 }
 
-/// What is told of a mapped file. The error is that there is no memory.
+/// The answer for a mapped file. The only error is that there is no memory.
 fn answer<'a>(
     alloc: Global,
     table: &Table<'a>,
@@ -39,7 +39,7 @@ fn answer<'a>(
     })
 }
 
-/// What is told of these mapped files, with the executables that are stored. The error is that there is no memory.
+/// The answers for these mapped files, with the executables that are stored. The only error is that there is no memory.
 fn answers_of<'a>(
     alloc: Global,
     files: &[FrontId<'a>],
@@ -55,8 +55,8 @@ fn answers_of<'a>(
     Ok(rows)
 }
 
-/// What is told of the mapped files of a core, with the executables that are stored. `None` is a core without NT_FILE. The error is that
-/// there is no memory.
+/// The answers for the mapped files of a core, with the executables that are stored.
+/// `None` is a core without NT_FILE. The only error is that there is no memory.
 pub fn build_answers<'a>(
     alloc: Global,
     told: &Option<Vec<FrontId<'a>>>,

@@ -2,7 +2,7 @@
 ghost use Rattle.std.specs.Prelude.{◌≡◌, ℕ, List, Some, map};
 ghost use Rattle.std.specs.List.{flat_map};
 ghost use Rattle.std.specs.Option.{option_map};
-ghost use Rattle.script_streams.specs.Replies.{TellsReply, TellsText, telling};
+ghost use Rattle.script_streams.specs.Replies.{PrintsReply, PrintsText, printing};
 ghost use Rattle.address_space.specs.SpaceWords.{attached_view};
 ghost use Rattle.address_space.specs.Source.{ExecutableView};
 ghost use Rattle.image_replies.specs.CoreWords.{core_bytes};
@@ -14,40 +14,40 @@ ghost use Rattle.build_replies.specs.Mapped.{build_view, told_view};
 
 use crate::answers::{BuildAnswer, build_answers};
 use crate::ids::{FrontId, told_ids};
-use crate::used::{NumberedCase, tell_used};
+use crate::used::{NumberedCase, print_used};
 use crate::wanted::{WantedBuild, wanted_builds};
 use address_space::Attached;
 use image_replies::CoreImage;
 use memory_replies::Outcome;
-use script_streams::{Output, Reply, tell_no, tell_ok};
+use script_streams::{Output, Reply, print_no, print_ok};
 use std::alloc::Global;
 
-/// What a line asks of a core's mapped files.
+/// A line's question about a core's mapped files.
 #[derive(Clone, Copy, Debug)]
 pub enum BuildsAsked<'c> {
-    /// `NAME CORE STORED VERDICT` for each. CORE is the build ID of the front of the file, as far as the core has it. STORED is that of the
-    /// executable that is stored for the file, whether it is used or not. Each is `-` if there is none. VERDICT is `unknown` if one is
-    /// missing, else `same` or `differs`.
+    /// `NAME CORE STORED VERDICT` for each. CORE is the build ID of the front of the file, as far as
+    /// the core has it. STORED is that of the executable that is stored for the file, used or not.
+    /// Each is `-` if there is none. VERDICT is `unknown` if one is missing, else `same` or `differs`.
     Compared,
     /// `NAME CASE HOW DEBUG` for each. CASE is the number of the case whose executable is used for the file, among these, or `-`. HOW is
     /// `build`, `path`, `other` or `none`. DEBUG is the number of the case with its debug file, or `-`.
     Used(&'c [NumberedCase<'c>]),
-    /// `NAME ID` for each build that is wanted: the core tells its ID for a file, an executable can be stored by it, and none is used for
-    /// the file. Of several files of one build the first is told.
+    /// `NAME ID` for each build that is wanted: the core gives its ID for a file, an executable can be stored by it, and none is used for
+    /// the file. If several files have one build, the first is named.
     Wanted,
 }
 
-/// Tells an ID, or `-` where there is none.
-fn tell_id<O: Output>(reply: &mut Reply<'_, O>, id: Option<&[u8]>)
-    ensures { TellsText (telling O.Output reply.old reply.new) (spec.id_word (option_map (λ id. id.now) id.entry)) }
+/// Prints an ID, or `-` if there is no ID.
+fn print_id<O: Output>(reply: &mut Reply<'_, O>, id: Option<&[u8]>)
+    ensures { PrintsText (printing O.Output reply.old reply.new) (spec.id_word (option_map (λ id. id.now) id.entry)) }
 {
     match id {
-        Some(id) => reply.tell_hex(id),
-        None => reply.tell(b"-"),
+        Some(id) => reply.print_hex(id),
+        None => reply.print(b"-"),
     }
 }
 
-/// What two build IDs say: `unknown` where one is missing, else `same` or `differs`.
+/// The result of comparing two build IDs: `unknown` if one is missing, else `same` or `differs`.
 pub fn verdict(core: Option<&[u8]>, stored: Option<&[u8]>) -> &'static [u8]
     ensures { result.now ≡ spec.verdict (option_map (λ id. id.now) core.entry) (option_map (λ id. id.now) stored.entry) }
 {
@@ -58,101 +58,101 @@ pub fn verdict(core: Option<&[u8]>, stored: Option<&[u8]>) -> &'static [u8]
     }
 }
 
-/// Tells two IDs and what they say.
-fn tell_ids<O: Output>(reply: &mut Reply<'_, O>, core: Option<&[u8]>, stored: Option<&[u8]>)
-    ensures { TellsText (telling O.Output reply.old reply.new)
+/// Prints two IDs and the result of comparing them.
+fn print_ids<O: Output>(reply: &mut Reply<'_, O>, core: Option<&[u8]>, stored: Option<&[u8]>)
+    ensures { PrintsText (printing O.Output reply.old reply.new)
         (spec.ids_words (option_map (λ id. id.now) core.entry) (option_map (λ id. id.now) stored.entry)) }
 {
-    tell_id(reply, core);
-    reply.tell(b" ");
-    tell_id(reply, stored);
-    reply.tell(b" ");
-    reply.tell(verdict(core, stored));
+    print_id(reply, core);
+    reply.print(b" ");
+    print_id(reply, stored);
+    reply.print(b" ");
+    reply.print(verdict(core, stored));
 }
 
-/// Tells the line of a name.
+/// Prints the line of a name.
 #[tactic(auto, unfolding(crate::specs::Builds::build_line))]
-fn tell_line<O: Output>(reply: &mut Reply<'_, O>, row: &BuildAnswer<'_>)
-    ensures { TellsText (telling O.Output reply.old reply.new) (spec.build_line (build_view row.now)) }
+fn print_line<O: Output>(reply: &mut Reply<'_, O>, row: &BuildAnswer<'_>)
+    ensures { PrintsText (printing O.Output reply.old reply.new) (spec.build_line (build_view row.now)) }
 {
-    reply.tell_text(row.front.name);
-    reply.tell(b" ");
-    tell_ids(reply, row.front.id(), row.chosen.id());
-    reply.tell(b"\n");
+    reply.print_text(row.front.name);
+    reply.print(b" ");
+    print_ids(reply, row.front.id(), row.chosen.id());
+    reply.print(b"\n");
 }
 
-/// Tells a line for each name.
-fn tell_lines<O: Output>(reply: &mut Reply<'_, O>, rows: &[BuildAnswer<'_>])
-    ensures { TellsText (telling O.Output reply.old reply.new) (flat_map spec.build_line (map build_view rows.now)) }
+/// Prints a line for each name.
+fn print_lines<O: Output>(reply: &mut Reply<'_, O>, rows: &[BuildAnswer<'_>])
+    ensures { PrintsText (printing O.Output reply.old reply.new) (flat_map spec.build_line (map build_view rows.now)) }
 {
     for row in rows {
-        tell_line(reply, row);
+        print_line(reply, row);
     }
 }
 
-/// Tells the line of a build that is wanted.
+/// Prints the line of a build that is wanted.
 #[tactic(auto, unfolding(crate::specs::Builds::wants_line))]
-fn tell_wanted<O: Output>(reply: &mut Reply<'_, O>, wanted: &WantedBuild<'_>)
-    ensures { TellsText (telling O.Output reply.old reply.new) (spec.wants_line (wanted_view wanted.now)) }
+fn print_wanted<O: Output>(reply: &mut Reply<'_, O>, wanted: &WantedBuild<'_>)
+    ensures { PrintsText (printing O.Output reply.old reply.new) (spec.wants_line (wanted_view wanted.now)) }
 {
-    reply.tell_text(wanted.name);
-    reply.tell(b" ");
-    reply.tell_hex(wanted.id);
-    reply.tell(b"\n");
+    reply.print_text(wanted.name);
+    reply.print(b" ");
+    reply.print_hex(wanted.id);
+    reply.print(b"\n");
 }
 
-/// Tells a line for each of them.
-fn tell_each<O: Output>(reply: &mut Reply<'_, O>, wanted: &[WantedBuild<'_>])
-    ensures { TellsText (telling O.Output reply.old reply.new) (flat_map spec.wants_line (map wanted_view wanted.now)) }
+/// Prints a line for each of them.
+fn print_each<O: Output>(reply: &mut Reply<'_, O>, wanted: &[WantedBuild<'_>])
+    ensures { PrintsText (printing O.Output reply.old reply.new) (flat_map spec.wants_line (map wanted_view wanted.now)) }
 {
     for build in wanted {
-        tell_wanted(reply, build);
+        print_wanted(reply, build);
     }
 }
 
-/// Tells that there is no memory for the answer.
-fn tell_no_memory<O: Output>(reply: &mut Reply<'_, O>) -> Outcome
-    ensures { (answer : _) → TellsReply (telling O.Output reply.old reply.new) (AnswersWith result answer) }
+/// Prints that there is no memory for the answer.
+fn print_no_memory<O: Output>(reply: &mut Reply<'_, O>) -> Outcome
+    ensures { (answer : _) → PrintsReply (printing O.Output reply.old reply.new) (AnswersWith result answer) }
 {
-    tell_no(reply, b"OutOfMemory");
+    print_no(reply, b"OutOfMemory");
     Outcome::OutOfMemory
 }
 
-/// Tells the reply of a core, by what is told of its mapped files. Says what became of it.
-fn tell_rows<O: Output>(
+/// Prints the reply for a core, from the answers for its mapped files. Returns the outcome.
+fn print_rows<O: Output>(
     alloc: Global,
     reply: &mut Reply<'_, O>,
     rows: &[BuildAnswer<'_>],
     asked: BuildsAsked<'_>,
 ) -> Outcome
     ensures { (image : List ℕ) (xs : List ExecutableView) → spec.builds_of image xs ≡ Some (map build_view rows.now)
-        → TellsReply (telling O.Output reply.old reply.new) (AnswersWith result (spec.builds_answer (asking_view asked.entry) image xs)) }
+        → PrintsReply (printing O.Output reply.old reply.new) (AnswersWith result (spec.builds_answer (asking_view asked.entry) image xs)) }
 {
     match asked {
         BuildsAsked::Compared => {
-            tell_lines(reply, rows);
-            tell_ok(reply);
+            print_lines(reply, rows);
+            print_ok(reply);
             Outcome::Done
         }
         BuildsAsked::Used(cases) => {
-            tell_used(reply, cases, rows);
-            tell_ok(reply);
+            print_used(reply, cases, rows);
+            print_ok(reply);
             Outcome::Done
         }
         BuildsAsked::Wanted => match wanted_builds(alloc, rows) {
             Ok(wanted) => {
-                tell_each(reply, &wanted);
-                tell_ok(reply);
+                print_each(reply, &wanted);
+                print_ok(reply);
                 Outcome::Done
             }
-            Err(_) => tell_no_memory(reply),
+            Err(_) => print_no_memory(reply),
         },
     }
 }
 
-/// Tells what is asked of a core that tells these mapped files, with the executables that are stored: a line for each name of NT_FILE, at
-/// its first place. A core without NT_FILE is answered by `no Missing`. Says what became of it.
-pub fn tell_told<O: Output>(
+/// Prints the answer to the question about a core with these mapped files, with the executables that are stored: a line for each name of
+/// NT_FILE, at its first place. A core without NT_FILE is answered by `no Missing`. Returns the outcome.
+pub fn print_told<O: Output>(
     alloc: Global,
     reply: &mut Reply<'_, O>,
     told: &Option<Vec<FrontId<'_>>>,
@@ -160,31 +160,31 @@ pub fn tell_told<O: Output>(
     asked: BuildsAsked<'_>,
 ) -> Outcome
     ensures { (image : List ℕ) → told_of image ≡ told_view told.now
-        → TellsReply (telling O.Output reply.old reply.new) (AnswersWith result (spec.builds_answer (asking_view asked.entry) image (map attached_view stored.now))) }
+        → PrintsReply (printing O.Output reply.old reply.new) (AnswersWith result (spec.builds_answer (asking_view asked.entry) image (map attached_view stored.now))) }
 {
     match build_answers(alloc, told, stored) {
-        Ok(Some(rows)) => tell_rows(alloc, reply, &rows, asked),
+        Ok(Some(rows)) => print_rows(alloc, reply, &rows, asked),
         Ok(None) => {
-            tell_no(reply, b"Missing");
+            print_no(reply, b"Missing");
             Outcome::Refused
         }
-        Err(_) => tell_no_memory(reply),
+        Err(_) => print_no_memory(reply),
     }
 }
 
 /// The same of a core of which all bytes are at hand.
-pub fn tell_builds<O: Output>(
+pub fn print_builds<O: Output>(
     alloc: Global,
     reply: &mut Reply<'_, O>,
     core: &CoreImage<'_>,
     stored: &[Attached<'_>],
     asked: BuildsAsked<'_>,
 ) -> Outcome
-    ensures { TellsReply (telling O.Output reply.old reply.new)
+    ensures { PrintsReply (printing O.Output reply.old reply.new)
         (AnswersWith result (spec.builds_answer (asking_view asked.entry) (core_bytes core.now) (map attached_view stored.now))) }
 {
     match told_ids(alloc, core) {
-        Ok(told) => tell_told(alloc, reply, &told, stored, asked),
-        Err(_) => tell_no_memory(reply),
+        Ok(told) => print_told(alloc, reply, &told, stored, asked),
+        Err(_) => print_no_memory(reply),
     }
 }

@@ -15,20 +15,20 @@ use build_ids::{build_id, build_name, debug_id, debug_name, has_name, is_debug};
 use elf_view::{Elf, Want};
 use std::alloc::{AllocError, Global};
 
-/// What a mapped file has of the executables that are stored.
+/// The stored executable that belongs to a mapped file.
 #[derive(Clone, Copy, Debug)]
 pub enum ChosenFile<'a> {
     /// The one that is stored under the name of its build.
     ByBuild(Attached<'a>),
     /// The one under its path, which is of its build, or may be.
     ByPath(Attached<'a>),
-    /// The one under its path, which is not used: it is of another build, has no build ID though the core tells one, or is a debug file.
+    /// The one under its path, which is not used: it is of another build, has no build ID though the core gives one, or is a debug file.
     Other(Attached<'a>),
     /// None.
     Nothing,
 }
 
-/// Whether an image has the build ID that a core tells for a file, if it tells one.
+/// Whether an image has the build ID that a core gives for a file, if it gives one.
 fn has_told_id(id: Option<&[u8]>, image: &[u8]) -> bool
     ensures { result ≡ spec.has_told_id (option_map (λ id. id.now) id.entry) image.now }
 {
@@ -48,7 +48,7 @@ fn is_executable(image: &[u8]) -> bool
     Elf::read(image, Want::Exec).is_ok()
 }
 
-/// Whether an image may be the file that was mapped, for which a core tells that build ID, or none.
+/// Whether an image may be the file that was mapped, for which a core gives that build ID, or gives none.
 #[tactic(auto, unfolding(crate::specs::ByBuild::agrees))]
 fn agrees(id: Option<&[u8]>, image: &[u8]) -> bool
     ensures { result ≡ spec.agrees (option_map (λ id. id.now) id.entry) image.now }
@@ -72,7 +72,7 @@ fn build_stored<'a>(stored: &Table<'a>, id: Option<&[u8]>) -> Option<Attached<'a
     }
 }
 
-/// Where one belongs that is stored under the path of the file.
+/// The place of an executable that is stored under the path of the file.
 fn by_its_path<'a>(id: Option<&[u8]>, executable: Option<Attached<'a>>) -> ChosenFile<'a>
     ensures { chosen_view result ≡ spec.by_its_path (option_map (λ id. id.now) id.entry) (option_map attached_view executable.entry) }
 {
@@ -84,7 +84,7 @@ fn by_its_path<'a>(id: Option<&[u8]>, executable: Option<Attached<'a>>) -> Chose
 }
 
 impl<'a> ChosenFile<'a> {
-    /// What a mapped file has of these.
+    /// The one of these that belongs to a mapped file.
     #[tactic(auto, unfolding(crate::specs::ByBuild::chosen))]
     pub(crate) fn for_file(stored: &Table<'a>, file: &FrontId<'_>) -> ChosenFile<'a>
         ensures { chosen_view result ≡ spec.chosen (table_rows stored.now) (id_view file.now).1 (id_view file.now).0 }
@@ -126,7 +126,7 @@ impl<'a> ChosenFile<'a> {
         }
     }
 
-    /// By what it is chosen: `build`, `path`, `other` or `none`.
+    /// The word for the way in which it was chosen: `build`, `path`, `other` or `none`.
     pub fn how(self) -> &'static [u8]
         ensures { result.now ≡ spec.how_word (chosen_view self.entry) }
     {
@@ -182,7 +182,7 @@ pub(crate) fn debug_of<'a>(stored: &Table<'a>, chosen: ChosenFile<'_>) -> Option
 pub struct ChosenExecutables<'a> {
     /// Those that are used.
     pub used: Vec<Attached<'a>>,
-    /// Those that are stored under the path and not used: the core tells a build ID for the file, and they have another, or none; or they
+    /// Those that are stored under the path and not used: the core gives a build ID for the file, and they have another, or none; or they
     /// are debug files.
     pub others: Vec<Attached<'a>>,
     /// The debug files of those that are used.
@@ -203,7 +203,7 @@ impl<'a> ChosenExecutables<'a> {
         }
     }
 
-    /// Puts a debug file where it belongs, under the name of the mapped file. The error is that there is no memory.
+    /// Puts a debug file where it belongs, under the name of the mapped file. The only error is that there is no memory.
     fn add_debug(&mut self, path: &'a [u8], debug: Option<Attached<'a>>) -> Result<(), AllocError>
         ensures { OnOk result (choice_view self.new ≡ with_debug path.entry.now (option_map attached_view debug.entry) (choice_view self.old)) }
     {
@@ -213,7 +213,8 @@ impl<'a> ChosenExecutables<'a> {
         Ok(())
     }
 
-    /// Puts what a mapped file has where it belongs, under the file's name. The error is that there is no memory.
+    /// Adds the choice for a mapped file to the list where it belongs,
+    /// under the file's name. The only error is that there is no memory.
     fn add(&mut self, path: &'a [u8], chosen: ChosenFile<'a>) -> Result<(), AllocError>
         ensures { OnOk result (choice_view self.new ≡ with_chosen path.entry.now (chosen_view chosen.entry) (choice_view self.old)) }
     {
@@ -230,7 +231,8 @@ impl<'a> ChosenExecutables<'a> {
         Ok(())
     }
 
-    /// What is chosen for these mapped files of the executables that are stored. The error is that there is no memory.
+    /// The choice for these mapped files among the executables that
+    /// are stored. The only error is that there is no memory.
     pub fn of(
         alloc: Global,
         files: &[FrontId<'a>],

@@ -32,7 +32,8 @@ fn owned(alloc: Global, id: Option<&[u8]>) -> Result<Option<Vec<u8>>, AllocError
 impl<'a> FrontId<'a> {
     ghost use Rattle.std.specs.Prelude.{List, ℕ};
 
-    /// The build ID of the front of the file of that name, or `None` where it has none. The error is that there is no memory.
+    /// The build ID of the front of the file of that name, or `None`
+    /// if it has none. The only error is that there is no memory.
     pub fn new(alloc: Global, name: &'a [u8], id: Option<&[u8]>) -> Result<FrontId<'a>, AllocError>
         ensures { IfOk result (λ front. id_view front ≡ (name.entry.now, option_map (λ id. id.now) id.entry)) }
     {

@@ -19,7 +19,7 @@ mod wanted;
 
 pub use alike::{are_same_files, chosen_files};
 pub use answers::{BuildAnswer, build_answers};
-pub use builds::{BuildsAsked, tell_builds, tell_told, verdict};
+pub use builds::{BuildsAsked, print_builds, print_told, verdict};
 pub use choosing::{ChosenExecutables, ChosenFile};
 pub use ids::{FrontId, listed, told_ids};
 pub use mapped::MappedFiles;

@@ -31,7 +31,7 @@ impl<'a> MappedFiles<'a> {
     ) -> Result<MappedFiles<'a>, AllocError>
         ensures { IfOk result (HasFiles (core_bytes core.now) size (files_of (files_bytes files.now))) }
     {
-        // No executable is attached: the core is asked what it has.
+        // No executable is attached: only the core's own bytes are wanted.
         let space = space_with(alloc, core, &[])?;
         Ok(MappedFiles {
             names: names(alloc, files)?,

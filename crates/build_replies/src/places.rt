@@ -1,4 +1,4 @@
-// Where a core's image has the fronts of its mapped files.
+// The places of the fronts of its mapped files in a core's image.
 ghost use Rattle.std.specs.Prelude.{◌≡◌, ◌++◌, ◌∷◌, [], ℕ, List, IfOk, IfSome, Some, OnOk, find, map, slice_get};
 ghost use Rattle.std.specs.Option.{option_map};
 ghost use Rattle.elf_view.specs.Field.{part};
@@ -18,7 +18,7 @@ use address_space::{AddressSpace, ByPath, Stretch, StretchKind};
 use core_notes::{FileMap, Files};
 use std::alloc::{AllocError, Global};
 
-/// The place of what a core has of the front of a mapped file.
+/// The place of the front of a mapped file, as far as the core has it.
 #[derive(Clone, Copy, Debug)]
 pub struct FrontPlace<'a> {
     /// The file's name.
@@ -42,7 +42,7 @@ pub struct FrontPlaces<'a> {
     ghost within: { (k : ℕ) (place : FrontPlace) → slice_get list.items k ≡ Some place → EndsWithin size place },
 }
 
-/// The place of what an image has of a file of that name, if that is a stretch.
+/// The place of the front of a file of that name in the core's image, if the core has these bytes.
 fn place_of<'a>(path: &'a [u8], stretch: &Stretch<'_>) -> FrontPlace<'a>
     ensures front { (image : List ℕ) → front_in image result ≡ front_by path.now (spec.bytes_of (shown_in image stretch.now.length stretch.now.kind)) }
     ensures within { (size : ℕ) → IsWithin 0 size stretch.now.length stretch.now.kind → EndsWithin size result }
@@ -73,7 +73,7 @@ fn no_front(path: &[u8]) -> FrontPlace<'_>
     }
 }
 
-/// The place of what a core has of the front of a file that is mapped so. Its image has `size` bytes.
+/// The place of the front of a file that is mapped so, as far as the core has it. Its image has `size` bytes.
 fn front_of<'a>(space: &AddressSpace<'a>, size: u64, map: FileMap<'a>) -> FrontPlace<'a>
     ensures front { (image : List ℕ) → IsFrontOf (core_of space.now) size image
         → front_in image result ≡ spec.front_of (space_in image (space_of space.now)) (file_view map.entry) }
@@ -152,7 +152,7 @@ impl<'a> FrontPlaces<'a> {
         }
     }
 
-    /// The place of the front of that name that counts: the first. If there is none, it has no bytes.
+    /// The front of that name that counts: the first. If there is none, it has no bytes.
     pub fn front(&self, name: &'a [u8]) -> FrontPlace<'a>
         ensures path { result.path ≡ name.entry }
         ensures id { (image : List ℕ) → build_id_of (part image result.start result.count) ≡ spec.id_named (fronts_in image self.now) name.entry.now }

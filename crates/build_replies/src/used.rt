@@ -4,7 +4,7 @@ ghost use Rattle.std.specs.List.{flat_map};
 ghost use Rattle.std.specs.Option.{option_map};
 ghost use Rattle.std.specs.Str.{bytes_eq};
 ghost use Rattle.address_space.specs.SpaceWords.{attached_view};
-ghost use Rattle.script_streams.specs.Replies.{TellsText, telling};
+ghost use Rattle.script_streams.specs.Replies.{PrintsText, printing};
 ghost use Rattle.build_replies.specs.Builds as spec;
 ghost use Rattle.build_replies.specs.BuildsWords.{numbered_view};
 ghost use Rattle.build_replies.specs.ChoosingWords.{chosen_view};
@@ -55,40 +55,44 @@ fn case_used(cases: &[NumberedCase<'_>], chosen: ChosenFile<'_>) -> Option<u32>
     case_of_file(cases, chosen.used())
 }
 
-/// Tells a number, or `-`.
-fn tell_number<O: Output>(reply: &mut Reply<'_, O>, number: Option<u32>)
-    ensures { TellsText (telling O.Output reply.old reply.new) (spec.number_word number) }
+/// Prints a number, or `-`.
+fn print_number<O: Output>(reply: &mut Reply<'_, O>, number: Option<u32>)
+    ensures { PrintsText (printing O.Output reply.old reply.new) (spec.number_word number) }
 {
     match number {
-        Some(number) => reply.tell_decimal(u128::from(number)),
-        None => reply.tell(b"-"),
+        Some(number) => reply.print_decimal(u128::from(number)),
+        None => reply.print(b"-"),
     }
 }
 
-/// Tells the line of a name.
+/// Prints the line of a name.
 #[tactic(auto, unfolding(crate::specs::Builds::used_line))]
-fn tell_line<O: Output>(reply: &mut Reply<'_, O>, cases: &[NumberedCase<'_>], row: &BuildAnswer<'_>)
-    ensures { TellsText (telling O.Output reply.old reply.new) (spec.used_line (map numbered_view cases.now) (build_view row.now)) }
+fn print_line<O: Output>(
+    reply: &mut Reply<'_, O>,
+    cases: &[NumberedCase<'_>],
+    row: &BuildAnswer<'_>,
+)
+    ensures { PrintsText (printing O.Output reply.old reply.new) (spec.used_line (map numbered_view cases.now) (build_view row.now)) }
 {
-    reply.tell_text(row.front.name);
-    reply.tell(b" ");
-    tell_number(reply, case_used(cases, row.chosen));
-    reply.tell(b" ");
-    reply.tell(row.chosen.how());
-    reply.tell(b" ");
-    tell_number(reply, case_of_file(cases, row.debug));
-    reply.tell(b"\n");
+    reply.print_text(row.front.name);
+    reply.print(b" ");
+    print_number(reply, case_used(cases, row.chosen));
+    reply.print(b" ");
+    reply.print(row.chosen.how());
+    reply.print(b" ");
+    print_number(reply, case_of_file(cases, row.debug));
+    reply.print(b"\n");
 }
 
-/// Tells a line for each name.
-pub(crate) fn tell_used<O: Output>(
+/// Prints a line for each name.
+pub(crate) fn print_used<O: Output>(
     reply: &mut Reply<'_, O>,
     cases: &[NumberedCase<'_>],
     rows: &[BuildAnswer<'_>],
 )
-    ensures { TellsText (telling O.Output reply.old reply.new) (flat_map (spec.used_line (map numbered_view cases.now)) (map build_view rows.now)) }
+    ensures { PrintsText (printing O.Output reply.old reply.new) (flat_map (spec.used_line (map numbered_view cases.now)) (map build_view rows.now)) }
 {
     for row in rows {
-        tell_line(reply, cases, row);
+        print_line(reply, cases, row);
     }
 }

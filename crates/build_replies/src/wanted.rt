@@ -1,4 +1,4 @@
-// The builds that a core wants: it tells their IDs for mapped files that no executable is used for.
+// The builds that a core wants: it gives their IDs for mapped files that no executable is used for.
 ghost use Rattle.std.specs.Prelude.{◌≡◌, IfOk, OnOk, map};
 ghost use Rattle.std.specs.Option.{option_map};
 ghost use Rattle.build_replies.specs.Builds as spec;
@@ -36,7 +36,7 @@ fn wanted_of<'r>(row: &'r BuildAnswer<'_>) -> Option<WantedBuild<'r>>
     }
 }
 
-/// Puts a build after the others, if it is none of them. `ids` has their IDs. The error is that there is no memory.
+/// Appends a build, if it is not among the others. `ids` has their IDs. The only error is that there is no memory.
 fn add<'r>(
     ids: &mut Table<'r>,
     builds: &mut Vec<WantedBuild<'r>>,

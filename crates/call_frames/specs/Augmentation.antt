@@ -1,5 +1,4 @@
--- The augmentation of a CIE (LSB Core, "The Common Information Entry Format"): a string that tells what the augmentation
--- data are.
+-- The augmentation of a CIE (LSB Core, "The Common Information Entry Format"): a string that says which augmentation data there are.
 use Rattle.std.specs.Prelude.{ℕ, ◌+◌, ◌/◌, ◌%◌, ◌==◌, ◌&&◌, ◌||◌, not, nat_le, nat_lt, if◌then◌else◌, Bool, true, List, [], ◌∷◌, length, take, drop, slice_index, Option, None, Some, is_none}
 use Rattle.std.specs.Option.{option_and_then, option_map}
 use Rattle.std.specs.List.{position, list_any}
@@ -10,7 +9,7 @@ use Rattle.call_frames.specs.Pointers.{width_of}
 abbrev pub is_letter : ℕ → Bool
 is_letter x = x == 82 || x == 80 || x == 76 || x == 83
 
--- a letter that is none of those after it
+-- a letter that does not occur after it
 unfoldable pub is_new_letter : ℕ → List ℕ → Bool
 is_new_letter x xs = is_letter x && not (list_any (λ y. y == x) xs)
 
@@ -65,7 +64,8 @@ letter_size x bytes =
 abbrev pub encoding_with : ℕ → List ℕ → ℕ → ℕ
 encoding_with x bytes e = if x == 82 then slice_index bytes 0 else e
 
--- The data of the letters follow one another; what is left of them is passed over. The encoding of the FDEs' pointers is that of R, if it is one of the letters.
+-- The data of the letters follow one another; the rest of the augmentation data is
+-- ignored. The encoding of the FDEs' pointers is that of R, if it is one of the letters.
 unfoldable pub encoding_among : ℕ → List ℕ → List ℕ → Option ℕ
 encoding_among e [] bytes = Some e
 encoding_among e (x ∷ xs) bytes =

@@ -1,13 +1,13 @@
--- Fields that are read one after another: the first that is not there is at fault.
+-- Fields that are read one after another: the first that is missing is the bad one.
 use Rattle.std.specs.Prelude.{Option, None, Some, Result, Ok, Err}
 use Rattle.call_frames.specs.declared.faults.CfiField.{CfiField}
 
--- a field that is to be there, and what follows it
+-- a field that must be there, and the fields that follow it
 abbrev pub checked : {A B : Type 0} → Option A → CfiField → (A → Result B CfiField) → Result B CfiField
 checked None f next = Err f
 checked (Some x) f next = next x
 
--- fields that are to be sound, and what follows them
+-- fields that must be sound, and the fields that follow them
 abbrev pub and_then : {A B : Type 0} → Result A CfiField → (A → Result B CfiField) → Result B CfiField
 and_then (Ok x) next = next x
 and_then (Err f) next = Err f

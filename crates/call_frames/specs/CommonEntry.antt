@@ -64,7 +64,7 @@ factors_in version bytes =
     checked (column_in version align.1) fields.ReturnColumn (λ column.
     Ok (record { code_align = code.0; data_align = align.0; column = column.0; rest = column.1 }))))
 
--- the encoding of the FDEs' pointers, 0 if none is told, and the bytes after the augmentation data
+-- the encoding of the FDEs' pointers, 0 if the data do not have it, and the bytes after the augmentation data
 pub record DataView : Type 0 where
   pub encoding : ℕ
   pub rest : List ℕ
@@ -76,7 +76,7 @@ data_in (z ∷ letters) bytes =
     checked (encoding_among 0 letters parts.0) fields.Encoding (λ e.
     Ok (record { encoding = e; rest = parts.1 })))
 
--- what a CIE tells
+-- the fields of a CIE
 pub record CieView : Type 0 where
   pub code_align : ℕ
   pub data_align : ℕ

@@ -1,4 +1,4 @@
--- What the code's parts of a CIE mean.
+-- The meaning of the code's parts of a CIE.
 use Rattle.call_frames.specs.CommonEntry.{HeadView, FactorsView, DataView, CieView}
 use Rattle.call_frames.specs.declared.common.Head.{Head}
 use Rattle.call_frames.specs.declared.common.Factors.{Factors}

@@ -12,11 +12,11 @@ covers v e = nat_le e.begin v && nat_lt v (e.begin + e.range)
 abbrev pub first_covering : ℕ → TableView → Option EntryView
 first_covering v t = find (covers v) (entries_of t)
 
--- what of an FDE is kept, to find it by an address
+-- the part of an FDE that is kept, to find it by an address
 abbrev pub span_of : EntryView → Span
 span_of e = record { begin = e.begin; range = e.range; spot = record { index = e.index; place = e.place } }
 
--- the same of what is kept
+-- the same of the kept part
 abbrev pub is_covering : ℕ → Span → Bool
 is_covering v s = nat_le s.begin v && nat_lt v (s.begin + s.range)
 
@@ -34,11 +34,11 @@ abbrev pub earliest : ℕ → List Span → Option Span
 earliest v [] = None
 earliest v (s ∷ ss) = earliest_with v s (earliest v ss)
 
--- the last address that one covers, the greatest of all if it passes that
+-- the last address that one covers, or the highest of all addresses if it passes that
 abbrev pub last_of : Span → ℕ
 last_of s = min (s.begin + (s.range - 1)) (2 ^ 64 - 1)
 
--- of each the greatest last address among it, those before it, and one given
+-- for each the highest last address among it, those before it, and a given one
 abbrev pub greatest_ends : ℕ → List Span → List ℕ
 greatest_ends m [] = []
 greatest_ends m (s ∷ ss) = max (last_of s) m ∷ greatest_ends (max (last_of s) m) ss

@@ -23,7 +23,7 @@ pub record TableView : Type 0 where
 abbrev pub told_length : List ℕ → ℕ
 told_length rest = field rest 0 4
 
--- the entry at the front of what is left of a table is all there
+-- the entry at the front of the rest of a table is complete
 abbrev pub is_whole : List ℕ → Bool
 is_whole rest =
     nat_le 4 (length rest) && nat_lt (told_length rest) 0xfffffff0 && nat_le (4 + told_length rest) (length rest)
@@ -45,8 +45,8 @@ cie_id DebugFrame = 0xffffffff
 unfoldable pub is_cie : Format → List ℕ → Bool
 is_cie format body = id_of body == cie_id format
 
--- Where the CIE of an FDE at place p begins: in .eh_frame the CIE_pointer tells how far it is before the CIE_pointer's own
--- place, in .debug_frame where it is.
+-- The place at which the CIE of an FDE at place p begins: in .eh_frame the CIE_pointer is its distance back from the CIE_pointer's own
+-- place, in .debug_frame it is the place itself.
 abbrev pub cie_place : Format → ℕ → ℕ → Option ℕ
 cie_place EhFrame p id = if nat_le id (p + 4) then Some (p + 4 - id) else None
 cie_place DebugFrame p id = Some id
@@ -76,7 +76,7 @@ pub record EntryView : Type 0 where
 abbrev pub begin_address : TableView → ℕ → ℕ
 begin_address t p = (t.address + (p + 8)) % 2 ^ 64
 
--- the bytes after the augmentation data, if the CIE tells of some
+-- the bytes after the augmentation data, if the CIE says that there are some
 unfoldable pub behind_data : Bool → List ℕ → Option (List ℕ)
 behind_data augmented bytes = if augmented then option_map (λ (parts : List ℕ × List ℕ). parts.1) (sized bytes) else Some bytes
 
@@ -95,7 +95,7 @@ fde_in t s body =
       cie = cie;
     })))))
 
--- a CIE, which is no FDE, or an FDE; or the field at fault
+-- a CIE, which is no FDE, or an FDE; or the bad field
 abbrev pub entry_in : TableView → Spot → List ℕ → Result (Option EntryView) CfiField
 entry_in t s body =
     if is_cie t.format body then and_then (cie_in t.format (drop 4 body)) (λ cie. Ok None)

@@ -1,4 +1,4 @@
--- The FDE that describes an address of an image, or why there is none.
+-- The FDE that describes an address of an image, or why there isn't one.
 use Rattle.std.specs.Prelude.{ℕ, List, Option, None, Some, Result, Ok, Err}
 use Rattle.std.specs.Option.{option_or}
 use Rattle.call_frames.specs.Covering.{first_covering}

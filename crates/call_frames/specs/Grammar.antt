@@ -11,7 +11,7 @@ pub record IsLeb (text : List ℕ) : Type 0 where
   pub goes_on : (k : ℕ) → k + 1 < length text → 128 ≤ slice_index text k
   pub ends : slice_index text (length text - 1) < 128
 
--- a ULEB128 at the front of some bytes: its text, its number, and what is after it
+-- a ULEB128 at the front of some bytes: its text, its number, and the bytes after it
 pub record IsUnsigned (bytes : List ℕ) (n : ℕ) (rest : List ℕ) : Type 0 where
   pub text : List ℕ
   pub leb : IsLeb text
@@ -19,7 +19,8 @@ pub record IsUnsigned (bytes : List ℕ) (n : ℕ) (rest : List ℕ) : Type 0 wh
   pub number : groups text ≡ n
   pub small : n < 2 ^ 64
 
--- The entries of a table from place p on, the first of which has number i. There is none if the walk ends; else one is there, and the others are those from its end on.
+-- The entries of a table from place p on, the first of which has number i. There are no entries if the walk ends; else one is there, and the others
+-- are those from its end on.
 abbrev pub IsWalk : List ℕ → ℕ → ℕ → List Spot → Type 0
 IsWalk bytes p i [] = is_end (drop p bytes) ≡ true
 IsWalk bytes p i (s ∷ ss) =

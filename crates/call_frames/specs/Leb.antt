@@ -24,7 +24,7 @@ unsigned text = if nat_lt (groups text) (2 ^ 64) then Some (groups text) else No
 abbrev pub is_negative : List ℕ → Bool
 is_negative text = nat_le 64 (slice_index text (length text - 1))
 
--- how far a negative number of n groups is below 0: its groups are its two's complement in 7 * n bits
+-- the distance of a negative number of n groups from 0: its groups are its two's complement in 7 * n bits
 abbrev pub below_zero : List ℕ → ℕ
 below_zero text = 2 ^ (7 * length text) - groups text
 
@@ -44,7 +44,7 @@ uleb bytes = option_and_then (with_behind unsigned) (split_leb bytes)
 unfoldable pub sleb : List ℕ → Option (ℕ × List ℕ)
 sleb bytes = option_and_then (with_behind signed) (split_leb bytes)
 
--- as many bytes as a ULEB128 in front of them tells, and those after them
+-- as many bytes as a ULEB128 in front of them says, and those after them
 abbrev pub split_sized : ℕ × List ℕ → Option (List ℕ × List ℕ)
 split_sized n = if nat_le n.0 (length n.1) then Some (take n.0 n.1, drop n.0 n.1) else None
 

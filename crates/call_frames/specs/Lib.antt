@@ -12,7 +12,7 @@ pub mod Walk
 pub mod WalkWords
 pub mod Covering
 pub mod Tables
-pub mod Compressed
+pub mod Unread
 pub mod Finding
 pub mod FindingWords
 pub mod Grammar

@@ -1,5 +1,5 @@
--- Encoded pointers (LSB Core, "DWARF Exception Header Encoding"). The low four bits of an encoding tell how many bytes a
--- pointer has and whether they are signed; the bits above tell what it is relative to.
+-- Encoded pointers (LSB Core, "DWARF Exception Header Encoding"). The low four bits of an encoding say how many bytes a pointer has and
+-- whether they are signed; the bits above say to which address it is relative.
 use Rattle.std.specs.Prelude.{ℕ, ◌+◌, ◌-◌, ◌*◌, ◌/◌, ◌%◌, ◌^◌, ◌==◌, ◌||◌, nat_le, if◌then◌else◌, Bool, List, length, drop, Option, None, Some}
 use Rattle.std.specs.Option.{option_and_then}
 use Rattle.elf_view.specs.Field.{field}
@@ -31,7 +31,7 @@ extended w v = if nat_le (2 ^ (8 * w - 1)) v then v + (2 ^ 64 - 2 ^ (8 * w)) els
 unfoldable pub number_of : ℕ → ℕ → List ℕ → ℕ
 number_of encoding w bytes = if is_signed encoding then extended w (field bytes 0 w) else field bytes 0 w
 
--- what a pointer whose first byte has address a points to, modulo 2^64
+-- the target of a pointer whose first byte has address a, modulo 2^64
 unfoldable pub target : ℕ → ℕ → ℕ → ℕ
 target encoding a v = if is_relative encoding then (v + a) % 2 ^ 64 else v
 

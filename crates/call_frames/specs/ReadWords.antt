@@ -1,4 +1,4 @@
--- What the code's numbers and stretches, with the bytes after them, mean.
+-- The meaning of the code's numbers and ranges, with the bytes after them.
 use Rattle.std.specs.Prelude.{ℕ}
 use Rattle.call_frames.specs.declared.pointers.Width.{Width}
 use Rattle.call_frames.specs.declared.pointers.Width.TheVariants.{Two, Four, Eight}

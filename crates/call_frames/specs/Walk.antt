@@ -6,7 +6,7 @@ use Rattle.call_frames.specs.declared.faults.CfiFault.{CfiFault}
 use Rattle.call_frames.specs.declared.faults.CfiField.{CfiField}
 use Rattle.call_frames.specs.declared.spots.Spot.{Spot}
 
--- no entry is at the front of what is left: nothing is left, or a length of 0
+-- no entry is at the front of the rest: it is empty, or begins with a length of 0
 unfoldable pub is_end : List ℕ → Bool
 is_end rest = length rest == 0 || (nat_le 4 (length rest) && told_length rest == 0)
 
@@ -14,7 +14,7 @@ is_end rest = length rest == 0 || (nat_le 4 (length rest) && told_length rest ==
 unfoldable pub entry_len : List ℕ → ℕ
 entry_len rest = if is_whole rest then 4 + told_length rest else length rest
 
--- The spots of the entries in what is left of a table from place p on, where the first begins k places on and has number i.
+-- The spots of the entries in the rest of a table from place p on, if the first begins k places on and has number i.
 unfoldable pub spots_past : ℕ → ℕ → ℕ → List ℕ → List Spot
 spots_past k i p [] = []
 spots_past zero i p (x ∷ xs) =

@@ -1,4 +1,4 @@
--- What the code's iterators over spots and entries mean.
+-- The meaning of the code's iterators over spots and entries.
 use Rattle.std.specs.Prelude.{List, drop}
 use Rattle.call_frames.specs.Entry.{EntryView}
 use Rattle.call_frames.specs.EntryWords.{table_view}

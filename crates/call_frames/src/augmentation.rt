@@ -18,7 +18,7 @@ fn is_letter(letter: u8) -> bool
     matches!(letter, b'R' | b'P' | b'L' | b'S')
 }
 
-/// Whether a letter is known, and none of those after it.
+/// Whether a letter is known, and does not occur after it.
 #[tactic(auto, unfolding(crate::specs::Augmentation::is_new_letter))]
 fn is_new_letter(letter: u8, others: &[u8]) -> bool
     ensures { result ≡ spec.is_new_letter letter others.now }

@@ -18,12 +18,12 @@ pub(crate) enum Format {
     DebugFrame,
 }
 
-/// What a CIE tells of the FDEs that belong to it.
+/// The fields of a CIE for the FDEs that belong to it.
 #[derive(Clone, Copy, Debug)]
 pub struct Cie<'a> {
-    /// code_alignment_factor: what advances of the location are multiples of.
+    /// code_alignment_factor: advances of the location are multiples of it.
     pub code_align: u64,
-    /// data_alignment_factor: what offsets are multiples of. It is signed, and is given modulo 2^64.
+    /// data_alignment_factor: offsets are multiples of it. It is signed, and is given modulo 2^64.
     pub data_align: u64,
     /// return_address_register: the column of the return address, 1 to 31 for x1 to x31.
     pub column: u8,
@@ -165,7 +165,7 @@ impl<'a> Factors<'a> {
 impl<'a> Data<'a> {
     ghost use Rattle.call_frames.specs.CommonWords.{data_view};
 
-    /// The augmentation data at the front, if an augmentation string tells of some.
+    /// The augmentation data at the front, if an augmentation string says that there are some.
     #[tactic(auto, unfolding(crate::specs::CommonEntry::data_in))]
     fn read(text: &[u8], bytes: &'a [u8]) -> Result<Data<'a>, CfiField>
         ensures { viewed data_view result ≡ spec.data_in text.now bytes.now }

@@ -29,7 +29,7 @@ pub(crate) struct Table<'a> {
 pub struct Entry<'a> {
     /// Its number among the entries of its section, from 0 on.
     pub index: u64,
-    /// Where it begins in its section.
+    /// The place at which it begins in its section.
     pub(crate) place: usize,
     /// initial_location: the first address that it describes.
     pub begin: u64,
@@ -81,7 +81,7 @@ fn is_cie(format: Format, body: &[u8]) -> bool
     }
 }
 
-/// Where the CIE of the FDE at a place begins.
+/// The place at which the CIE of the FDE at a place begins.
 fn cie_place(format: Format, place: usize, id: u32) -> Option<usize>
     requires { place + 4 ≤ usize.MAX }
     ensures { result ≡ spec.cie_place format place id }

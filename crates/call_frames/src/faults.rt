@@ -1,4 +1,4 @@
-// Why an entry of call frame information is left out, and why none is found.
+// Why an entry of call frame information is left out, and why no entry is found.
 ghost use Rattle.std.specs.Prelude.{◌≡◌};
 ghost use Rattle.call_frames.specs.FieldNames as names;
 
@@ -29,7 +29,7 @@ pub enum CfiField {
     AugmentationLength,
     /// A part of a CIE's augmentation data does not fit, or is a pointer encoding that is not known.
     Encoding,
-    /// The CIE_pointer of an FDE leads to no CIE, or to one that is at fault.
+    /// The CIE_pointer of an FDE leads to no CIE, or to one with a bad field.
     Cie,
     /// The initial_location of an FDE does not fit.
     PcBegin,
@@ -64,7 +64,7 @@ impl CfiField {
 #[derive(Clone, Copy, Debug, PartialEq, Eq, Error)]
 #[error("{field:?} {index}")]
 pub struct CfiFault {
-    /// The field at fault.
+    /// The bad field.
     pub field: CfiField,
     /// The number of the entry in its section, from 0 on.
     pub index: u64,

@@ -93,7 +93,7 @@ pub fn sleb(bytes: &[u8]) -> Option<(u64, &[u8])>
     Some((value, behind))
 }
 
-/// As many bytes as the ULEB128 in front of them tells, and those after them.
+/// As many bytes as the ULEB128 in front of them says, and those after them.
 #[tactic(auto, unfolding(crate::specs::Leb::sized))]
 pub fn sized(bytes: &[u8]) -> Option<(&[u8], &[u8])>
     ensures { option_map (λ r. (r.0.now, r.1.now)) result ≡ spec.sized bytes.now }

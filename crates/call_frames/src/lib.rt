@@ -7,7 +7,7 @@
 mod augmentation;
 mod call_frames;
 mod common;
-mod compressed;
+mod debug_frames;
 mod entries;
 mod faults;
 mod indexed;
@@ -16,12 +16,12 @@ mod leb;
 mod pointers;
 mod spans;
 mod spots;
+mod table_data;
 mod tables;
 mod walk;
 
 pub use call_frames::CallFrames;
 pub use common::Cie;
-pub use compressed::has_compressed;
 pub use entries::Entry;
 pub use faults::{CfiFault, CfiField, NoEntry};
 pub use laws::{a_number_is_its_groups, the_entries_are_the_walk};

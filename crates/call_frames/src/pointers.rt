@@ -16,7 +16,7 @@ pub(crate) enum Width {
 }
 
 impl Width {
-    /// The width that an encoding tells by its low four bits, if it tells one.
+    /// The width that an encoding gives by its low four bits, if it gives one.
     #[tactic(auto, unfolding(crate::specs::Pointers::width_of))]
     pub(crate) fn of(encoding: u8) -> Option<Width>
         ensures { option_map bytes_of result ≡ spec.width_of encoding }
@@ -80,7 +80,7 @@ pub(crate) fn pointer(encoding: u8, address: u64, bytes: &[u8]) -> Option<(u64, 
     Some((target(encoding, address, value), &bytes[width.size()..]))
 }
 
-/// The number of that width at the front, signed or not as the encoding tells.
+/// The number of that width at the front, signed or not as the encoding says.
 #[tactic(auto, unfolding(crate::specs::Pointers::number_of))]
 fn number(encoding: u8, width: Width, bytes: &[u8]) -> u64
     requires { bytes_of width ≤ length bytes.now }
@@ -94,7 +94,7 @@ fn number(encoding: u8, width: Width, bytes: &[u8]) -> u64
     }
 }
 
-/// What a pointer whose first byte has an address points to.
+/// The target of a pointer whose first byte has an address.
 #[tactic(auto, unfolding(crate::specs::Pointers::target))]
 fn target(encoding: u8, address: u64, value: u64) -> u64
     ensures { result ≡ spec.target encoding address value }

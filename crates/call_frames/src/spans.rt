@@ -1,4 +1,4 @@
-// What of the FDEs is kept, sorted by address.
+// The part of the FDEs that is kept, sorted by address.
 ghost use Rattle.std.specs.Prelude.{◌≡◌, ◌≤◌, IfOk, length, map, take};
 ghost use Rattle.std.specs.List.Sorted.{IsNonDecreasingBy, IsPermutation};
 ghost use Rattle.call_frames.specs.Covering as spec;
@@ -10,7 +10,7 @@ use crate::spots::Spot;
 use crate::walk::Entries;
 use std::alloc::{AllocError, Global};
 
-/// The spot of an FDE, and what it describes.
+/// The spot of an FDE, and the addresses that it describes.
 #[derive(Clone, Copy, Debug)]
 pub(crate) struct Span {
     /// The first address that it describes.
@@ -21,7 +21,7 @@ pub(crate) struct Span {
     pub(crate) spot: Spot,
 }
 
-/// What of an FDE is kept.
+/// The part of an FDE that is kept.
 fn span_of(entry: &Entry<'_>) -> Span
     ensures { result ≡ spec.span_of (entry_view entry.now) }
 {
@@ -35,7 +35,7 @@ fn span_of(entry: &Entry<'_>) -> Span
     }
 }
 
-/// What of the FDEs of a table is kept, in its order.
+/// The kept parts of the FDEs of a table, in its order.
 fn collect(alloc: Global, table: &Table<'_>) -> Result<Vec<Span>, AllocError>
     ensures { IfOk result (λ v. v.items ≡ map spec.span_of (entries_of (table_view table.now))) }
 {
@@ -47,7 +47,7 @@ fn collect(alloc: Global, table: &Table<'_>) -> Result<Vec<Span>, AllocError>
     Ok(all)
 }
 
-/// What of the FDEs of a table is kept, sorted by the first address that they describe.
+/// The kept parts of the FDEs of a table, sorted by the first address that they describe.
 pub(crate) fn sorted(alloc: Global, table: &Table<'_>) -> Result<Vec<Span>, AllocError>
     ensures whole { IfOk result (λ v. IsPermutation (map spec.span_of (entries_of (table_view table.now))) v.items) }
     ensures ordered { IfOk result (λ v. IsNonDecreasingBy (λ s. s.begin) v.items) }
@@ -64,7 +64,7 @@ fn last_of(span: Span) -> u64
     span.begin.saturating_add(span.range.saturating_sub(1))
 }
 
-/// The greatest last address among each span and those before it.
+/// The highest last address among each span and those before it.
 pub(crate) fn greatest_ends(alloc: Global, spans: &[Span]) -> Result<Vec<u64>, AllocError>
     ensures { IfOk result (λ v. v.items ≡ spec.greatest_ends 0 spans.now) }
 {
@@ -106,7 +106,7 @@ fn earliest_with(span: Span, best: Option<Span>, address: u64) -> Option<Span>
 }
 
 /// The one that is first in the section, of those of the first `count` spans that cover an address. The spans are sorted by
-/// their first address, each with the greatest address that one up to it covers. It searches down from the last as far as
+/// their first address, each with the highest address that one up to it covers. It searches down from the last as far as
 /// one may cover the address.
 fn earliest_among(spans: &[Span], ends: &[u64], count: usize, address: u64) -> Option<Span>
     requires reach { ends.now ≡ spec.greatest_ends 0 spans.now }

@@ -6,7 +6,7 @@ ghost use Rattle.call_frames.specs.Walk as spec;
 use crate::entries::rest_at;
 use elf_view::u32_at;
 
-/// Where an entry is in its table.
+/// The place of an entry in its table.
 #[derive(Clone, Copy, Debug)]
 pub(crate) struct Spot {
     /// Its number, from 0 on.
@@ -25,7 +25,7 @@ pub(crate) struct Spots<'a> {
     ghost within: { place ≤ length bytes.now },
 }
 
-/// Whether an entry is all in what is left of a table.
+/// Whether the entry at the front of the rest of a table is complete.
 fn is_whole(rest: &[u8]) -> bool
     ensures { result ≡ entries.is_whole rest.now }
 {

@@ -1,16 +1,18 @@
-// Where an image has its call frame information.
+// Where an image has its `.eh_frame`.
 ghost use Rattle.std.specs.Prelude.{◌≡◌, find};
 ghost use Rattle.std.specs.Option.{option_map};
 ghost use Rattle.elf_view.specs.Header.{segments_of};
 ghost use Rattle.elf_view.specs.SegmentWords.{segment_view};
 ghost use Rattle.elf_view.specs.ViewWords.{image_of};
-ghost use Rattle.call_frames.specs.EntryWords.{table_view};
+ghost use Rattle.call_frames.specs.EntryWords.{data_table};
 ghost use Rattle.call_frames.specs.Tables as spec;
 
 use crate::common::Format;
-use crate::entries::{Table, rest_at};
+use crate::entries::rest_at;
 use crate::pointers::pointer;
+use crate::table_data::TableData;
 use elf_view::{Elf, Segment};
+use section_data::SectionBytes;
 
 /// The type of the segment that holds `.eh_frame_hdr`.
 const PT_GNU_EH_FRAME: u32 = 0x6474_e550;
@@ -18,19 +20,19 @@ const PT_GNU_EH_FRAME: u32 = 0x6474_e550;
 /// The encoding of the pointer to `.eh_frame`: four signed bytes, relative to their place.
 const RELATIVE: u8 = 0x1b;
 
-/// The first section of that name, as a table.
-fn section_table<'a>(elf: &Elf<'a>, format: Format, name: &[u8]) -> Option<Table<'a>>
-    ensures { option_map table_view result ≡ spec.section_table format (image_of elf.now) name.now }
+/// The section `.eh_frame` of an image.
+fn eh_frame_in<'a>(elf: &Elf<'a>) -> Option<TableData<'a>>
+    ensures { option_map data_table result ≡ spec.eh_frame_in_image (image_of elf.now) }
 {
-    let section = elf.named_section(name)?;
+    let section = elf.named_section(b".eh_frame")?;
     let bytes = match section.bytes {
         Some(bytes) => bytes,
         None => &[],
     };
-    Some(Table {
-        format,
+    Some(TableData {
+        format: Format::EhFrame,
         address: section.addr,
-        bytes,
+        bytes: SectionBytes::Stored(bytes),
     })
 }
 
@@ -47,7 +49,7 @@ fn header_segment<'a>(elf: &Elf<'a>) -> Option<Segment<'a>>
     None
 }
 
-/// The address that a PT_GNU_EH_FRAME tells for `.eh_frame`.
+/// The address of `.eh_frame` that a PT_GNU_EH_FRAME gives.
 #[tactic(auto, unfolding(crate::specs::Tables::told_address))]
 fn told_address(segment: &Segment<'_>) -> Option<u64>
     ensures { result ≡ spec.told_address (segment_view segment.now) }
@@ -82,64 +84,29 @@ fn bytes_at<'a>(elf: &Elf<'a>, address: u64) -> Option<&'a [u8]>
 }
 
 /// The table that PT_GNU_EH_FRAME leads to.
-fn segment_table<'a>(elf: &Elf<'a>) -> Option<Table<'a>>
-    ensures { option_map table_view result ≡ spec.segment_table (image_of elf.now) }
+fn segment_table<'a>(elf: &Elf<'a>) -> Option<TableData<'a>>
+    ensures { option_map data_table result ≡ spec.segment_table (image_of elf.now) }
 {
     let header = header_segment(elf)?;
     let address = told_address(&header)?;
     let bytes = bytes_at(elf, address)?;
-    Some(Table {
+    Some(TableData {
         format: Format::EhFrame,
         address,
-        bytes,
+        bytes: SectionBytes::Stored(bytes),
     })
-}
-
-/// A table without entries.
-fn no_table<'a>(format: Format) -> Table<'a>
-    ensures { table_view result ≡ spec.no_table format }
-{
-    Table {
-        format,
-        address: 0,
-        bytes: &[],
-    }
 }
 
 /// The table of the section `.eh_frame`, else the one that PT_GNU_EH_FRAME leads to, else one without entries.
 #[tactic(auto, unfolding(crate::specs::Tables::eh_frame_of))]
-pub(crate) fn eh_frame<'a>(elf: &Elf<'a>) -> Table<'a>
-    ensures { table_view result ≡ spec.eh_frame_of (image_of elf.now) }
+pub(crate) fn eh_frame<'a>(elf: &Elf<'a>) -> TableData<'a>
+    ensures { data_table result ≡ spec.eh_frame_of (image_of elf.now) }
 {
-    if let Some(table) = section_table(elf, Format::EhFrame, b".eh_frame") {
+    if let Some(table) = eh_frame_in(elf) {
         return table;
     }
     match segment_table(elf) {
         Some(table) => table,
-        None => no_table(Format::EhFrame),
-    }
-}
-
-/// The section `.debug_frame` of an image, as a table.
-fn debug_frame_in<'a>(elf: &Elf<'a>) -> Option<Table<'a>>
-    ensures { option_map table_view result ≡ spec.debug_frame_in_image (image_of elf.now) }
-{
-    section_table(elf, Format::DebugFrame, b".debug_frame")
-}
-
-/// The table of the section `.debug_frame` of an executable, else of its debug file, else one without entries.
-#[tactic(auto, unfolding(crate::specs::Tables::debug_frame_of))]
-pub(crate) fn debug_frame<'a>(elf: &Elf<'a>, debug: Option<Elf<'a>>) -> Table<'a>
-    ensures { table_view result ≡ spec.debug_frame_of (image_of elf.now) (option_map image_of debug.entry) }
-{
-    if let Some(table) = debug_frame_in(elf) {
-        return table;
-    }
-    let Some(debug) = debug else {
-        return no_table(Format::DebugFrame);
-    };
-    match debug_frame_in(&debug) {
-        Some(table) => table,
-        None => no_table(Format::DebugFrame),
+        None => TableData::empty(Format::EhFrame),
     }
 }

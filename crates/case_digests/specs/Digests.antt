@@ -16,7 +16,7 @@ use Rattle.intake.specs.Ranges.{Locates, RangesReply, bytes_in}
 use Rattle.intake.specs.declared.faults.ArchiveFault.{ArchiveFault}
 use Rattle.intake.specs.declared.faults.ArchiveFault.TheVariants.{NoCase, OutOfMemory}
 use Rattle.intake.specs.declared.ranges.ByteRange.{ByteRange}
-use Rattle.script_streams.specs.Telling.{IsDelivered}
+use Rattle.script_streams.specs.Printing.{IsDelivered}
 use Rattle.script_streams.specs.declared.streams.StreamFault.{StreamFault}
 use Rattle.script_streams.specs.declared.streams.Output as output
 use Rattle.script_words.specs.Hex.{hex_of}
@@ -78,11 +78,11 @@ IsReadStop (fault.Archive OutOfMemory) = Unit {0}
 IsReadStop (fault.Copy copy.Disk) = Unit {0}
 IsReadStop _ = ⊥
 
--- what the next look ends with has a case of this number
+-- the archive at the next look has a case of this number
 abbrev pub StaysThere : {S : Type 0} → shared.Ghosts S → S → ℕ → Type 0
 StaysThere g s seq = IsTrue (g.is_honest s) → (b : List ℕ) × EndsWith (g.meanwhile s) b × ((z : Durable) → StandsFor b z → HasOne z seq)
 
--- and what it ends with has none
+-- the archive at the next look has no case of this number
 abbrev pub IsGone : {S : Type 0} → shared.Ghosts S → S → ℕ → Type 0
 IsGone g s seq = IsTrue (g.is_honest s) → (b : List ℕ) × EndsWith (g.meanwhile s) b × ((z : Durable) → StandsFor b z → HasNone z seq)
 
@@ -94,7 +94,7 @@ LeavesThere g U s seq (Err (fault.Look f)) = Unit {0}
 LeavesThere g U s seq (Err (fault.Reopen f)) = RefusesAgain g U s f
 LeavesThere g U s seq (Err _) = ⊥
 
--- ---- What is asked, and printed.
+-- ---- The cases that are asked for, and the text that is printed.
 
 -- A word that is the number of a case says that; any other that is no number says a name.
 abbrev pub IsNumberSaid : List ℕ → Option CaseWord → Type 0
@@ -102,7 +102,7 @@ IsNumberSaid word (Some (Number seq)) = number_within 1 (2 ^ 32 - 1) word ≡ So
 IsNumberSaid word (Some (Name name)) = (name.now ≡ word) × (number_of word ≡ None)
 IsNumberSaid word None = (number_within 1 (2 ^ 32 - 1) word ≡ None) × (is_some (number_of word) ≡ true)
 
--- what an output has taken, and how many of its calls have failed
+-- the bytes that an output has taken, and how many of its calls have failed
 pub record Printed : Type 0 where
   pub taken : Option (List ℕ)
   pub failures : ℕ
@@ -124,12 +124,12 @@ PrintsDigest seq digest old new r =
     (sent : Result (Unit {0}) StreamFault) × IsDelivered old.taken old.failures new.taken new.failures (digest_line seq digest) sent × (r ≡ sent_as sent)
 
 -- The line of a case is printed, from a look at its archive on; or it is reported why there is no digest, and nothing is printed.
-abbrev pub TellsLooked : {S : Type 0} (g : shared.Ghosts S) → disk.Ghosts (Unlocked S g) → ℕ → Result (Looked S g) Refusal → Printed → Printed → Result (Unit {0}) Failure → Type 0
-TellsLooked g U seq (Err refusal) old new r = (r ≡ Err (Aside refusal)) × (new ≡ old)
-TellsLooked g U seq (Ok looked) old new r =
+abbrev pub PrintsLooked : {S : Type 0} (g : shared.Ghosts S) → disk.Ghosts (Unlocked S g) → ℕ → Result (Looked S g) Refusal → Printed → Printed → Result (Unit {0}) Failure → Type 0
+PrintsLooked g U seq (Err refusal) old new r = (r ≡ Err (Aside refusal)) × (new ≡ old)
+PrintsLooked g U seq (Ok looked) old new r =
     ((digest : ImageDigest) × DigestsUnlocked g U (shared_of looked) seq (Ok digest) × PrintsDigest seq digest old new r)
     ⊎ ((fault : UnlockedFault) × DigestsUnlocked g U (shared_of looked) seq (Err fault) × (r ≡ Err (unlocked_told fault)) × (new ≡ old))
 
 -- the same from some look, if there was one
-abbrev pub TellsCase : {S : Type 0} (g : shared.Ghosts S) → disk.Ghosts (Unlocked S g) → ℕ → Printed → Printed → Result (Unit {0}) Failure → Type 0
-TellsCase {S} g U seq old new r = (looked : Result (Looked S g) Refusal) × TellsLooked g U seq looked old new r
+abbrev pub PrintsCase : {S : Type 0} (g : shared.Ghosts S) → disk.Ghosts (Unlocked S g) → ℕ → Printed → Printed → Result (Unit {0}) Failure → Type 0
+PrintsCase {S} g U seq old new r = (looked : Result (Looked S g) Refusal) × PrintsLooked g U seq looked old new r

@@ -1,7 +1,7 @@
 // The command.
 ghost use Rattle.std.specs.Prelude.{◌≡◌};
-ghost use Rattle.case_digests.specs.Digests.{IsNumberSaid, PrintsDigest, TellsCase, TellsLooked, digest_line, printed};
-ghost use Rattle.script_streams.specs.Telling.{IsDelivered};
+ghost use Rattle.case_digests.specs.Digests.{IsNumberSaid, PrintsDigest, PrintsCase, PrintsLooked, digest_line, printed};
+ghost use Rattle.script_streams.specs.Printing.{IsDelivered};
 
 use crate::walk::{ImageDigest, digest_unlocked};
 use archive_files::{ArchivePath, Failure, Refusal, take_look, unlocked_told};
@@ -61,7 +61,7 @@ pub fn digest<R: AllocGlobal + Files<File = File> + Clock, O: Output, W: Onlooke
     done
 }
 
-// What a word says. A word that is a number is always one, and names no case.
+// The meaning of a word. A word that is a number is always one, and names no case.
 fn case_word(word: &str) -> Option<CaseWord<'_>>
     ensures { IsNumberSaid word.now result }
 {
@@ -129,7 +129,7 @@ fn digest_case<R: AllocGlobal + Files<File = File>, O: Output, W: Onlooker>(
     output: &mut O,
     onlooker: &mut W,
 ) -> Result<(), Failure>
-    ensures { TellsCase ⟦<SharedFile<OpenFile> as SharedDisk>⟧ ⟦<Unlocked<'static, SharedFile<OpenFile>> as Disk>⟧ seq (printed O.Output output.old) (printed O.Output output.new) result }
+    ensures { PrintsCase ⟦<SharedFile<OpenFile> as SharedDisk>⟧ ⟦<Unlocked<'static, SharedFile<OpenFile>> as Disk>⟧ seq (printed O.Output output.old) (printed O.Output output.new) result }
 {
     digest_looked(rt.alloc(), take_look(rt, place), seq, output, onlooker)
 }
@@ -142,35 +142,35 @@ fn digest_looked<S: SharedDisk + Drop, O: Output, W: Onlooker>(
     output: &mut O,
     onlooker: &mut W,
 ) -> Result<(), Failure>
-    ensures { TellsLooked S.SharedDisk ⟦<Unlocked<'static, S> as Disk>⟧ seq looked (printed O.Output output.old) (printed O.Output output.new) result }
+    ensures { PrintsLooked S.SharedDisk ⟦<Unlocked<'static, S> as Disk>⟧ seq looked (printed O.Output output.old) (printed O.Output output.new) result }
 {
     match looked {
         Ok(looked) => match digest_unlocked(alloc, looked, seq, onlooker) {
-            Ok(digest) => tell_digest(seq, digest, output),
+            Ok(digest) => print_digest(seq, digest, output),
             Err(fault) => Err(unlocked_told(fault)),
         },
         Err(refusal) => Err(Failure::Aside(refusal)),
     }
 }
 
-fn tell_digest<O: Output>(seq: u32, digest: ImageDigest, output: &mut O) -> Result<(), Failure>
+fn print_digest<O: Output>(seq: u32, digest: ImageDigest, output: &mut O) -> Result<(), Failure>
     ensures { PrintsDigest seq digest (printed O.Output output.old) (printed O.Output output.new) result }
 {
-    match tell_line(seq, digest, output) {
+    match print_line(seq, digest, output) {
         Ok(()) => Ok(()),
         Err(_) => Err(Failure::Faulted(SessionFault::WriteFailed)),
     }
 }
 
-fn tell_line<O: Output>(seq: u32, digest: ImageDigest, output: &mut O) -> Result<(), StreamFault>
+fn print_line<O: Output>(seq: u32, digest: ImageDigest, output: &mut O) -> Result<(), StreamFault>
     ensures { IsDelivered (O.taken output.old) (O.failures output.old) (O.taken output.new) (O.failures output.new) (digest_line seq digest) result }
 {
     let mut reply = Reply::new(output);
-    reply.tell_hex(&digest.sha256);
-    reply.tell(b" ");
-    reply.tell_decimal(u128::from(digest.length));
-    reply.tell(b" ");
-    reply.tell_decimal(u128::from(seq));
-    reply.tell(b"\n");
+    reply.print_hex(&digest.sha256);
+    reply.print(b" ");
+    reply.print_decimal(u128::from(digest.length));
+    reply.print(b" ");
+    reply.print_decimal(u128::from(seq));
+    reply.print(b"\n");
     reply.finish()
 }

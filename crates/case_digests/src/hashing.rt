@@ -11,7 +11,7 @@ use disk_model::{Disk, DiskFault};
 use intake::ByteRange;
 use sha2::{Digest, Sha256};
 
-// The digest of the bytes of these ranges of a disk, one range after another. An onlooker is told of each byte.
+// The digest of the bytes of these ranges of a disk, one range after another. Each byte is reported to an onlooker.
 pub(crate) fn digest_ranges<D: Disk, W: Onlooker>(
     disk: &mut D,
     ranges: &[ByteRange],

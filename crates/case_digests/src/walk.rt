@@ -32,9 +32,9 @@ struct Image {
     length: u64,
 }
 
-/// The digest of the image of a case, from a look at its archive on. The image is read in pieces of 128 KiB, and no lock is held meanwhile;
-/// an onlooker is told of each byte. The archive is looked at again at the end: if the case is there under its number, the digest is that
-/// of its image.
+/// The digest of the image of a case, from a look at its archive on. The image is read in pieces of
+/// 128 KiB, and no lock is held meanwhile; each byte is reported to an onlooker. The archive is looked
+/// at again at the end: if the case is there under its number, the digest is that of its image.
 ///
 /// # Errors
 ///

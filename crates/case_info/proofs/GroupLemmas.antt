@@ -11,7 +11,7 @@ use Rattle.group_tables.specs.declared.numbers.CrashedCore.{CrashedCore}
 use Rattle.group_tables.specs.declared.rows.GroupRow.{GroupRow}
 use Rattle.intake.specs.Parts.{Parts, state_of}
 use Rattle.unlocked_reading.specs.Finding.{has_number}
-use Rattle.case_info.specs.Groups.{TellsBy, TellsFound, TellsRows, TellsThere, has_member}
+use Rattle.case_info.specs.Groups.{PrintsBy, PrintsFound, PrintsRows, PrintsThere, has_member}
 use Rattle.case_info.specs.declared.groups.GroupsForm.{GroupsForm}
 
 pub any_mapped : {A B : Type 0} (test : B → Bool) (f : A → B) (xs : List A) → list_any test (map f xs) ≡ list_any (λ x. test (f x)) xs
@@ -33,19 +33,19 @@ found_mapped seq rows o is = twice o ∙ ap (option_map row_said) is ∙ sym (fi
 
 -- what holds of the text that is told
 module _ (P Q : List ℕ → Type 0) (so : (text : List ℕ) → P text → Q text) (latest : ℕ) where
-  found_so : (o : Option RowSaid) → TellsFound latest o P → TellsFound latest o Q
-  found_so None tells = tells
-  found_so (Some row) tells = so (group_screen latest row) tells
+  found_so : (o : Option RowSaid) → PrintsFound latest o P → PrintsFound latest o Q
+  found_so None states = states
+  found_so (Some row) states = so (group_screen latest row) states
 
-  pub rows_so : (case : Option ℕ) (rows : List RowSaid) → TellsRows case latest rows P → TellsRows case latest rows Q
-  rows_so None rows tells = so (groups_table latest rows) tells
-  rows_so (Some seq) rows tells = found_so (find (has_member seq) rows) tells
+  pub rows_so : (case : Option ℕ) (rows : List RowSaid) → PrintsRows case latest rows P → PrintsRows case latest rows Q
+  rows_so None rows states = so (groups_table latest rows) states
+  rows_so (Some seq) rows states = found_so (find (has_member seq) rows) states
 
 -- all cases are there, and the groups are told
-pub tells_by : {D : Type 0} (a : Parts D) (numbers : List ℕ) (cores : List CrashedCore) (form : GroupsForm) (r : Result (Collected × Bool) Refusal) → list_all (has_number (state_of a)) numbers ≡ true → IfOk r (TellsThere a cores form)
-    → TellsBy numbers cores form (Ok a) r
-tells_by a numbers cores form (Ok told) all is = (all, is)
-tells_by a numbers cores form (Err why) all is = _
+pub prints_by : {D : Type 0} (a : Parts D) (numbers : List ℕ) (cores : List CrashedCore) (form : GroupsForm) (r : Result (Collected × Bool) Refusal) → list_all (has_number (state_of a)) numbers ≡ true → IfOk r (PrintsThere a cores form)
+    → PrintsBy numbers cores form (Ok a) r
+prints_by a numbers cores form (Ok told) all is = (all, is)
+prints_by a numbers cores form (Err why) all is = _
 
 -- whether some are there
 pub some_of : {A : Type 0} (count : ℕ) (xs ys : List A) (is_empty : Bool) → is_empty ≡ (count == 0) → count ≡ length xs → xs ≡ ys → not is_empty ≡ not (length ys == 0)

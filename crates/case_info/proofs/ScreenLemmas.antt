@@ -41,12 +41,12 @@ front_again want front image other size long begins is = record {
 }
 
 -- the same facts, by other names of the first bytes, of the size, of the executables and of the number of threads
-pub says_same : {D : Type 0} (g : disk.Ghosts D) (old new : Parts D) (seq : ℕ) (first front : List ℕ) (size long : ℕ) (told : Option (List NamedId)) (xs ys : List ExecutableView) (n m : ℕ) (facts : CoreFacts) → first ≡ front → size ≡ long → xs ≡ ys → n ≡ m
-    → SaysFacts g old seq first size told xs n facts new → SaysFacts g old seq front long told ys m facts new
-says_same g old new seq first front size long told xs ys n m facts begins is_long are is_many says =
-    let many = subst (λ k. SaysFacts g old seq first size told xs k facts new) is_many says in
-    let with_all = subst (λ (zs : List ExecutableView). SaysFacts g old seq first size told zs m facts new) are many in
-    subst (λ b. SaysFacts g old seq b long told ys m facts new) begins (subst (λ k. SaysFacts g old seq first k told ys m facts new) is_long with_all)
+pub says_same : {D : Type 0} (g : disk.Ghosts D) (old new : Parts D) (seq : ℕ) (first front : List ℕ) (size long : ℕ) (told : Option (List NamedId)) (xs ys : List ExecutableView) (n m lines : ℕ) (facts : CoreFacts) → first ≡ front → size ≡ long → xs ≡ ys → n ≡ m
+    → SaysFacts g old seq first size told xs n lines facts new → SaysFacts g old seq front long told ys m lines facts new
+says_same g old new seq first front size long told xs ys n m lines facts begins is_long are is_many says =
+    let many = subst (λ k. SaysFacts g old seq first size told xs k lines facts new) is_many says in
+    let with_all = subst (λ (zs : List ExecutableView). SaysFacts g old seq first size told zs m lines facts new) are many in
+    subst (λ b. SaysFacts g old seq b long told ys m lines facts new) begins (subst (λ k. SaysFacts g old seq first k told ys m lines facts new) is_long with_all)
 
 module _ {D : Type 0} (g : disk.Ghosts D) (old mid : Parts D) (seq : ℕ) (image : List ℕ) (words : InfoWords) (a : CoreAnswers) where
   pub asks_none : (r : Result CoreImage CoreFault) (f : CoreFault) → r ≡ Err f → AsksCore g old mid seq image words r a mid

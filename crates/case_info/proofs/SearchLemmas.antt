@@ -102,29 +102,29 @@ module _ {D : Type 0} (g : disk.Ghosts D) where
       let all = only_then a b c reads (sees_only b c seq image sees) in
       record { own = own_before a b seq image reads sees.own; state = all.state; contents = all.contents; quiet = all.quiet; stays = all.stays }
 
-  frames_before : (a b : Parts D) (seq : ℕ) (front : List ℕ) (size : ℕ) (told : Option (List NamedId)) (xs : List ExecutableView) (t : ℕ) (us : List (Option FramesAnswer)) → IsOnlyRead g a b
-      → AreFramesOf g b seq front size told xs t us → AreFramesOf g a seq front size told xs t us
-  frames_before a b seq front size told xs t [] reads are = tt
-  frames_before a b seq front size told xs t (u ∷ us) reads are =
+  frames_before : (a b : Parts D) (seq : ℕ) (front : List ℕ) (size : ℕ) (told : Option (List NamedId)) (xs : List ExecutableView) (lines t : ℕ) (us : List (Option FramesAnswer)) → IsOnlyRead g a b
+      → AreFramesOf g b seq front size told xs lines t us → AreFramesOf g a seq front size told xs lines t us
+  frames_before a b seq front size told xs lines t [] reads are = tt
+  frames_before a b seq front size told xs lines t (u ∷ us) reads are =
       let one = are.0 in
-      ((one.0, own_before a b seq one.0 reads one.1, one.2, one.3, one.4), frames_before a b seq front size told xs (suc t) us reads are.1)
+      ((one.0, own_before a b seq one.0 reads one.1, one.2, one.3, one.4, one.5), frames_before a b seq front size told xs lines (suc t) us reads are.1)
 
-  pub says_before : (a b c : Parts D) (seq : ℕ) (front : List ℕ) (size : ℕ) (told : Option (List NamedId)) (xs : List ExecutableView) (n : ℕ) (facts : CoreFacts) → IsOnlyRead g a b
-      → SaysFacts g b seq front size told xs n facts c → SaysFacts g a seq front size told xs n facts c
-  says_before a b c seq front size told xs n facts reads says = record {
+  pub says_before : (a b c : Parts D) (seq : ℕ) (front : List ℕ) (size : ℕ) (told : Option (List NamedId)) (xs : List ExecutableView) (n lines : ℕ) (facts : CoreFacts) → IsOnlyRead g a b
+      → SaysFacts g b seq front size told xs n lines facts c → SaysFacts g a seq front size told xs n lines facts c
+  says_before a b c seq front size told xs n lines facts reads says = record {
     count = says.count;
-    frames = frames_before a b seq front size told xs 0 facts.unwound.items reads says.frames;
+    frames = frames_before a b seq front size told xs lines 0 facts.unwound.items reads says.frames;
     image = says.image;
     seen = sees_before a b c seq says.image reads says.seen;
     begins = says.begins;
-    tells = says.tells;
+    states = says.states;
     builds = says.builds;
   }
 
   asks_before : (a b mid : Parts D) (seq : ℕ) (image : List ℕ) (r : Result CoreImage CoreFault) (crash : CrashedSaid) (new : Parts D) → IsOnlyRead g a b → AsksCrash g b mid seq image r crash new → AsksCrash g a mid seq image r crash new
   asks_before a b mid seq image (Ok core) crash new reads finds = record {
     told = finds.told;
-    tells = finds.tells;
+    states = finds.states;
     executables = finds.executables;
     read = finds.read;
     collects = finds.collects;
@@ -133,7 +133,7 @@ module _ {D : Type 0} (g : disk.Ghosts D) where
     debugs = finds.debugs;
     facts = finds.facts;
     walked = finds.walked;
-    says = says_before a b finds.walked seq _ (length image) finds.told (finds.executables ++ finds.debug_files) _ finds.facts reads finds.says;
+    says = says_before a b finds.walked seq _ (length image) finds.told (finds.executables ++ finds.debug_files) _ 0 finds.facts reads finds.says;
     crashes = finds.crashes;
   }
   asks_before a b mid seq image (Err fault) crash new reads asks = asks
@@ -257,9 +257,9 @@ module _ {D : Type 0} (g : disk.Ghosts D) where
       → told_of image ≡ told → first ≡ core_bytes core → size ≡ length image → ys ≡ xs ++ ds → n ≡ shown_count first_thread (notes_in image)
       → CollectsAll g mid (wanted_by (told_or_none told) (state_of mid).cases) (Ok xs) read → CollectsAll g read (debugs_by (told_or_none told) xs (state_of read).cases) (Ok ds) all
       → IsOnlyRead g old all → CrashesBy g all seq first size told ys n crash new → FindsCrash g old mid seq image (core_bytes core) crash new
-  finds_by old mid read all new seq size n image first told xs ds ys core crash tells own long are many collects debugs reads by = record {
+  finds_by old mid read all new seq size n image first told xs ds ys core crash states own long are many collects debugs reads by = record {
     told = told;
-    tells = tells;
+    states = states;
     executables = xs;
     read = read;
     collects = collects;
@@ -268,7 +268,7 @@ module _ {D : Type 0} (g : disk.Ghosts D) where
     debugs = debugs;
     facts = by.facts;
     walked = by.walked;
-    says = says_same g old by.walked seq first (core_bytes core) size (length image) told ys (xs ++ ds) n _ by.facts own long are many (says_before old all by.walked seq first size told ys n by.facts reads by.says);
+    says = says_same g old by.walked seq first (core_bytes core) size (length image) told ys (xs ++ ds) n _ 0 by.facts own long are many (says_before old all by.walked seq first size told ys n 0 by.facts reads by.says);
     crashes =
         subst (λ (b : List ℕ). IsCrashBy g by.walked seq (length image) b by.facts crash new) own
         (subst (λ (k : ℕ). IsCrashBy g by.walked seq k first by.facts crash new) long by.crashes);

@@ -35,7 +35,7 @@ pub record AreFactsOf (s : Standing) (free : ℕ) (f : ArchiveFacts) : Type 0 wh
 abbrev pub AreFactsIn : Opened → ArchiveFacts → Type 0
 AreFactsIn o f = IsSpareMap o.journal.standing.shape.data_blocks o.journal.standing.cases o.free × AreFactsOf o.journal.standing (free_count o.free) f
 
--- by what an opening answered
+-- by the result of an opening
 abbrev pub FactsBy : Result Opened OpenFault → Result ArchiveFacts Refusal → Type 0
 FactsBy (Ok o) (Ok f) = AreFactsIn o f
 FactsBy (Ok o) (Err refusal) = ⊥

@@ -1,4 +1,4 @@
--- What a search for the crashes of cores has found, as the code keeps it.
+-- The results of a search for the crashes of cores, as the code keeps them.
 use Rattle.std.specs.Prelude.{◌≡◌, ◌++◌, ◌≤◌, ◌<◌, ℕ, List, [], ◌∷◌, length, map, take, Option, None, Some, Ok}
 use Rattle.address_space.specs.Source.{ExecutableView}
 use Rattle.build_replies.specs.Builds.{NamedId}
@@ -24,10 +24,10 @@ StayRead g a xs = Collects g a (map read_as xs) (Ok (map executable_view xs)) a
 pub record CrashesBy {D : Type 0} (g : disk.Ghosts D) (old : Parts D) (seq : ℕ) (front : List ℕ) (size : ℕ) (told : Option (List NamedId)) (xs : List ExecutableView) (threads : ℕ) (crash : CrashedSaid) (new : Parts D) : Type 0 where
   pub facts : CoreFacts
   pub walked : Parts D
-  pub says : SaysFacts g old seq front size told xs threads facts walked
+  pub says : SaysFacts g old seq front size told xs threads 0 facts walked
   pub crashes : IsCrashBy g walked seq size front facts crash new
 
--- the crash of a core is seen; or none is, and the archive is only read
+-- the crash of a core is seen; or no crash is, and the archive is only read
 abbrev pub TriesCrash : {D : Type 0} → disk.Ghosts D → Parts D → ℕ → Option CrashedSaid → Parts D → Type 0
 TriesCrash g old seq None new = IsOnlyRead g old new
 TriesCrash g old seq (Some crash) new = SeesCrash g old seq crash new

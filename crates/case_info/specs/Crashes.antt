@@ -37,7 +37,7 @@ same_frames o = o
 abbrev pub first_frames : CoreFacts → Option FramesAnswer
 first_frames f = option_and_then same_frames (slice_get f.unwound.items 0)
 
--- the builds of its mapped files; none, if it has no NT_FILE
+-- the builds of its mapped files; an empty list, if it has no NT_FILE
 abbrev pub rows_in : Option (Vec BuildAnswer Global) → List BuildAnswer
 rows_in None = []
 rows_in (Some v) = v.items
@@ -66,7 +66,7 @@ IsCrashBy g old seq size front facts crash new = CrashesWith g old seq size fron
 -- crash is by these.
 pub record FindsCrash {D : Type 0} (g : disk.Ghosts D) (old mid : Parts D) (seq : ℕ) (image front : List ℕ) (crash : CrashedSaid) (new : Parts D) : Type 0 where
   pub told : Option (List NamedId)
-  pub tells : told_of image ≡ told
+  pub states : told_of image ≡ told
   pub executables : List ExecutableView
   pub read : Parts D
   pub collects : CollectsAll g mid (wanted_by (told_or_none told) (state_of mid).cases) (Ok executables) read
@@ -75,7 +75,7 @@ pub record FindsCrash {D : Type 0} (g : disk.Ghosts D) (old mid : Parts D) (seq 
   pub debugs : CollectsAll g read (debugs_by (told_or_none told) executables (state_of read).cases) (Ok debug_files) all
   pub facts : CoreFacts
   pub walked : Parts D
-  pub says : SaysFacts g old seq front (length image) told (executables ++ debug_files) (shown_count first_thread (notes_in image)) facts walked
+  pub says : SaysFacts g old seq front (length image) told (executables ++ debug_files) (shown_count first_thread (notes_in image)) 0 facts walked
   pub crashes : IsCrashBy g walked seq (length image) front facts crash new
 
 -- nothing more is read of a core that has a fault

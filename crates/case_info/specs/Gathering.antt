@@ -47,7 +47,7 @@ used_id k = option_and_then (λ (x : ExecutableView). build_id_of x.image) (used
 abbrev pub file_of : BuildValue → FileValue
 file_of v = record { name = v.name; told = v.core; is_used = is_some (used_executable v.chosen); used = used_id v.chosen }
 
--- those of a core; none, if it has no NT_FILE
+-- those of a core; an empty list, if it has no NT_FILE
 abbrev pub files_with : Option (List BuildValue) → List FileValue
 files_with None = []
 files_with (Some values) = map file_of values
@@ -68,7 +68,7 @@ files_view v = map file_view v.items
 -- core has for them, are read. The core is seen again, and these are its mapped files with the executables.
 pub record FindsBuilds {D : Type 0} (g : disk.Ghosts D) (old mid : Parts D) (seq : ℕ) (image : List ℕ) (values : Option (List BuildValue)) (new : Parts D) : Type 0 where
   pub told : Option (List NamedId)
-  pub tells : told_of image ≡ told
+  pub states : told_of image ≡ told
   pub executables : List ExecutableView
   pub read : Parts D
   pub collects : CollectsAll g mid (wanted_by (told_or_none told) (state_of mid).cases) (Ok executables) read
@@ -117,7 +117,7 @@ case_value c = record { name = c.origin.name; brief = brief_of c; is_core = is_c
 abbrev pub listed_view : ListedCase → CaseValue
 listed_view c = record { name = c.name.items; brief = c.brief; is_core = c.is_core }
 
--- the files that a case maps: none, if it is no core
+-- the files that a case maps: an empty list, if it is no core
 abbrev pub SeesFilesIf : {D : Type 0} → disk.Ghosts D → Parts D → ℕ → Bool → List FileValue → Parts D → Type 0
 SeesFilesIf g old seq true files new = SeesFiles g old seq files new
 SeesFilesIf g old seq false files new = (files ≡ []) × (new ≡ old)

@@ -30,7 +30,7 @@ use Rattle.case_info.specs.declared.groups.GroupsForm.{GroupsForm}
 
 -- ---- The crashes.
 
--- whether the case is a core; so it is, if none is named
+-- whether the case is a core; yes, if no case is named
 abbrev pub IsCoreIf : {D : Type 0} → Parts D → Option ℕ → Bool → Type 0
 IsCoreIf a None is_core = is_core ≡ true
 IsCoreIf a (Some seq) is_core = (c : Case) × HasCase (state_of a) seq c × (is_core ≡ is_core_kind c.origin.kind)
@@ -60,20 +60,20 @@ abbrev pub has_member : ℕ → RowSaid → Bool
 has_member seq r = list_any (is_member seq) r.members
 
 -- the screen of the first group that has the case
-abbrev pub TellsFound : ℕ → Option RowSaid → (List ℕ → Type 0) → Type 0
-TellsFound latest None Tells = ⊥
-TellsFound latest (Some row) Tells = Tells (group_screen latest row)
+abbrev pub PrintsFound : ℕ → Option RowSaid → (List ℕ → Type 0) → Type 0
+PrintsFound latest None Prints = ⊥
+PrintsFound latest (Some row) Prints = Prints (group_screen latest row)
 
-abbrev pub TellsRow : ℕ → ℕ → List RowSaid → (List ℕ → Type 0) → Type 0
-TellsRow latest seq rows Tells = TellsFound latest (find (has_member seq) rows) Tells
+abbrev pub PrintsRow : ℕ → ℕ → List RowSaid → (List ℕ → Type 0) → Type 0
+PrintsRow latest seq rows Prints = PrintsFound latest (find (has_member seq) rows) Prints
 
 -- the table of groups; or, if a case is named, the screen of its group
-abbrev pub TellsRows : Option ℕ → ℕ → List RowSaid → (List ℕ → Type 0) → Type 0
-TellsRows None latest rows Tells = Tells (groups_table latest rows)
-TellsRows (Some seq) latest rows Tells = TellsRow latest seq rows Tells
+abbrev pub PrintsRows : Option ℕ → ℕ → List RowSaid → (List ℕ → Type 0) → Type 0
+PrintsRows None latest rows Prints = Prints (groups_table latest rows)
+PrintsRows (Some seq) latest rows Prints = PrintsRow latest seq rows Prints
 
 abbrev pub IsText : List RowSaid → GroupsForm → List ℕ → Type 0
-IsText rows form text = TellsRows form.case form.latest rows (λ (told : List ℕ). text ≡ told)
+IsText rows form text = PrintsRows form.case form.latest rows (λ (told : List ℕ). text ≡ told)
 
 -- of the groups of cores
 abbrev pub IsTextOf : List Case → List CrashedCore → GroupsForm → List ℕ → Type 0
@@ -87,16 +87,16 @@ abbrev pub there : ArchiveState → List CrashedCore → List CrashedCore
 there s cores = filter (is_there s) cores
 
 -- The text is that of the groups of the cores that are still there, and it is known whether there are any. JSON is left out.
-pub record TellsThere {D : Type 0} (a : Parts D) (cores : List CrashedCore) (form : GroupsForm) (told : Collected × Bool) : Type 0 where
+pub record PrintsThere {D : Type 0} (a : Parts D) (cores : List CrashedCore) (form : GroupsForm) (told : Collected × Bool) : Type 0 where
   pub text : form.is_json ≡ false → IsTextOf (state_of a).cases (there (state_of a) cores) form (held told.0)
   pub some : told.1 ≡ not (length (there (state_of a) cores) == 0)
 
 -- All cases of these numbers are there, and the text is that; or it is refused.
-abbrev pub TellsBy : {D : Type 0} → List ℕ → List CrashedCore → GroupsForm → Result (Parts D) (OpenFault × D) → Result (Collected × Bool) Refusal → Type 0
-TellsBy numbers cores form (Ok a) (Ok told) = (list_all (has_number (state_of a)) numbers ≡ true) × TellsThere a cores form told
-TellsBy numbers cores form (Ok a) (Err why) = Unit {0}
-TellsBy numbers cores form (Err (fault, d)) r = r ≡ Err (refusals.Open fault)
+abbrev pub PrintsBy : {D : Type 0} → List ℕ → List CrashedCore → GroupsForm → Result (Parts D) (OpenFault × D) → Result (Collected × Bool) Refusal → Type 0
+PrintsBy numbers cores form (Ok a) (Ok told) = (list_all (has_number (state_of a)) numbers ≡ true) × PrintsThere a cores form told
+PrintsBy numbers cores form (Ok a) (Err why) = Unit {0}
+PrintsBy numbers cores form (Err (fault, d)) r = r ≡ Err (refusals.Open fault)
 
--- The archive on a disk is opened, and the groups of those cores that it still has are told.
-abbrev pub TellsOn : {D : Type 0} → disk.Ghosts D → List ℕ → List CrashedCore → GroupsForm → D → Result (Collected × Bool) Refusal → Type 0
-TellsOn {D} g numbers cores form before r = (opened : Result (Parts D) (OpenFault × D)) × OpenCall g 0 before opened × TellsBy numbers cores form opened r
+-- The archive on a disk is opened, and the groups of those cores that it still has are printed.
+abbrev pub PrintsOn : {D : Type 0} → disk.Ghosts D → List ℕ → List CrashedCore → GroupsForm → D → Result (Collected × Bool) Refusal → Type 0
+PrintsOn {D} g numbers cores form before r = (opened : Result (Parts D) (OpenFault × D)) × OpenCall g 0 before opened × PrintsBy numbers cores form opened r

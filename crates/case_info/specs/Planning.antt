@@ -1,4 +1,4 @@
--- Which cases of an archive a prune drops, by what its cores and executables say.
+-- The cases of an archive that a prune drops, by its cores and executables.
 use Rattle.std.specs.Prelude.{◌≡◌, ℕ, Bool, true, false, List, [], ◌∷◌, ◌++◌, map, Option, Result, Ok, Err, IfOk, codes, decimal, Vec}
 use Rattle.std.specs.Borrow.{Bor}
 use Rattle.std.specs.Global.{Global}
@@ -77,7 +77,7 @@ drop_line n name = codes "drop " ++ (decimal n ++ (32 ∷ [] ++ (shown name ++ 1
 
 -- ---- Over the archive on a disk.
 
--- The cases of an archive are gathered, and this is what goes.
+-- The cases of an archive are gathered, and these are dropped.
 abbrev pub PlansIn : {D : Type 0} → disk.Ghosts D → Policy → Parts D → Pruning → Parts D → Type 0
 PlansIn g policy old p new = (gathered : Gathered) × Gathers g old gathered new × IsPlan policy gathered p
 
@@ -86,11 +86,11 @@ abbrev pub PlansBy : {D : Type 0} → disk.Ghosts D → Policy → Result (Parts
 PlansBy {D} g policy (Ok a) r after = (new : Parts D) × (after ≡ new.disk) × IfOk r (λ (p : Pruning). PlansIn g policy a p new)
 PlansBy g policy (Err (fault, d)) r after = (r ≡ Err (Open fault)) × (after ≡ d)
 
--- The archive on a disk is opened, it is found what goes, and it is closed.
+-- The archive on a disk is opened, the cases to drop are found, and it is closed.
 abbrev pub PlansOver : {D : Type 0} → disk.Ghosts D → Policy → D → Result Pruning Refusal → D → Type 0
 PlansOver {D} g policy before r after = (opened : Result (Parts D) (OpenFault × D)) × OpenCall g 0 before opened × PlansBy g policy opened r after
 
--- What goes is deleted, as `open_and_delete` of inspector_cli deletes it; or it could not be found, and nothing is.
+-- The cases to drop are deleted, as `open_and_delete` of inspector_cli deletes them; or they could not be found, and no case is deleted.
 abbrev pub PrunesBy : {D : Type 0} → disk.Ghosts D → Option (List ℕ) → Option (List ℕ) → ℕ → ℕ → Result Pruning Refusal → D → Result (Unit {0}) Failure → D → Type 0
 PrunesBy g taken taken' lost lost' (Ok p) mid r after =
     (deleted : Result Bool LifeFault)

@@ -43,10 +43,14 @@ held c = c.text.items
 abbrev pub most_threads : InfoWords → ℕ
 most_threads words = if words.all_threads then (if words.is_json then 18446744073709551615 else 256) else 1
 
--- how many threads are shown of a core with these notes; none, if it has a fault
+-- how many threads are shown of a core with these notes: 0, if it has a fault
 abbrev pub shown_count : InfoWords → Result (List NoteView) CoreFault → ℕ
 shown_count words (Ok notes) = min (thread_count (all_descs 1 notes)) (most_threads words)
 shown_count words (Err fault) = 0
+
+-- how many frames of the first thread, which dumped, get their source lines
+abbrev pub screen_lines : ℕ
+screen_lines = 24
 
 -- A screen takes the facts that were found.
 pub record AreFactsOf (f : CoreFacts) (a : CoreAnswers) : Type 0 where
@@ -54,11 +58,11 @@ pub record AreFactsOf (f : CoreFacts) (a : CoreAnswers) : Type 0 where
   pub builds : option_map (λ (rows : Bor (List BuildAnswer)). rows.now) a.builds ≡ option_map (λ (v : Vec BuildAnswer Global). v.items) f.builds
 
 -- The executables that are stored for the mapped files of a core, by their names or by the builds that the core has for them, are read, and then the debug
--- files of those that are used. With them the frames of the threads that are shown are found, and the build IDs of the files, of the image that was seen
--- before. The screen shows these.
+-- files of those that are used. With them the frames of the threads that are shown are found, the source lines of the first frames of the first thread, and
+-- the build IDs of the files, of the image that was seen before. The screen shows these.
 pub record FindsFacts {D : Type 0} (g : disk.Ghosts D) (old mid : Parts D) (seq : ℕ) (image front : List ℕ) (threads : ℕ) (a : CoreAnswers) (new : Parts D) : Type 0 where
   pub told : Option (List NamedId)
-  pub tells : told_of image ≡ told
+  pub states : told_of image ≡ told
   pub executables : List ExecutableView
   pub read : Parts D
   pub collects : CollectsAll g mid (wanted_by (told_or_none told) (state_of mid).cases) (Ok executables) read
@@ -66,7 +70,7 @@ pub record FindsFacts {D : Type 0} (g : disk.Ghosts D) (old mid : Parts D) (seq 
   pub all : Parts D
   pub debugs : CollectsAll g read (debugs_by (told_or_none told) executables (state_of read).cases) (Ok debug_files) all
   pub facts : CoreFacts
-  pub says : SaysFacts g old seq front (length image) told (executables ++ debug_files) threads facts new
+  pub says : SaysFacts g old seq front (length image) told (executables ++ debug_files) threads screen_lines facts new
   pub are : AreFactsOf facts a
 
 -- nothing more is read of a core that has a fault

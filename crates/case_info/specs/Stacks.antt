@@ -7,7 +7,7 @@ use Rattle.intake.specs.Part.{PartCall}
 use Rattle.intake.specs.Parts.{Parts}
 use Rattle.case_info.specs.declared.stack.StackPart.{StackPart}
 
--- An image of that size has what it has for n addresses from `first` on in these places; or these are none.
+-- These places have all bytes that an image of that size has for n addresses from `first` on; or the range is empty.
 abbrev pub HasStack : List ℕ → ℕ → ℕ → ℕ → ℕ → ℕ → Type 0
 HasStack front size first n start past = (start ≡ past) ⊎ AreHeldWithin size first n start past (segments_of front)
 

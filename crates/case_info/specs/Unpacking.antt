@@ -1,5 +1,5 @@
--- What is unpacked of a case: of a core the executables that are used for its mapped files, with their debug files, and the name of its program; of an
--- executable itself.
+-- The files that are unpacked of a case: of a core the executables that are used for its mapped files, with their debug files, and the name of its
+-- program; of an executable itself.
 use Rattle.std.specs.Prelude.{◌≡◌, ℕ, true, false, List, [], ◌∷◌, ◌++◌, find, map, Option, None, Some, Result, Ok, Err, IfOk, IsTrue, Vec}
 use Rattle.std.specs.Global.{Global}
 use Rattle.std.specs.Option.{option_and_then, option_map}
@@ -67,7 +67,7 @@ stored_of cases file = option_and_then (λ (x : ExecutableView). option_map (λ 
 abbrev pub unpacked_of : List Case → BuildValue → UnpackedValue
 unpacked_of cases v = record { name = v.name; case = number_of cases (used_executable v.chosen); debug = stored_of cases v.debug }
 
--- those of a core; none, if it has no NT_FILE
+-- those of a core; an empty list, if it has no NT_FILE
 abbrev pub unpacked_with : List Case → Option (List BuildValue) → List UnpackedValue
 unpacked_with cases None = []
 unpacked_with cases (Some values) = map (unpacked_of cases) values
@@ -83,11 +83,12 @@ name_kept kept = option_map (λ (v : Vec ℕ Global). v.items) kept
 
 -- ---- A case.
 
--- The mapped files of a core, whose image was seen before, are found. The executables that are stored for them, by their names or by the builds that the core
--- has for them, are read, and then the debug files of those that are used. The core is seen again, and these are its mapped files with what is used for them.
+-- The mapped files of a core, whose image was seen before, are found. The executables that are stored for them, by their names or by the builds that
+-- the core has for them, are read, and then the debug files of those that are used. The core is seen again, and these are its mapped files with the
+-- executables and debug files that are used for them.
 pub record FindsUnpacked {D : Type 0} (g : disk.Ghosts D) (old mid : Parts D) (seq : ℕ) (image : List ℕ) (files : List UnpackedValue) (new : Parts D) : Type 0 where
   pub told : Option (List NamedId)
-  pub tells : told_of image ≡ told
+  pub states : told_of image ≡ told
   pub executables : List ExecutableView
   pub read : Parts D
   pub collects : CollectsAll g mid (wanted_by (told_or_none told) (state_of mid).cases) (Ok executables) read
@@ -99,7 +100,7 @@ pub record FindsUnpacked {D : Type 0} (g : disk.Ghosts D) (old mid : Parts D) (s
   pub still : told_of again ≡ told
   pub files_are : files ≡ unpacked_with (state_of new).cases (builds_of again (executables ++ debug_files))
 
--- what is known of a core that has a fault
+-- the facts of a core that has a fault
 pub record IsWithoutFiles (seq : ℕ) (fault : CoreFault) (u : Unpacking) : Type 0 where
   pub case : u.seq ≡ seq
   pub kind : u.is_core ≡ true
@@ -107,7 +108,7 @@ pub record IsWithoutFiles (seq : ℕ) (fault : CoreFault) (u : Unpacking) : Type
   pub program : u.program ≡ None
   pub first : u.fault ≡ Some fault
 
--- what is known of a core that has none
+-- the facts of a core that has no fault
 pub record HasFiles (seq : ℕ) (notes : List NoteView) (files : List UnpackedValue) (u : Unpacking) : Type 0 where
   pub case : u.seq ≡ seq
   pub kind : u.is_core ≡ true
@@ -120,7 +121,7 @@ abbrev pub AsksUnpacked : {D : Type 0} → disk.Ghosts D → Parts D → Parts D
 AsksUnpacked g old mid seq image (Ok notes) u new = (files : List UnpackedValue) × FindsUnpacked g old mid seq image files new × HasFiles seq notes files u
 AsksUnpacked g old mid seq image (Err fault) u new = IsWithoutFiles seq fault u × (new ≡ mid)
 
--- The image of a core is seen, and what is unpacked with it is found.
+-- The image of a core is seen, and the files that are unpacked with it are found.
 abbrev pub UnpacksCore : {D : Type 0} → disk.Ghosts D → Parts D → ℕ → Unpacking → Parts D → Type 0
 UnpacksCore {D} g old seq u new = (image : List ℕ) × (mid : Parts D) × SeesImage g old seq image mid × AsksUnpacked g old mid seq image (notes_in image) u new
 
@@ -140,7 +141,7 @@ abbrev pub UnpacksKind : {D : Type 0} → disk.Ghosts D → Parts D → Case →
 UnpacksKind g old c seq u new Core = UnpacksCore g old seq u new
 UnpacksKind g old c seq u new Exec = IsExecutable seq c u × (new ≡ old)
 
--- This is what is unpacked of a case.
+-- These are the files that are unpacked of a case.
 abbrev pub UnpacksCase : {D : Type 0} → disk.Ghosts D → Parts D → ℕ → Unpacking → Type 0
 UnpacksCase {D} g old seq u = (c : Case) × HasCase (state_of old) seq c × (new : Parts D) × UnpacksKind g old c seq u new c.origin.kind
 
@@ -149,7 +150,7 @@ abbrev pub UnpacksBy : {D : Type 0} → disk.Ghosts D → ℕ → Result (Parts 
 UnpacksBy g seq (Ok a) r = IfOk r (UnpacksCase g a seq)
 UnpacksBy g seq (Err (fault, d)) r = r ≡ Err (Open fault)
 
--- The archive on a disk is opened, and what is unpacked of a case of it is found.
+-- The archive on a disk is opened, and the files that are unpacked of a case of it are found.
 abbrev pub UnpacksOn : {D : Type 0} → disk.Ghosts D → ℕ → D → Result Unpacking Refusal → Type 0
 UnpacksOn {D} g seq before r = (opened : Result (Parts D) (OpenFault × D)) × OpenCall g 0 before opened × UnpacksBy g seq opened r
 

@@ -14,7 +14,7 @@ use Rattle.script_streams.specs.Replies.{ok_reply}
 use Rattle.script_words.specs.Hex.{hex_of}
 use Rattle.case_info.specs.Gathering.{FileValue, files_with}
 
--- the builds that are wanted for the mapped files of a core; none without an NT_FILE
+-- the builds that are wanted for the mapped files of a core; an empty list without an NT_FILE
 abbrev pub wants_with : Option (List BuildValue) → List NamedBuild
 wants_with None = []
 wants_with (Some values) = wants_of values
@@ -34,7 +34,7 @@ abbrev pub is_id : List ℕ → Option (List ℕ) → Bool
 is_id id None = false
 is_id id (Some other) = bytes_eq other id
 
--- whether the core has this ID for the file, an executable can be stored by it, and none is used for the file
+-- whether the core has this ID for the file, an executable can be stored by it, and no executable is used for the file
 abbrev pub wants_id : List ℕ → BuildValue → Bool
 wants_id id v = is_id id (wanted_id v.chosen v.core)
 
@@ -43,7 +43,7 @@ abbrev pub AreOnce : List NamedBuild → Type 0
 AreOnce [] = Unit {0}
 AreOnce (w ∷ ws) = (has_id ws w.1 ≡ false) × AreOnce ws
 
--- The IDs that a core wants are exactly those that it has for some file for which none is used, each once.
+-- The IDs that a core wants are exactly those that it has for some file for which no executable is used, each once.
 pub record WantsIs (values : List BuildValue) (ws : List NamedBuild) : Type 0 where
   pub exactly : (id : List ℕ) → has_id ws id ≡ list_any (wants_id id) values
   pub once : AreOnce ws
@@ -69,7 +69,7 @@ ids_reply ws = flat_map id_line ws ++ ok_reply
 
 -- ---- By the files that are kept.
 
--- the build that a file wants, if an executable can be stored by it and none is used
+-- the build that a file wants, if an executable can be stored by it and no executable is used
 abbrev pub wanted_if : List ℕ → Bool → Option (List ℕ) → Option NamedBuild
 wanted_if name is_used None = None
 wanted_if name is_used (Some id) = if has_name id && not is_used then Some (name, id) else None
@@ -82,7 +82,7 @@ unfoldable pub with_all : List NamedBuild → List FileValue → List NamedBuild
 with_all ws [] = ws
 with_all ws (f ∷ fs) = with_all (with_build ws (wanted_of_file f)) fs
 
--- what these cores want, behind the others
+-- the builds that these cores want, after the others
 unfoldable pub with_each_core : List NamedBuild → List (List FileValue) → List NamedBuild
 with_each_core ws [] = ws
 with_each_core ws (files ∷ others) = with_each_core (with_all ws files) others

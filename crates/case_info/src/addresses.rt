@@ -11,8 +11,8 @@ ghost use Rattle.case_info.specs.Fronts.{IsFront};
 
 use crate::case::{kind_of, number_of};
 use crate::front::{core_in, front_of, size_of};
-use crate::rows::tell_refused;
-use crate::telling::{refusal_reply, shown, write_text};
+use crate::printing::{refusal_reply, shown, write_text};
+use crate::rows::print_refused;
 use archive_files::{ArchivePath, Failure, Refusal, take_look, unasked};
 use case_listing::{NamedLine, latest_time};
 use case_screens::{Reason, core_reason, no_thread};
@@ -41,7 +41,7 @@ pub(crate) const NOT_CORE: Reason<'static> = Reason {
     index: None,
 };
 
-// The address by the first bytes of a core, or why it has none.
+// The address by the first bytes of a core, or why it has no such address.
 fn address_by_front(front: &[u8], at: RegisterPlace) -> Result<u64, Reason<'static>>
     ensures { (image : List ℕ) → IsFront want.Core front.now image → said result ≡ address_by (notes_in image) (place_said at) }
 {
@@ -139,7 +139,7 @@ pub fn register_in(words: &[&str]) -> Option<RegisterPlace> {
     }
 }
 
-/// What a line asks with this number for the case in its second word and this address in its third one.
+/// The question of a line with this number for the case in its second word and this address in its third one.
 ///
 /// # Errors
 ///
@@ -165,8 +165,8 @@ pub fn question_with(
     Ok(parse_question(&line_of(alloc, &line)?))
 }
 
-/// What a line asks whose third word is a register, by the registers of the thread that dumped, from a look at the archive. If the case has none, the
-/// reply to the line is printed, which says why.
+/// The question of a line whose third word is a register, by the registers of the thread that dumped, from a look at the archive. If the case has no
+/// such register, the reply to the line is printed, which says why.
 ///
 /// # Errors
 ///
@@ -192,7 +192,7 @@ pub fn question_at<R: AllocGlobal + Files<File = File> + Clock, O: Output>(
             Some(question) => Ok(question.choosing(line.by_build)),
             None => Err(Failure::Refused(Refusal::BadLine)),
         },
-        Ok((_, Err(reason))) => Err(tell_reason(alloc, is_json, &reason, output)),
+        Ok((_, Err(reason))) => Err(print_reason(alloc, is_json, &reason, output)),
         Err(refusal) => {
             shown(alloc, is_json, Err(Failure::Refused(refusal)), output)?;
             Err(Failure::Refused(refusal))
@@ -201,7 +201,7 @@ pub fn question_at<R: AllocGlobal + Files<File = File> + Clock, O: Output>(
 }
 
 // Prints the reply of a line whose case has no such register.
-fn tell_reason<O: Output>(
+fn print_reason<O: Output>(
     alloc: Global,
     is_json: bool,
     reason: &Reason<'_>,
@@ -212,7 +212,7 @@ fn tell_reason<O: Output>(
         Err(refusal) => return Failure::Refused(refusal),
     };
     let told = if is_json {
-        tell_refused(alloc, text.text(), output)
+        print_refused(alloc, text.text(), output)
     } else {
         write_text(text.text(), output)
     };

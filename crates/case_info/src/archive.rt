@@ -2,9 +2,9 @@
 ghost use Rattle.case_info.specs.Archives.{AreFactsOf, FactsOn};
 ghost use Rattle.extents.specs.FreeSet.{free_count};
 
-use crate::telling::{shown, write_json, write_text};
+use crate::printing::{shown, write_json, write_text};
 use archive_files::{ArchivePath, Collected, Failure, Refusal, take_look};
-use archive_screens::{ArchiveFacts, archive_json, cores_by_day, tally_of, tell_archive_screen};
+use archive_screens::{ArchiveFacts, archive_json, cores_by_day, print_archive_screen, tally_of};
 use case_journal::{Journal, Opened};
 use disk_model::Disk;
 use script_streams::{Output, Reply};
@@ -30,13 +30,13 @@ pub fn info_archive<R: AllocGlobal + Files<File = File>, O: Output>(
         Err(refusal) => Err(refusal),
     };
     let done = match found {
-        Ok(facts) => tell_facts(alloc, &facts, is_json, output),
+        Ok(facts) => print_facts(alloc, &facts, is_json, output),
         Err(refusal) => Err(Failure::Refused(refusal)),
     };
     shown(alloc, is_json, done, output)
 }
 
-fn tell_facts<O: Output>(
+fn print_facts<O: Output>(
     alloc: Global,
     facts: &ArchiveFacts,
     is_json: bool,
@@ -47,7 +47,7 @@ fn tell_facts<O: Output>(
     }
     let mut text = Collected::new(alloc);
     let mut reply = Reply::new(&mut text);
-    tell_archive_screen(&mut reply, facts);
+    print_archive_screen(&mut reply, facts);
     match reply.finish() {
         Ok(()) => write_text(text.text(), output),
         Err(_) => Err(Failure::Refused(Refusal::OutOfMemory)),
@@ -58,7 +58,7 @@ fn tell_facts<O: Output>(
 ///
 /// # Errors
 ///
-/// What an opening is refused for.
+/// The refusals of an opening.
 pub fn facts_over<D: Disk + Drop>(alloc: Global, disk: D) -> Result<ArchiveFacts, Refusal>
     ensures { FactsOn D.Disk disk result }
 {

@@ -11,12 +11,12 @@ ghost use Rattle.case_info.specs.Screens.{IsScreenBy, ShowsCase, ShowsCore, Show
 
 use crate::front::{CoreFront, core_in, front_of, header_in, size_of};
 use crate::gathered::{builds_in, debug_files_of, executables_of, facts_of, told_of};
-use crate::telling::{shown, write_text};
+use crate::printing::{shown, write_text};
 use archive_files::{ArchivePath, Collected, Failure, Refusal, take_look, unasked};
 use build_replies::BuildAnswer;
 use case_listing::{find_case, latest_time};
 use case_queries::CaseImage;
-use case_screens::{CaseAnswers, CoreAnswers, case_json, tell_case_screen};
+use case_screens::{CaseAnswers, CoreAnswers, case_json, print_case_screen};
 use disk_model::Disk;
 use elf_view::Want;
 use frame_replies::FramesAnswer;
@@ -257,8 +257,8 @@ fn put_json(
 ) -> Result<Collected, Refusal> {
     let mut text = Collected::new(alloc);
     let mut reply = Reply::new(&mut text);
-    reply.tell(case_json(alloc, case, cases, answers)?.as_bytes());
-    reply.tell(b"\n");
+    reply.print(case_json(alloc, case, cases, answers)?.as_bytes());
+    reply.print(b"\n");
     match reply.finish() {
         Ok(()) => Ok(text),
         Err(_) => Err(Refusal::OutOfMemory),
@@ -275,7 +275,7 @@ fn put_screen(
 {
     let mut text = Collected::new(alloc);
     let mut reply = Reply::new(&mut text);
-    tell_case_screen(&mut reply, case, cases, answers);
+    print_case_screen(&mut reply, case, cases, answers);
     match reply.finish() {
         Ok(()) => Ok(text),
         Err(_) => Err(Refusal::OutOfMemory),

@@ -13,7 +13,7 @@ ghost use Rattle.case_screens.specs.Core.{notes_read};
 ghost use Rattle.elf_view.specs.declared.faults.Want.TheVariants as want;
 ghost use Rattle.image_replies.specs.CoreWords.{core_bytes};
 ghost use Rattle.intake.specs.Parts.{Parts, state_of};
-ghost use Rattle.case_info.specs.Screens.{most_threads, shown_count};
+ghost use Rattle.case_info.specs.Screens.{most_threads, screen_lines, shown_count};
 
 use crate::case::InfoWords;
 use archive_files::Refusal;
@@ -27,6 +27,10 @@ use disk_model::Disk;
 use image_replies::CoreImage;
 use intake::Archive;
 use std::alloc::Global;
+
+// How many frames of the thread that dumped get their source lines. It is what a report shows at most, and a screen shows fewer. Each
+// look-up reads the line tables of an executable from their start, so JSON, which has every frame, has no more lines than these.
+const SCREEN_LINES: usize = 24;
 
 // The mapped files of a core, each with the build ID that the core has for it. The core may be the first bytes alone of an image.
 pub(crate) fn told_of<'a, D: Disk>(
@@ -83,7 +87,8 @@ pub(crate) fn debug_files_of<D: Disk>(
     }
 }
 
-// Finds the frames of the threads of a core that are shown, and the build IDs of its mapped files, with these executables and debug files.
+// Finds the frames of the threads of a core that are shown, the source lines of the first ones, and the build IDs of its mapped files, with
+// these executables and debug files.
 pub(crate) fn facts_of<'a, D: Disk>(
     alloc: Global,
     image: CaseImage<'_>,
@@ -100,7 +105,7 @@ pub(crate) fn facts_of<'a, D: Disk>(
     requires sound { IsSoundFront want.Core image.front.now }
     requires told { IsToldBy image told }
     ensures { IfOk result (λ facts. (before : Parts D) → SeesPieces D.Disk before image.entry told.entry.pieces.items archive.old
-        → SaysFacts D.Disk before image.entry.seq image.entry.front.now image.entry.size (told_view told.entry.files) (map executable_view executables.now ++ map executable_view debug_files.now) (shown_count words (notes_read (Ok core.now))) facts archive.new) }
+        → SaysFacts D.Disk before image.entry.seq image.entry.front.now image.entry.size (told_view told.entry.files) (map executable_view executables.now ++ map executable_view debug_files.now) (shown_count words (notes_read (Ok core.now))) screen_lines facts archive.new) }
 {
     let count = shown_count(core, words);
     match core_facts(
@@ -111,6 +116,7 @@ pub(crate) fn facts_of<'a, D: Disk>(
         executables,
         debug_files,
         count,
+        SCREEN_LINES,
         archive,
     ) {
         Ok(facts) => Ok(facts),
@@ -118,7 +124,7 @@ pub(crate) fn facts_of<'a, D: Disk>(
     }
 }
 
-// The same with executables and debug files that are prepared, which serve the core.
+// The same without source lines, with executables and debug files that are prepared, which serve the core.
 pub(crate) fn facts_with<'a, 'e: 'a, D: Disk>(
     alloc: Global,
     image: CaseImage<'_>,
@@ -135,10 +141,10 @@ pub(crate) fn facts_with<'a, 'e: 'a, D: Disk>(
     requires sound { IsSoundFront want.Core image.front.now }
     requires told { IsToldBy image told }
     ensures { IfOk result (λ facts. (before : Parts D) → SeesPieces D.Disk before image.entry told.entry.pieces.items archive.old
-        → SaysFacts D.Disk before image.entry.seq image.entry.front.now image.entry.size (told_view told.entry.files) (prepared_views prepared.now) (shown_count words (notes_read (Ok core.now))) facts archive.new) }
+        → SaysFacts D.Disk before image.entry.seq image.entry.front.now image.entry.size (told_view told.entry.files) (prepared_views prepared.now) (shown_count words (notes_read (Ok core.now))) 0 facts archive.new) }
 {
     let count = shown_count(core, words);
-    match core_facts_with(alloc, image, core, told, prepared, count, archive) {
+    match core_facts_with(alloc, image, core, told, prepared, count, 0, archive) {
         Ok(facts) => Ok(facts),
         Err(fault) => Err(refusal_of(fault)),
     }
@@ -159,9 +165,9 @@ pub(crate) fn builds_of<'a, D: Disk>(
     requires sound { IsSoundFront want.Core image.front.now }
     requires told { IsToldBy image told }
     ensures { IfOk result (λ facts. (before : Parts D) → SeesPieces D.Disk before image.entry told.entry.pieces.items archive.old
-        → SaysFacts D.Disk before image.entry.seq image.entry.front.now image.entry.size (told_view told.entry.files) (map executable_view executables.now) 0 facts archive.new) }
+        → SaysFacts D.Disk before image.entry.seq image.entry.front.now image.entry.size (told_view told.entry.files) (map executable_view executables.now) 0 0 facts archive.new) }
 {
-    match core_facts(alloc, image, core, told, executables, &[], 0, archive) {
+    match core_facts(alloc, image, core, told, executables, &[], 0, 0, archive) {
         Ok(facts) => Ok(facts),
         Err(fault) => Err(refusal_of(fault)),
     }
@@ -175,7 +181,7 @@ pub(crate) fn refusal_of(fault: WalkFault) -> Refusal {
     }
 }
 
-// The build IDs that were found, lent.
+// The build IDs that were found, borrowed.
 pub(crate) fn builds_in<'s, 'a>(facts: &'s CoreFacts<'a>) -> Option<&'s [BuildAnswer<'a>]>
     ensures { option_map (λ rows. rows.now) result ≡ option_map (λ v. v.items) facts.now.builds }
 {

@@ -29,7 +29,8 @@ pub(crate) struct ListedCase {
     pub(crate) is_core: bool,
 }
 
-// The cases of an archive in the order of their numbers, and for each the files that it maps: none, if it is no core.
+// The cases of an archive in the order of their numbers, and for
+// each the files that it maps: an empty list, if it is no core.
 #[derive(Drop)]
 pub(crate) struct Gathered {
     pub(crate) cases: Vec<ListedCase>,

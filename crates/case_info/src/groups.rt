@@ -7,23 +7,23 @@ ghost use Rattle.group_tables.specs.Table.{groups_table};
 ghost use Rattle.group_tables.specs.Values.{row_said};
 ghost use Rattle.intake.specs.Parts.{state_of};
 ghost use Rattle.journal_layout.specs.Case.{case_of};
-ghost use Rattle.script_streams.specs.Replies.{TellsText, telling};
+ghost use Rattle.script_streams.specs.Replies.{PrintsText, printing};
 ghost use Rattle.unlocked_reading.specs.Finding.{has_number};
-ghost use Rattle.case_info.specs.Groups.{FindsCrashes, FindsCrashesOn, IsText, IsTextOf, TellsOn, TellsRow, TellsRows, TellsThere, IsCoreIf, has_member};
+ghost use Rattle.case_info.specs.Groups.{FindsCrashes, FindsCrashesOn, IsText, IsTextOf, PrintsOn, PrintsRow, PrintsRows, PrintsThere, IsCoreIf, has_member};
 ghost use Rattle.case_info.specs.Screens.{held};
 
 use crate::case::{kind_of, number_of};
 use crate::crash_search::crashes_of;
-use crate::rows::tell_refused;
-use crate::telling::{shown, write_text};
+use crate::printing::{shown, write_text};
+use crate::rows::print_refused;
 use archive_files::{ArchivePath, Collected, Failure, Refusal, take_look, unasked};
 use case_listing::ListWords;
 use case_tables::Wanted;
 use crash_signatures::grouped;
 use disk_model::Disk;
 use group_tables::{
-    CrashedCore, GroupRow, group_json, groups_json, numbered, rows_of, tell_group,
-    tell_group_lines, tell_groups, wanted_cores,
+    CrashedCore, GroupRow, group_json, groups_json, numbered, print_group, print_group_lines,
+    print_groups, rows_of, wanted_cores,
 };
 use intake::{Archive, ArchiveFault, Settings};
 use journal_layout::{Entry, Kind};
@@ -35,7 +35,7 @@ use std::rt::Files;
 use std::time::Clock;
 use unlocked_reading::{AskFault, Places, Reads, find_cases};
 
-// A day, in seconds: times that are later than in a day count as none.
+// A day, in seconds: times that are more than a day ahead don't count.
 const DAY: u64 = 86_400;
 
 /// The request that the words of `groups` make.
@@ -59,7 +59,7 @@ pub(crate) struct GroupsForm {
     latest: u64,
 }
 
-// What was found of the cores that are wanted.
+// The results of the search for the cores that are wanted.
 #[derive(Drop)]
 enum Found {
     // The text, and whether there is a core.
@@ -99,7 +99,7 @@ pub fn group_archive<R: AllocGlobal + Files<File = File> + Clock, O: Output>(
     )
 }
 
-// Writes what was found.
+// Writes the results of the search.
 fn write_found<O: Output>(
     alloc: Global,
     found: Found,
@@ -107,7 +107,7 @@ fn write_found<O: Output>(
     output: &mut O,
 ) -> Result<(), Failure> {
     match found {
-        Found::NotCore if words.is_json || words.by_lines => tell_refused(
+        Found::NotCore if words.is_json || words.by_lines => print_refused(
             alloc,
             b"no NotCore\n",
             output,
@@ -179,7 +179,7 @@ fn groups_looked<S: SharedDisk + Drop>(
         Err(fault) => return Err(unasked(AskFault::Look(fault))),
     };
     let disk = again.unlocked(Vec::new(alloc));
-    let (text, some) = tell_again(alloc, disk, &numbers, crashes, form)?;
+    let (text, some) = print_again(alloc, disk, &numbers, crashes, form)?;
     Ok(Found::Text(text, some))
 }
 
@@ -245,21 +245,21 @@ fn numbers_in<D: Disk>(
 }
 
 // Opens the archive on a disk again, and puts the groups of those cores that are still there into a text. Says whether there are any.
-fn tell_again<D: Disk + Drop>(
+fn print_again<D: Disk + Drop>(
     alloc: Global,
     disk: D,
     numbers: &[u32],
     crashes: Vec<CrashedCore>,
     form: GroupsForm,
 ) -> Result<(Collected, bool), Refusal>
-    ensures { TellsOn D.Disk numbers.now crashes.items form disk result }
+    ensures { PrintsOn D.Disk numbers.now crashes.items form disk result }
 {
     match Archive::open(alloc, disk, Settings { limit: 0 }) {
         Ok(archive) => {
             if !has_each(&archive, numbers) {
                 return Err(Refusal::Call(ArchiveFault::NoCase));
             }
-            tell_there(alloc, &archive, crashes, form)
+            print_there(alloc, &archive, crashes, form)
         }
         Err((fault, _)) => Err(Refusal::Open(fault)),
     }
@@ -282,13 +282,13 @@ pub(crate) fn has_case<D: Disk>(archive: &Archive<D>, number: u32) -> bool
 }
 
 // The groups of those of these cores that are there.
-fn tell_there<D: Disk>(
+fn print_there<D: Disk>(
     alloc: Global,
     archive: &Archive<D>,
     crashes: Vec<CrashedCore>,
     form: GroupsForm,
 ) -> Result<(Collected, bool), Refusal>
-    ensures { IfOk result (λ told. TellsThere archive.now crashes.items form told) }
+    ensures { IfOk result (λ told. PrintsThere archive.now crashes.items form told) }
 {
     let mut there = crashes;
     there.retain(|crash| has_case(archive, crash.number));
@@ -319,74 +319,74 @@ fn put_rows(alloc: Global, rows: &[GroupRow<'_>], form: GroupsForm) -> Result<Co
 {
     let mut text = Collected::new(alloc);
     let mut reply = Reply::new(&mut text);
-    tell_rows(alloc, &mut reply, rows, form)?;
+    print_rows(alloc, &mut reply, rows, form)?;
     match reply.finish() {
         Ok(()) => Ok(text),
         Err(_) => Err(Refusal::OutOfMemory),
     }
 }
 
-fn tell_rows<O: Output>(
+fn print_rows<O: Output>(
     alloc: Global,
     reply: &mut Reply<'_, O>,
     rows: &[GroupRow<'_>],
     form: GroupsForm,
 ) -> Result<(), Refusal>
-    ensures { OnOk result (form.is_json ≡ false → TellsRows form.case form.latest (map row_said rows.now) (TellsText (telling O.Output reply.old reply.new))) }
+    ensures { OnOk result (form.is_json ≡ false → PrintsRows form.case form.latest (map row_said rows.now) (PrintsText (printing O.Output reply.old reply.new))) }
 {
     match form.case {
-        Some(seq) => Ok(tell_one(alloc, reply, rows, seq, form)?),
-        None => Ok(tell_all(alloc, reply, rows, form)?),
+        Some(seq) => Ok(print_one(alloc, reply, rows, seq, form)?),
+        None => Ok(print_all(alloc, reply, rows, form)?),
     }
 }
 
-// Tells all groups.
-fn tell_all<O: Output>(
+// Prints all groups.
+fn print_all<O: Output>(
     alloc: Global,
     reply: &mut Reply<'_, O>,
     rows: &[GroupRow<'_>],
     form: GroupsForm,
 ) -> Result<(), Refusal>
-    ensures { OnOk result (form.is_json ≡ false → TellsText (telling O.Output reply.old reply.new) (groups_table form.latest (map row_said rows.now))) }
+    ensures { OnOk result (form.is_json ≡ false → PrintsText (printing O.Output reply.old reply.new) (groups_table form.latest (map row_said rows.now))) }
 {
     if form.is_json {
-        return tell_all_json(alloc, reply, rows, form);
+        return print_all_json(alloc, reply, rows, form);
     }
-    Ok(tell_groups(alloc, reply, form.latest, rows)?)
+    Ok(print_groups(alloc, reply, form.latest, rows)?)
 }
 
-// Tells all groups as JSON: as an array, or a line for each.
-fn tell_all_json<O: Output>(
+// Prints all groups as JSON: as an array, or a line for each.
+fn print_all_json<O: Output>(
     alloc: Global,
     reply: &mut Reply<'_, O>,
     rows: &[GroupRow<'_>],
     form: GroupsForm,
 ) -> Result<(), Refusal> {
     if form.by_lines {
-        return Ok(tell_group_lines(alloc, reply, form.latest, rows)?);
+        return Ok(print_group_lines(alloc, reply, form.latest, rows)?);
     }
-    tell_json(reply, &groups_json(alloc, form.latest, rows)?);
+    print_json(reply, &groups_json(alloc, form.latest, rows)?);
     Ok(())
 }
 
-// Tells the group that a case is in.
-fn tell_one<O: Output>(
+// Prints the group that a case is in.
+fn print_one<O: Output>(
     alloc: Global,
     reply: &mut Reply<'_, O>,
     rows: &[GroupRow<'_>],
     seq: u32,
     form: GroupsForm,
 ) -> Result<(), Refusal>
-    ensures { OnOk result (form.is_json ≡ false → TellsRow form.latest seq (map row_said rows.now) (TellsText (telling O.Output reply.old reply.new))) }
+    ensures { OnOk result (form.is_json ≡ false → PrintsRow form.latest seq (map row_said rows.now) (PrintsText (printing O.Output reply.old reply.new))) }
 {
     let Some(row) = row_with(rows, seq) else {
         return Err(Refusal::Call(ArchiveFault::NoCase));
     };
     if form.is_json {
-        tell_json(reply, &group_json(alloc, form.latest, row)?);
+        print_json(reply, &group_json(alloc, form.latest, row)?);
         return Ok(());
     }
-    Ok(tell_group(alloc, reply, form.latest, row)?)
+    Ok(print_group(alloc, reply, form.latest, row)?)
 }
 
 // The first group that a case is in.
@@ -402,7 +402,7 @@ fn has_member(row: &GroupRow<'_>, seq: u32) -> bool
     row.members.iter().any(|member| member.case.seq == seq)
 }
 
-fn tell_json<O: Output>(reply: &mut Reply<'_, O>, json: &str) {
-    reply.tell(json.as_bytes());
-    reply.tell(b"\n");
+fn print_json<O: Output>(reply: &mut Reply<'_, O>, json: &str) {
+    reply.print(json.as_bytes());
+    reply.print(b"\n");
 }

@@ -32,7 +32,7 @@ fn kept_id(alloc: Global, id: Option<&[u8]>) -> Result<Option<Vec<u8>>, AllocErr
     }
 }
 
-// An ID that is kept, lent.
+// An ID that is kept, borrowed.
 pub(crate) fn lent_id(kept: &Option<Vec<u8>>) -> Option<&[u8]>
     ensures { option_map (λ id. id.now) result ≡ id_kept kept.now }
 {
@@ -72,7 +72,7 @@ fn files_of_rows(alloc: Global, rows: &[BuildAnswer<'_>]) -> Result<Vec<KeptFile
     Ok(files)
 }
 
-// The mapped files of a core, by the facts that were read. A core without NT_FILE has none.
+// The mapped files of a core, by the facts that were read. A core without NT_FILE has no files.
 pub(crate) fn kept_files(
     alloc: Global,
     rows: Option<&[BuildAnswer<'_>]>,

@@ -1,5 +1,5 @@
-//! What people are shown of an archive's file: `info` of a case or of the archive, the rows of a line as JSON, and the builds
-//! that its cores want; which cases go in a prune of it; and what is unpacked of a case.
+//! The outputs for people about an archive's file: `info` of a case or of the archive, the rows of a line as JSON, and the
+//! builds that its cores want; the cases that a prune of it drops; and the files that are unpacked of a case.
 #![tactic(auto)]
 
 mod addresses;
@@ -15,11 +15,11 @@ mod kept_files;
 mod laws;
 mod mapped;
 mod plan;
+mod printing;
 mod prune;
 mod report;
 mod rows;
 mod stack;
-mod telling;
 mod unpacked_files;
 mod unpacking;
 mod wanted;
@@ -36,5 +36,5 @@ pub use report::report_archive;
 pub use rows::ask_rows;
 pub use unpacked_files::{DebugFile, UnpackedFile};
 pub use unpacking::{Unpacking, unpacking_of};
-pub use wants::{WantsWords, tell_wants};
+pub use wants::{WantsWords, print_wants};
 pub use words::{CoreLine, CoreQuestion, DumpedPlace, ask_core, dumped_words, thread_words};

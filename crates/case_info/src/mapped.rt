@@ -52,7 +52,7 @@ pub(crate) fn files_in<D: Disk>(
     Ok(files_by_front(alloc, image, archive)?)
 }
 
-// The same of a core of which the first bytes are at hand. One that has a fault has none: that is no refusal.
+// The same of a core of which the first bytes are at hand. A core that has a fault has no files: that is no refusal.
 fn files_by_front<D: Disk>(
     alloc: Global,
     image: CaseImage<'_>,

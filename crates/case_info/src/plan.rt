@@ -2,7 +2,7 @@
 ghost use Rattle.std.specs.Prelude.{◌≡◌, ◌≤◌, true, IfOk, List, length, map};
 ghost use Rattle.std.specs.List.Sorted.{IsStrictlyIncreasing};
 ghost use Rattle.pruning.specs.Cases.{number};
-ghost use Rattle.script_streams.specs.Replies.{TellsText, telling};
+ghost use Rattle.script_streams.specs.Replies.{PrintsText, printing};
 ghost use Rattle.case_info.specs.Gathering.{FileValue, file_view, files_view, listed_view};
 ghost use Rattle.case_info.specs.Planning.{AreSeenAs, IsContent, IsPlan, IsSeenAs, drop_line, lent_view, mapped_of, mapped_view};
 
@@ -11,10 +11,10 @@ use crate::kept_files::{KeptFile, lent_id};
 use archive_files::Refusal;
 use pruning::{Content, LiveCase, MappedFile, Pruning, prune};
 use retention::Policy;
-use script_streams::{Output, Reply, StreamFault, tell_ok};
+use script_streams::{Output, Reply, StreamFault, print_ok};
 use std::alloc::{AllocError, Global};
 
-// A mapped file, lent.
+// A mapped file, borrowed.
 fn lent_file(file: &KeptFile) -> MappedFile<'_>
     ensures { mapped_view result ≡ mapped_of (file_view file.now) }
 {
@@ -25,7 +25,7 @@ fn lent_file(file: &KeptFile) -> MappedFile<'_>
     }
 }
 
-// The files that a core maps, lent.
+// The files that a core maps, borrowed.
 fn lent_files<'a>(alloc: Global, files: &'a [KeptFile]) -> Result<Vec<MappedFile<'a>>, AllocError>
     ensures { IfOk result (λ lent. map mapped_view lent.items ≡ map mapped_of (map file_view files.now)) }
 {
@@ -129,29 +129,29 @@ fn name_of<'a>(cases: &'a [ListedCase], seq: u32) -> &'a [u8] {
 }
 
 // Prints a case that would go.
-fn tell_drop<O: Output>(reply: &mut Reply<'_, O>, seq: u32, name: &[u8])
-    ensures { TellsText (telling O.Output reply.old reply.new) (drop_line seq name.now) }
+fn print_drop<O: Output>(reply: &mut Reply<'_, O>, seq: u32, name: &[u8])
+    ensures { PrintsText (printing O.Output reply.old reply.new) (drop_line seq name.now) }
 {
-    reply.tell(b"drop ");
-    reply.tell_decimal(u128::from(seq));
-    reply.tell(b" ");
-    reply.tell_text(name);
-    reply.tell(b"\n");
+    reply.print(b"drop ");
+    reply.print_decimal(u128::from(seq));
+    reply.print(b" ");
+    reply.print_text(name);
+    reply.print(b"\n");
 }
 
 // Prints which cases would go.
-pub(crate) fn tell_plan<O: Output>(
+pub(crate) fn print_plan<O: Output>(
     cases: &[ListedCase],
     pruning: &Pruning,
     output: &mut O,
 ) -> Result<(), StreamFault> {
     let mut reply = Reply::new(output);
     for seq in &pruning.dropped {
-        tell_drop(&mut reply, *seq, name_of(cases, *seq));
+        print_drop(&mut reply, *seq, name_of(cases, *seq));
     }
     if pruning.unmet {
-        reply.tell(b"unmet\n");
+        reply.print(b"unmet\n");
     }
-    tell_ok(&mut reply);
+    print_ok(&mut reply);
     reply.finish()
 }

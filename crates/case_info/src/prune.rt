@@ -3,9 +3,9 @@ ghost use Rattle.std.specs.Prelude.{IfOk};
 ghost use Rattle.case_info.specs.Planning.{PlansIn, PlansOver, PrunesOver};
 
 use crate::gathering::{gather, gather_unlocked};
-use crate::plan::{planned, tell_plan};
+use crate::plan::{planned, print_plan};
 use archive_files::{
-    Access, ArchivePath, Failure, Held, Refusal, ask_told, take_disk, tell_trouble,
+    Access, ArchivePath, Failure, Held, Refusal, ask_told, print_trouble, take_disk,
 };
 use diagnostics::Onlooker;
 use disk_model::Disk;
@@ -24,7 +24,7 @@ use std::time::Clock;
 pub struct PruneWords {
     /// The limits for the cores. Without a limit no core goes.
     pub policy: Policy,
-    /// The cases are deleted. Else it is only told which would be.
+    /// The cases are deleted. Otherwise the cases that would be deleted are only printed.
     pub deletes: bool,
 }
 
@@ -61,7 +61,7 @@ fn foresee<R: AllocGlobal + Files<File = File>, O: Output>(
 ) -> Result<(), Failure> {
     let gathered = gather_unlocked(rt, place)?;
     let pruning = planned(rt.alloc(), &gathered, policy)?;
-    Ok(tell_plan(&gathered.cases, &pruning, output)?)
+    Ok(print_plan(&gathered.cases, &pruning, output)?)
 }
 
 // Prunes with the archive's lock, and writes the text once the lock is released.
@@ -78,7 +78,7 @@ fn prune_locked<R: AllocGlobal + Files<File = File> + Clock, O: Output, W: Onloo
     };
     let mut reply = Held::new(rt.alloc(), output);
     let (pruned, disk) = prune_over(rt.alloc(), disk, policy, &mut reply);
-    tell_trouble(&disk, onlooker);
+    print_trouble(&disk, onlooker);
     drop(disk);
     match reply.finish() {
         Ok(()) => pruned,

@@ -3,8 +3,8 @@ use crate::case::{InfoWords, kind_of, no_frames, number_of};
 use crate::front::{CoreFront, core_in, front_of, header_in, size_of};
 use crate::gathered::{builds_in, debug_files_of, executables_of, facts_of, told_of};
 use crate::groups::{find_crashes, has_case, row_with};
+use crate::printing::write_text;
 use crate::stack::{StackPart, lent_stack, read_stack};
-use crate::telling::write_text;
 use archive_files::{ArchivePath, Failure, Refusal, take_look, unasked};
 use build_replies::BuildAnswer;
 use case_listing::latest_time;
@@ -243,7 +243,7 @@ fn end_page<D: Disk>(archive: &Archive<D>, page: Page, name: &[u8]) -> Result<Ve
     Ok(page.finish()?)
 }
 
-// Puts what is known of the archive, and gives the numbers of the cases that come on the page.
+// Puts the facts of the archive, and gives the numbers of the cases that come on the page.
 fn page_archive<D: Disk>(
     alloc: Global,
     archive: &Archive<D>,
@@ -375,7 +375,7 @@ fn page_exec<D: Disk>(
     page_answers(alloc, archive, page, seq, &answers, nothing(size), None)
 }
 
-// Puts a case by what is known of it, and by the window of its image that has its stack.
+// Puts a case by the facts that are known of it, and by the window of its image that has its stack.
 fn page_answers<D: Disk>(
     alloc: Global,
     archive: &Archive<D>,

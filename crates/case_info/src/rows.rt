@@ -1,5 +1,5 @@
 // The rows of a line that asks an image, as JSON.
-use crate::telling::{shown, write_json};
+use crate::printing::{shown, write_json};
 use archive_files::{ArchivePath, Collected, Failure, ask};
 use case_listing::{NamedLine, ask_case};
 use case_screens::{refusal_json, rows_json};
@@ -32,14 +32,14 @@ pub fn ask_rows<R: AllocGlobal + Files<File = File> + Clock, O: Output, W: Onloo
         None => ask_case(rt, place, line, &mut reply, onlooker),
     };
     let done = match asked {
-        Ok(()) => tell_rows(alloc, line.words, reply.text(), output),
-        Err(Failure::Told) => tell_refused(alloc, reply.text(), output),
+        Ok(()) => print_rows(alloc, line.words, reply.text(), output),
+        Err(Failure::Told) => print_refused(alloc, reply.text(), output),
         Err(failure) => Err(failure),
     };
     shown(alloc, true, done, output)
 }
 
-fn tell_rows<O: Output>(
+fn print_rows<O: Output>(
     alloc: Global,
     words: &[&str],
     text: &[u8],
@@ -51,7 +51,7 @@ fn tell_rows<O: Output>(
 }
 
 // Prints why a line is refused, whose reply is `no` and the reason.
-pub(crate) fn tell_refused<O: Output>(
+pub(crate) fn print_refused<O: Output>(
     alloc: Global,
     text: &[u8],
     output: &mut O,

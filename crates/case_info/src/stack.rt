@@ -27,7 +27,7 @@ pub(crate) struct StackPart {
     pub(crate) bytes: Vec<u8>,
 }
 
-// The part, lent.
+// The part, borrowed.
 pub(crate) fn lent_stack<'p>(size: usize, part: &'p StackPart) -> Window<'p>
     ensures { (result.size ≡ size) × (result.at ≡ part.now.at) × (result.bytes.now ≡ part.now.bytes.items) }
 {
@@ -38,7 +38,8 @@ pub(crate) fn lent_stack<'p>(size: usize, part: &'p StackPart) -> Window<'p>
     }
 }
 
-// The places of an image of `size` bytes that have what it has for these addresses; none, if they lie far apart.
+// The places of an image of `size` bytes that have the bytes which
+// it has for these addresses; an empty range, if they lie far apart.
 fn places_of(core: &CoreImage<'_>, size: u64, range: StackRange) -> ImageRange
     ensures within { (result.start ≤ result.past) × (result.past ≤ size) }
     ensures few { result.past - result.start ≤ 65536 }
@@ -51,7 +52,8 @@ fn places_of(core: &CoreImage<'_>, size: u64, range: StackRange) -> ImageRange
     places
 }
 
-// Reads what an image has for the addresses that a page shows as a stack. They are read only if they lie close together.
+// Reads the bytes that an image has for the addresses that a page
+// shows as a stack. They are read only if they lie close together.
 pub(crate) fn read_stack<D: Disk>(
     alloc: Global,
     image: CaseImage<'_>,

@@ -21,10 +21,10 @@ use image_replies::CoreImage;
 use journal_layout::{Entry, Kind};
 use std::alloc::{AllocError, Global};
 
-// AT_ENTRY: the address where the program begins.
+// AT_ENTRY: the address at which the program begins.
 const AT_ENTRY: u64 = 9;
 
-/// A mapped file, with the cases of what is used for it.
+/// A mapped file, with the cases of the executable and the debug file that are used for it.
 #[derive(Drop)]
 pub struct UnpackedFile {
     /// Its name.
@@ -44,7 +44,7 @@ pub struct DebugFile {
     pub name: Vec<u8>,
 }
 
-// Where the program begins, by pairs of an auxiliary vector.
+// The address at which the program begins, by pairs of an auxiliary vector.
 fn start_among(pairs: AuxvPairs<'_>) -> Option<u64>
     ensures { result ≡ start_among (pairs_left pairs.entry) }
 {
@@ -154,7 +154,7 @@ fn unpacked_rows(
     Ok(files)
 }
 
-// The mapped files of a core, by the facts that were read. A core without NT_FILE has none.
+// The mapped files of a core, by the facts that were read. A core without NT_FILE has no files.
 pub(crate) fn unpacked_files(
     alloc: Global,
     cases: &[Entry],

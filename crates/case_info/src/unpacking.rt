@@ -1,4 +1,4 @@
-// What is unpacked of a case.
+// The files that are unpacked of a case.
 ghost use Rattle.std.specs.Prelude.{◌≡◌, ◌≤◌, ◌++◌, IfOk, length, map};
 ghost use Rattle.std.specs.Option.{option_map};
 ghost use Rattle.build_replies.specs.Mapped.{build_view, told_view};
@@ -32,7 +32,7 @@ use shared_disk::{Looked, SharedDisk, Unlocked};
 use std::alloc::Global;
 use unlocked_reading::{Places, Reads, find_cases, stay};
 
-/// What is unpacked of a case.
+/// The files that are unpacked of a case, and the facts that an unpacking needs.
 #[derive(Drop)]
 pub struct Unpacking {
     /// The number of the case.
@@ -47,13 +47,13 @@ pub struct Unpacking {
     pub fault: Option<CoreFault>,
 }
 
-/// Finds what is unpacked of a case, from a look at its archive on: for each mapped file of a core the executable that is used for it, and
-/// the debug file of that. The case is named by its number, by its name, or as `last` or `latest`; no core is from
-/// after `until`, in seconds since the epoch. The cases that were read are found again then.
+/// Finds the files that are unpacked of a case, from a look at its archive on: for each mapped file of a core the executable that is used
+/// for it, and the debug file of that. The case is named by its number, by its name, or as `last` or `latest`; no core is from after
+/// `until`, in seconds since the epoch. The cases that were read are found again then.
 ///
 /// # Errors
 ///
-/// What an opening is refused for. `NoCase`: there is no such case, or a case was deleted meanwhile. `OutOfMemory` and `Disk`.
+/// The refusals of an opening. `NoCase`: there is no such case, or a case was deleted meanwhile. `OutOfMemory` and `Disk`.
 pub fn unpacking_of<S: SharedDisk + Drop>(
     alloc: Global,
     looked: Looked<S>,
@@ -90,7 +90,7 @@ fn unpacking_looked<S: SharedDisk + Drop>(
     }
 }
 
-// Opens the archive on a disk, and finds what is unpacked of a case of it.
+// Opens the archive on a disk, and finds the files that are unpacked of a case of it.
 fn unpacking_on<D: Disk + Drop>(alloc: Global, disk: D, seq: u32) -> Result<Unpacking, Refusal>
     ensures { UnpacksOn D.Disk seq disk result }
 {
@@ -228,7 +228,7 @@ fn stored_facts<'a, D: Disk>(
     requires sound { IsSoundFront want.Core image.front.now }
     requires told { IsToldBy image told }
     ensures { IfOk result (λ facts. (before : Parts D) → SeesPieces D.Disk before image.entry told.entry.pieces.items archive.old
-        → SaysFacts D.Disk before image.entry.seq image.entry.front.now image.entry.size (told_view told.entry.files) (map executable_view executables.now ++ map executable_view debug_files.now) 0 facts archive.new) }
+        → SaysFacts D.Disk before image.entry.seq image.entry.front.now image.entry.size (told_view told.entry.files) (map executable_view executables.now ++ map executable_view debug_files.now) 0 0 facts archive.new) }
 {
     match core_facts(
         alloc,
@@ -237,6 +237,7 @@ fn stored_facts<'a, D: Disk>(
         told,
         executables,
         debug_files,
+        0,
         0,
         archive,
     ) {

@@ -4,7 +4,7 @@ ghost use Rattle.std.specs.List.{flat_map};
 ghost use Rattle.std.specs.Option.{option_map};
 ghost use Rattle.build_replies.specs.Builds.{wants_line};
 ghost use Rattle.build_replies.specs.BuildsWords.{wanted_view, with_build};
-ghost use Rattle.script_streams.specs.Replies.{TellsText, telling};
+ghost use Rattle.script_streams.specs.Replies.{PrintsText, printing};
 ghost use Rattle.case_info.specs.Gathering.{file_view, files_view};
 ghost use Rattle.case_info.specs.Wants.{AreIdsOf, id_line, wanted_of_file, with_all, with_each_core};
 
@@ -54,7 +54,7 @@ impl<'a> WantedBuilds<'a> {
         }
     }
 
-    // Puts a build after the others, if there is one and none has its ID.
+    // Puts a build after the others, if there is one and no other has its ID.
     fn add(&mut self, build: Option<WantedBuild<'a>>) -> Result<(), AllocError>
         ensures { OnOk result (builds_in self.new ≡ with_build (builds_in self.old) (option_map wanted_view build.entry)) }
     {
@@ -79,7 +79,7 @@ impl<'a> WantedBuilds<'a> {
         Ok(())
     }
 
-    // What these cores want, each ID once over all.
+    // The builds that these cores want, each ID once over all.
     pub(crate) fn of(
         alloc: Global,
         cores: &'a [Vec<KeptFile>],
@@ -95,37 +95,37 @@ impl<'a> WantedBuilds<'a> {
 }
 
 // Prints the line of a build.
-fn tell_build<O: Output>(reply: &mut Reply<'_, O>, build: &WantedBuild<'_>)
-    ensures { TellsText (telling O.Output reply.old reply.new) (wants_line (wanted_view build.now)) }
+fn print_build<O: Output>(reply: &mut Reply<'_, O>, build: &WantedBuild<'_>)
+    ensures { PrintsText (printing O.Output reply.old reply.new) (wants_line (wanted_view build.now)) }
 {
-    reply.tell_text(build.name);
-    reply.tell(b" ");
-    reply.tell_hex(build.id);
-    reply.tell(b"\n");
+    reply.print_text(build.name);
+    reply.print(b" ");
+    reply.print_hex(build.id);
+    reply.print(b"\n");
 }
 
 // Prints a line for each build.
-pub(crate) fn tell_builds<O: Output>(reply: &mut Reply<'_, O>, builds: &[WantedBuild<'_>])
-    ensures { TellsText (telling O.Output reply.old reply.new) (flat_map wants_line (map wanted_view builds.now)) }
+pub(crate) fn print_builds<O: Output>(reply: &mut Reply<'_, O>, builds: &[WantedBuild<'_>])
+    ensures { PrintsText (printing O.Output reply.old reply.new) (flat_map wants_line (map wanted_view builds.now)) }
 {
     for build in builds {
-        tell_build(reply, build);
+        print_build(reply, build);
     }
 }
 
 // Prints the ID of a build.
-fn tell_id<O: Output>(reply: &mut Reply<'_, O>, build: &WantedBuild<'_>)
-    ensures { TellsText (telling O.Output reply.old reply.new) (id_line (wanted_view build.now)) }
+fn print_id<O: Output>(reply: &mut Reply<'_, O>, build: &WantedBuild<'_>)
+    ensures { PrintsText (printing O.Output reply.old reply.new) (id_line (wanted_view build.now)) }
 {
-    reply.tell_hex(build.id);
-    reply.tell(b"\n");
+    reply.print_hex(build.id);
+    reply.print(b"\n");
 }
 
 // Prints the ID of each build.
-pub(crate) fn tell_ids<O: Output>(reply: &mut Reply<'_, O>, builds: &[WantedBuild<'_>])
-    ensures { TellsText (telling O.Output reply.old reply.new) (flat_map id_line (map wanted_view builds.now)) }
+pub(crate) fn print_ids<O: Output>(reply: &mut Reply<'_, O>, builds: &[WantedBuild<'_>])
+    ensures { PrintsText (printing O.Output reply.old reply.new) (flat_map id_line (map wanted_view builds.now)) }
 {
     for build in builds {
-        tell_id(reply, build);
+        print_id(reply, build);
     }
 }

@@ -1,7 +1,7 @@
 // `wants`: the builds that cores have mapped files of, and for which no executable that is stored is used.
 ghost use Rattle.std.specs.Prelude.{◌≡◌, map};
 ghost use Rattle.build_replies.specs.BuildsWords.{wanted_view};
-ghost use Rattle.script_streams.specs.Telling.{IsDelivered};
+ghost use Rattle.script_streams.specs.Printing.{IsDelivered};
 ghost use Rattle.shared_disk.specs.Looks.{shared_of};
 ghost use Rattle.case_info.specs.Gathering.{FilesBetween};
 ghost use Rattle.case_info.specs.Wants.{ids_reply, wants_reply};
@@ -9,9 +9,9 @@ ghost use Rattle.case_info.specs.Wants.{ids_reply, wants_reply};
 use crate::gathering::{Gathered, cases_on, gather_unlocked};
 use crate::kept_files::{KeptFile, push_files};
 use crate::mapped::files_on;
-use crate::rows::tell_refused;
-use crate::telling::{shown, write_json, write_text};
-use crate::wanted::{WantedBuilds, tell_builds, tell_ids};
+use crate::printing::{shown, write_json, write_text};
+use crate::rows::print_refused;
+use crate::wanted::{WantedBuilds, print_builds, print_ids};
 use archive_files::{ArchivePath, Collected, Failure, Refusal, ask, take_look, unasked};
 use bstr::ByteSlice;
 use build_replies::WantedBuild;
@@ -22,7 +22,7 @@ use disk_model::Disk;
 use intake::{ArchiveFault, a_case_is_there_between, the_next_number_is_above};
 use memchr::memrchr;
 use script_lines::{BuildQuery, MemoryQuery, Query, Question};
-use script_streams::{Output, Reply, StreamFault, tell_ok};
+use script_streams::{Output, Reply, StreamFault, print_ok};
 use script_words::parse_case_number;
 use shared_disk::{Looked, SharedDisk, Unlocked};
 use std::alloc::Global;
@@ -50,13 +50,13 @@ pub struct WantsWords {
 /// file. With a case it is the reply to `wants` of that case, which is named by its number, by its name, or as `last`. Else they are
 /// those of all cores in the order of their numbers, each once. All cores are seen over one opening of the archive, and found again at
 /// a second look. If a case is deleted meanwhile again and again, each core is looked at alone. A core that has a fault in its headers
-/// or notes, has no NT_FILE, or is gone, wants none. All is held until the last core was looked at.
+/// or notes, has no NT_FILE, or is gone, wants no build. All is held until the last core was looked at.
 ///
 /// # Errors
 ///
 /// The refusals of `take_look` of `archive_files` and of an opening. `OutOfMemory` and `Disk`: nothing is printed. `Told`: the reply to
 /// `wants` of the case is that it is refused. `WriteFailed` if the text could not be written.
-pub fn tell_wants<R: AllocGlobal + Files<File = File> + Clock, O: Output, W: Onlooker>(
+pub fn print_wants<R: AllocGlobal + Files<File = File> + Clock, O: Output, W: Onlooker>(
     rt: &R,
     place: ArchivePath<'_>,
     case: Option<&str>,
@@ -65,14 +65,14 @@ pub fn tell_wants<R: AllocGlobal + Files<File = File> + Clock, O: Output, W: Onl
     onlooker: &mut W,
 ) -> Result<(), Failure> {
     let done = match case {
-        Some(case) => tell_case(rt, place, case, words, output, onlooker),
-        None => tell_all(rt, place, words, output),
+        Some(case) => print_case(rt, place, case, words, output, onlooker),
+        None => print_all(rt, place, words, output),
     };
     shown(rt.alloc(), words.is_json, done, output)
 }
 
 // Prints the builds that one core wants.
-fn tell_case<R: AllocGlobal + Files<File = File> + Clock, O: Output, W: Onlooker>(
+fn print_case<R: AllocGlobal + Files<File = File> + Clock, O: Output, W: Onlooker>(
     rt: &R,
     place: ArchivePath<'_>,
     case: &str,
@@ -83,8 +83,8 @@ fn tell_case<R: AllocGlobal + Files<File = File> + Clock, O: Output, W: Onlooker
     let alloc = rt.alloc();
     let mut reply = Collected::new(alloc);
     match ask_wants(rt, place, case, &mut reply, onlooker) {
-        Ok(()) => tell_form(alloc, reply.text(), words, output),
-        Err(Failure::Told) if words.is_json => tell_refused(alloc, reply.text(), output),
+        Ok(()) => print_form(alloc, reply.text(), words, output),
+        Err(Failure::Told) if words.is_json => print_refused(alloc, reply.text(), output),
         Err(Failure::Told) => write_refused(reply.text(), output),
         Err(failure) => Err(failure),
     }
@@ -120,7 +120,7 @@ fn ask_wants<R: AllocGlobal + Files<File = File> + Clock, W: Onlooker>(
 }
 
 // Prints the lines of a reply in the form that the words ask for.
-fn tell_form<O: Output>(
+fn print_form<O: Output>(
     alloc: Global,
     text: &[u8],
     words: WantsWords,
@@ -140,15 +140,15 @@ fn cut_ids<O: Output>(rows: &[u8], output: &mut O) -> Result<(), Failure> {
     let mut rest = rows.lines();
     while let Some(line) = rest.next() {
         let (_, id) = line.split_at(memrchr(b' ', line).map_or(0, |at| at + 1));
-        reply.tell(id);
-        reply.tell(b"\n");
+        reply.print(id);
+        reply.print(b"\n");
     }
-    tell_ok(&mut reply);
+    print_ok(&mut reply);
     Ok(reply.finish()?)
 }
 
 // Prints the builds that all cores want.
-fn tell_all<R: AllocGlobal + Files<File = File>, O: Output>(
+fn print_all<R: AllocGlobal + Files<File = File>, O: Output>(
     rt: &R,
     place: ArchivePath<'_>,
     words: WantsWords,
@@ -158,21 +158,21 @@ fn tell_all<R: AllocGlobal + Files<File = File>, O: Output>(
     let cores = files_of_all(rt, place)?;
     let wanted = WantedBuilds::of(alloc, &cores)?;
     match (words.is_json, words.ids_alone) {
-        (true, _) => tell_json(alloc, &wanted.builds, output),
-        (false, true) => Ok(tell_all_ids(&wanted.builds, output)?),
-        (false, false) => Ok(tell_all_builds(&wanted.builds, output)?),
+        (true, _) => print_json(alloc, &wanted.builds, output),
+        (false, true) => Ok(print_all_ids(&wanted.builds, output)?),
+        (false, false) => Ok(print_all_builds(&wanted.builds, output)?),
     }
 }
 
 // Prints builds as JSON.
-fn tell_json<O: Output>(
+fn print_json<O: Output>(
     alloc: Global,
     builds: &[WantedBuild<'_>],
     output: &mut O,
 ) -> Result<(), Failure> {
     let mut rows = Collected::new(alloc);
     let mut reply = Reply::new(&mut rows);
-    tell_builds(&mut reply, builds);
+    print_builds(&mut reply, builds);
     match reply.finish() {
         Ok(()) => write_json(&rows_json(alloc, rows.text(), &FORMS)?, output),
         Err(_) => Err(Failure::Refused(Refusal::OutOfMemory)),
@@ -180,22 +180,25 @@ fn tell_json<O: Output>(
 }
 
 // Prints builds, a line for each, and then `ok`.
-fn tell_all_builds<O: Output>(builds: &[WantedBuild<'_>], output: &mut O) -> Result<(), StreamFault>
+fn print_all_builds<O: Output>(
+    builds: &[WantedBuild<'_>],
+    output: &mut O,
+) -> Result<(), StreamFault>
     ensures { IsDelivered (O.taken output.old) (O.failures output.old) (O.taken output.new) (O.failures output.new) (wants_reply (map wanted_view builds.now)) result }
 {
     let mut reply = Reply::new(output);
-    tell_builds(&mut reply, builds);
-    tell_ok(&mut reply);
+    print_builds(&mut reply, builds);
+    print_ok(&mut reply);
     reply.finish()
 }
 
 // Prints the IDs of builds, a line for each, and then `ok`.
-fn tell_all_ids<O: Output>(builds: &[WantedBuild<'_>], output: &mut O) -> Result<(), StreamFault>
+fn print_all_ids<O: Output>(builds: &[WantedBuild<'_>], output: &mut O) -> Result<(), StreamFault>
     ensures { IsDelivered (O.taken output.old) (O.failures output.old) (O.taken output.new) (O.failures output.new) (ids_reply (map wanted_view builds.now)) result }
 {
     let mut reply = Reply::new(output);
-    tell_ids(&mut reply, builds);
-    tell_ok(&mut reply);
+    print_ids(&mut reply, builds);
+    print_ok(&mut reply);
     reply.finish()
 }
 
@@ -211,7 +214,7 @@ fn files_of_all<R: AllocGlobal + Files<File = File>>(
     }
 }
 
-// The same, each core by a look of its own. One that is gone maps none.
+// The same, each core by a look of its own. A core that is gone maps no file.
 fn files_of_each<R: AllocGlobal + Files<File = File>>(
     rt: &R,
     place: ArchivePath<'_>,
@@ -228,8 +231,8 @@ fn files_of_each<R: AllocGlobal + Files<File = File>>(
     Ok(cores)
 }
 
-// The files that a core maps, by a look of its own; none, if it is gone. If an executable was deleted meanwhile the core is looked at
-// again.
+// The files that a core maps, by a look of its own; an empty list, if it is
+// gone. If an executable was deleted meanwhile the core is looked at again.
 fn files_at<R: AllocGlobal + Files<File = File>>(
     rt: &R,
     place: ArchivePath<'_>,

@@ -1,5 +1,5 @@
-// Lines about a core that people ask, and whose answers are printed from values: `dump --words`, words of its memory and what each of them points to; and
-// `regs --plain` and `unwind --plain`, the registers of a thread and its frames, with what is there.
+// Lines about a core that people ask, and whose answers are printed from values: `dump --words`, words of its memory and the targets that they point
+// to; and `regs --plain` and `unwind --plain`, the registers of a thread and its frames, with the same.
 ghost use Rattle.std.specs.Prelude.{◌≡◌, ◌+◌, ◌*◌, ◌^◌, ◌≤◌, length};
 ghost use Rattle.address_space.specs.SpaceWords.{core_of};
 ghost use Rattle.case_queries.specs.Fronts.{HasSize, IsSoundFront};
@@ -12,7 +12,7 @@ use crate::addresses::{NOT_CORE, address_in_core};
 use crate::case::{kind_of, number_of};
 use crate::front::{core_in, front_of, size_of};
 use crate::gathered::{debug_files_of, executables_of, refusal_of, told_of};
-use crate::telling::{refusal_reply, write_text};
+use crate::printing::{refusal_reply, write_text};
 use address_space::AddressSpace;
 use archive_files::{ArchivePath, Collected, Failure, Refusal, take_look, unasked};
 use case_listing::latest_time;
@@ -22,14 +22,14 @@ use case_screens::{Reason, core_reason, file_place, frame_file, no_thread, threa
 use core_notes::Files as MappedFiles;
 use disk_model::Disk;
 use elf_view::Want;
-use frame_replies::{FrameAnswer, FramesAnswer, tell_frame_place, tell_stop};
+use frame_replies::{FrameAnswer, FramesAnswer, print_frame_place, print_stop};
 use image_replies::CoreImage;
 use intake::{Archive, Settings};
 use journal_layout::Kind;
 use memory_replies::{NamedExecutable, is_out_of_range, named_executables, space_with};
 use plain_replies::send_plain;
 use register_places::{RegisterPlace, register_place};
-use script_streams::{Output, Reply, tell_ok};
+use script_streams::{Output, Reply, print_ok};
 use script_words::{parse_case_number, parse_number};
 use shared_disk::{Looked, SharedDisk};
 use std::alloc::Global;
@@ -38,9 +38,9 @@ use std::rt::Files;
 use std::time::Clock;
 use thread_regs::{Reg, threads};
 use unlocked_reading::{Places, Reads, find_cases, stay};
-use word_rows::{WordMemory, tell_register, tell_word};
+use word_rows::{WordMemory, print_register, print_word};
 
-// Why memory that ends past the last address, or is too long, is not told.
+// The refusal of memory that ends past the last address, or is too long.
 const RANGE: Reason<'static> = Reason {
     name: b"Range",
     index: None,
@@ -54,11 +54,11 @@ const WORD: u64 = 8;
 pub struct CoreLine<'a> {
     /// The case, as the words name it.
     pub case: &'a str,
-    /// What is asked of it.
+    /// The question about it.
     pub asked: CoreQuestion,
 }
 
-/// What a line asks of a core.
+/// The question of a line about a core.
 #[derive(Clone, Copy)]
 pub enum CoreQuestion {
     /// `dump CASE PLACE LENGTH`: the words of so many bytes of its memory, from a place on.
@@ -69,7 +69,7 @@ pub enum CoreQuestion {
     Frames(u64),
 }
 
-/// Where memory begins that is wanted.
+/// The place at which the wanted memory begins.
 #[derive(Clone, Copy)]
 pub enum DumpedPlace {
     /// At an address.
@@ -78,14 +78,14 @@ pub enum DumpedPlace {
     Register(RegisterPlace),
 }
 
-// What is printed, and whether the line was not refused.
+// The text to print, and whether the line was not refused.
 #[derive(Drop)]
 struct Shown {
     text: Collected,
     is_done: bool,
 }
 
-/// What the words of a line ask, if it is `dump`.
+/// The question of a line's words, if the line is `dump`.
 pub fn dumped_words<'a>(words: &[&'a str]) -> Option<CoreLine<'a>> {
     let ["dump", case, place, length] = words else {
         return None;
@@ -96,7 +96,7 @@ pub fn dumped_words<'a>(words: &[&'a str]) -> Option<CoreLine<'a>> {
     })
 }
 
-/// What the words of a line ask, if it is `regs` or `unwind` and no word of it is a number that it can't have.
+/// The question of a line's words, if it is `regs` or `unwind` and no word of it is a number that it can't have.
 pub fn thread_words<'a>(words: &[&'a str]) -> Option<CoreLine<'a>> {
     let [line, case, thread] = words else {
         return None;
@@ -120,10 +120,11 @@ fn place_in(word: &str) -> Option<DumpedPlace> {
     }
 }
 
-/// Prints what a line asks of a core, from a look at the archive, by the executables that are stored for the core. Words of its memory: a row for each
-/// eight bytes, with what they point to (`tell_word` of `word_rows`); bytes after the last whole word are left out. The registers of a thread: a row
-/// for each, with what it points to (`tell_register`). The frames of a thread: the rows of the script's reply, but a frame without a function has its
-/// file's last component and its place in the file, if a file is mapped there. Why a line is refused is printed as the script's reply says it.
+/// Prints the answer to a line about a core, from a look at the archive, by the executables that are stored for the core. Words of its memory: a row
+/// for each eight bytes, with the target that they point to (`print_word` of `word_rows`); bytes after the last whole word are left out. The registers
+/// of a thread: a row for each, with the target that it points to (`print_register`). The frames of a thread: the rows of the script's reply, but a
+/// frame without a function has its file's last component and its place in the file, if a file is mapped there. Why a line is refused is printed as
+/// the script's reply says it.
 ///
 /// # Errors
 ///
@@ -204,14 +205,14 @@ fn answer_over<D: Disk + Drop>(
     }
 }
 
-// What is asked of a core, once its headers and notes are known.
+// The question about a core, once its headers and notes are known.
 #[derive(Clone, Copy)]
 enum Known {
     Pointers(Pointers),
     Frames(u64),
 }
 
-// What is shown with what it points to.
+// The values that are shown with the targets that they point to.
 #[derive(Clone, Copy)]
 enum Pointers {
     Words(WordRange),
@@ -226,7 +227,7 @@ struct WordRange {
     ghost in_range: { first + 8 * count ≤ 2 ^ 64 },
 }
 
-// What is asked, or why the core can't answer it.
+// The question, or why the core can't answer it.
 fn checked(core: &CoreImage<'_>, asked: CoreQuestion) -> Result<Known, Reason<'static>> {
     match asked {
         CoreQuestion::Words(place, bytes) => {
@@ -260,7 +261,7 @@ fn range_from(first: u64, bytes: u64) -> Result<WordRange, Reason<'static>> {
     })
 }
 
-// What a core answers, or why it does not.
+// The answer of a core, or why it has no answer.
 fn answer_of_core<D: Disk>(
     alloc: Global,
     archive: &mut Archive<D>,
@@ -335,6 +336,7 @@ fn put_thread<'a, D: Disk>(
         executables,
         debug_files,
         thread.saturating_add(1),
+        0,
         archive,
     );
     let facts = match found {
@@ -356,10 +358,10 @@ fn put_frames(
     let mut text = Collected::new(alloc);
     let mut reply = Reply::new(&mut text);
     for (row, frame) in frames.frames.iter().enumerate() {
-        tell_frame(&mut reply, files, row, frame);
+        print_frame(&mut reply, files, row, frame);
     }
-    tell_stop(&mut reply, frames.stop);
-    tell_ok(&mut reply);
+    print_stop(&mut reply, frames.stop);
+    print_ok(&mut reply);
     match reply.finish() {
         Ok(()) => Ok(Shown {
             text,
@@ -369,37 +371,37 @@ fn put_frames(
     }
 }
 
-fn tell_frame<O: Output>(
+fn print_frame<O: Output>(
     reply: &mut Reply<'_, O>,
     files: Option<MappedFiles<'_>>,
     row: usize,
     frame: &FrameAnswer<'_>,
 ) {
-    reply.tell_decimal(row as u128);
-    reply.tell(b" ");
-    reply.tell_hexadecimal(u128::from(frame.pc));
-    reply.tell(b" ");
+    reply.print_decimal(row as u128);
+    reply.print(b" ");
+    reply.print_hexadecimal(u128::from(frame.pc));
+    reply.print(b" ");
     match (
         frame.signal || frame.function.is_some(),
         frame_file(files, frame),
     ) {
-        (false, Some(map)) => reply.tell_text(&file_place(&map, frame.pc).text),
-        _ => tell_frame_place(reply, frame),
+        (false, Some(map)) => reply.print_text(&file_place(&map, frame.pc).text),
+        _ => print_frame_place(reply, frame),
     }
-    reply.tell(b" sp ");
-    tell_known(reply, frame.stack);
+    reply.print(b" sp ");
+    print_known(reply, frame.stack);
     if row == 0 {
-        reply.tell(b" ra ");
-        tell_known(reply, frame.returns);
+        reply.print(b" ra ");
+        print_known(reply, frame.returns);
     }
-    reply.tell(b"\n");
+    reply.print(b"\n");
 }
 
 // Prints a number, if it is known.
-fn tell_known<O: Output>(reply: &mut Reply<'_, O>, number: Option<u64>) {
+fn print_known<O: Output>(reply: &mut Reply<'_, O>, number: Option<u64>) {
     match number {
-        Some(number) => reply.tell_hexadecimal(u128::from(number)),
-        None => reply.tell(b"?"),
+        Some(number) => reply.print_hexadecimal(u128::from(number)),
+        None => reply.print(b"?"),
     }
 }
 
@@ -411,7 +413,7 @@ fn first_of(core: &CoreImage<'_>, place: DumpedPlace) -> Result<u64, Reason<'sta
     }
 }
 
-// Puts words of a core's memory, or the registers of a thread, into a text, with what they point to.
+// Puts words of a core's memory, or the registers of a thread, into a text, with the targets that they point to.
 fn put_pointers<'a, D: Disk>(
     alloc: Global,
     archive: &mut Archive<D>,
@@ -481,9 +483,9 @@ fn put_registers<'a>(
     for word in 0..32 {
         let register = Reg::of_word(word);
         let value = thread.register(register);
-        tell_register(&mut reply, memory, register.name().as_bytes(), value);
+        print_register(&mut reply, memory, register.name().as_bytes(), value);
     }
-    tell_ok(&mut reply);
+    print_ok(&mut reply);
     match reply.finish() {
         Ok(()) => Ok(Shown {
             text,
@@ -507,7 +509,7 @@ fn put_rows<'a>(
     let mut address = first;
     for word in words {
         let memory = WordMemory { core, space, named };
-        tell_word(&mut reply, memory, address, *word);
+        print_word(&mut reply, memory, address, *word);
         address = address.wrapping_add(WORD);
     }
     match reply.finish() {

@@ -18,7 +18,7 @@ use Rattle.journal_layout.specs.Live.{AreLive, AreLabelled}
 use Rattle.journal_layout.specs.LiveLaws.{stands_live}
 use Rattle.journal_layout.specs.Standing.{Standing}
 use Rattle.journal_layout.specs.Stands.{AreRead, AreFaulty, Stands, records_start, records_area}
-use Rattle.journal_records.specs.Said.{TellsFaulty}
+use Rattle.journal_records.specs.Said.{SaysFaulty}
 use Rattle.case_journal.specs.DoubtLaws.{settled_doubts}
 use Rattle.case_journal.specs.declared.front.ArchiveFront.{ArchiveFront}
 use Rattle.case_journal.specs.Journaled.{Journaled}
@@ -48,17 +48,17 @@ module _ {D : Type 0} (g : disk.Ghosts D) where
 
   -- a faulty record
   pub faulty_gives : (f : ArchiveFront) (bytes b : List ℕ) (at : ℕ) (fault : OpenFault) → IsShown f bytes b → at ≡ records_start f.shape f.half
-      → TellsFaulty f.shape.data_blocks f.version at bytes fault → Gives (Err fault) b
-  faulty_gives f bytes b at Disk shown place tells = tt
-  faulty_gives f bytes b at OutOfMemory shown place tells = tt
-  faulty_gives f bytes b at NotAnArchive shown place tells = absurd tells
-  faulty_gives f bytes b at (UnknownVersion v) shown place tells = absurd tells
-  faulty_gives f bytes b at (Damaged k which) shown place tells =
+      → SaysFaulty f.shape.data_blocks f.version at bytes fault → Gives (Err fault) b
+  faulty_gives f bytes b at Disk shown place states = tt
+  faulty_gives f bytes b at OutOfMemory shown place states = tt
+  faulty_gives f bytes b at NotAnArchive shown place states = absurd states
+  faulty_gives f bytes b at (UnknownVersion v) shown place states = absurd states
+  faulty_gives f bytes b at (Damaged k which) shown place states =
       inr (
         front_view f,
         shown.front,
         subst (λ (x : List ℕ). AreFaulty f.shape.data_blocks (records_start f.shape f.half) x (nothing_yet f.version) (Damaged k which)) (sym shown.area)
-            (subst (λ (p : ℕ). AreFaulty f.shape.data_blocks p bytes (nothing_yet f.version) (Damaged k which)) place tells),
+            (subst (λ (p : ℕ). AreFaulty f.shape.data_blocks p bytes (nothing_yet f.version) (Damaged k which)) place states),
       )
 
   -- the records of a half whose front was read say this

@@ -1,4 +1,4 @@
--- What an append does to a journal, and when it is refused.
+-- The effect of an append on a journal, and the conditions under which it is refused.
 use Rattle.std.specs.Prelude.{◌≡◌, ◌⊎◌, ℕ, ◌+◌, ◌^◌, ◌<◌, ◌≤◌, true, false, List, Result, Ok, Err}
 use Rattle.journal_layout.specs.Layout.{half_length}
 use Rattle.journal_layout.specs.Case.{Case}
@@ -13,7 +13,7 @@ use Rattle.case_journal.specs.Journaled.{Journaled, halted, after_append}
 use Rattle.case_journal.specs.declared.faults.JournalFault.{JournalFault}
 use Rattle.case_journal.specs.declared.faults.JournalFault.TheVariants.{Stopped, JournalFull, NumbersSpent, OutOfMemory, Disk, OldVersion}
 
--- The record and the gate after it fit into the taken half, or what the journal says with the record has room in the other half.
+-- The record and the gate after it fit into the taken half, or the cases and the next number with the record have room in the other half.
 abbrev pub RecordFits : Standing → Record → Type 0
 RecordFits s r = (s.used + record_size r + 1 ≤ half_length s.shape) ⊎ SnapshotFits s (after r (folded_of s))
 
@@ -49,7 +49,7 @@ LabelStep old seq text (Err OldVersion) new = (old.stopped ≡ false) × (old.st
 LabelStep old seq text (Ok u) new = (old.standing.version ≡ 2) × AppendStep old (Label seq text) (Ok u) new
 LabelStep old seq text (Err f) new = (old.standing.version ≡ 2) × AppendStep old (Label seq text) (Err f) new
 
--- the same of a case, which gets the next number, where numbers are left
+-- the same of a case, which gets the next number, if numbers are left
 abbrev pub StoreRefused : Journaled → Case → JournalFault → Journaled → Type 0
 StoreRefused old c Stopped new = (old.stopped ≡ true) × (new ≡ old)
 StoreRefused old c JournalFull new = (old.stopped ≡ false) × RecordOverflows old.standing (store_of old.standing c) × (new ≡ old)

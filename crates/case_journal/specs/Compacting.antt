@@ -1,4 +1,4 @@
--- What rewriting a journal into its other half does to it, and when it is refused.
+-- The effect of rewriting a journal into its other half, and the conditions under which it is refused.
 use Rattle.std.specs.Prelude.{◌≡◌, ◌⊎◌, ℕ, ◌+◌, ◌*◌, ◌^◌, ◌<◌, ◌≤◌, true, false, Result, Ok, Err, List, IsTrue, Some}
 use Rattle.journal_layout.specs.declared.entry.Entry.{Entry}
 use Rattle.journal_layout.specs.declared.shape.Shape.{Shape}
@@ -21,7 +21,7 @@ use Rattle.case_journal.specs.Journaled.{Journaled, running, halted}
 use Rattle.case_journal.specs.declared.faults.JournalFault.{JournalFault}
 use Rattle.case_journal.specs.declared.faults.JournalFault.TheVariants.{Stopped, JournalFull, NumbersSpent, OutOfMemory, Disk, OldVersion}
 
--- the other half takes what is said as a snapshot with the gate after it, and a generation is left for that half
+-- the other half takes the cases and the next number as a snapshot with the gate after it, and a generation is left for that half
 abbrev pub SnapshotFits : Standing → Folded → Type 0
 SnapshotFits s f = (snapshot_size f + 1 ≤ half_length s.shape) × (s.generation + 1 < 2 ^ 64)
 
@@ -36,11 +36,11 @@ compacted s = rewritten s (folded_of s)
 abbrev pub moved : Journaled → JournalEnd → Journaled
 moved j p = record j { standing = record j.standing { half = p.half; generation = p.generation; used = p.used } }
 
--- after a snapshot of what is said, in the other half
+-- after a snapshot of these cases and this next number, in the other half
 abbrev pub snapshot_end : Standing → Folded → JournalEnd
 snapshot_end s f = record { half = other_half s.half; generation = s.generation + 1; used = snapshot_size f }
 
--- The journal is written anew with what is said then: only room, memory and the disk refuse it.
+-- The journal is written anew with the new cases and next number: only room, memory and the disk refuse it.
 abbrev pub SnapshotStep : Standing → Folded → Result JournalEnd JournalFault → Type 0
 SnapshotStep s f (Ok p) = SnapshotFits s f × (p ≡ snapshot_end s f)
 SnapshotStep s f (Err JournalFull) = SnapshotOverflows s f
@@ -67,11 +67,11 @@ CompactStep old (Err Disk) new =
     (old.stopped ≡ false) × SnapshotFits old.standing (folded_of old.standing) × (new ≡ halted old)
 CompactStep old (Err OldVersion) new = ⊥
 
--- what is said, in version 2 of the layout
+-- the cases and the next number, in version 2 of the layout
 abbrev pub anew_in_two : Standing → Folded
 anew_in_two s = in_version_two (folded_of s)
 
--- An upgrade: a compaction into version 2 of the layout. Where the journal is of that version, nothing is done.
+-- An upgrade: a compaction into version 2 of the layout. If the journal has that version, nothing is done.
 abbrev pub UpgradeStep : Journaled → Result (Unit {0}) JournalFault → Journaled → Type 0
 UpgradeStep old (Ok u) new =
     (old.stopped ≡ false)
@@ -87,7 +87,7 @@ UpgradeStep old (Err Disk) new =
     (old.stopped ≡ false) × (old.standing.version ≡ 1) × SnapshotFits old.standing (anew_in_two old.standing) × (new ≡ halted old)
 UpgradeStep old (Err OldVersion) new = ⊥
 
--- whether what a change makes of these entries has room in the other half, by its bytes
+-- whether the entries after a change have room in the other half, by their bytes
 abbrev pub MeasuresSnapshot : Shape → ℕ → Change → List Entry → Result Measure JournalFault → Type 0
 MeasuresSnapshot shape generation ch es (Ok m) = IsMeasure (half_length shape) ch es (Some m) × (generation + 1 < 2 ^ 64)
 MeasuresSnapshot shape generation ch es (Err JournalFull) = (half_length shape < snapshot_bytes ch es + 1) ⊎ (generation + 1 ≡ 2 ^ 64)
@@ -100,7 +100,7 @@ IsWriteAnswer (Err OutOfMemory) = Unit {0}
 IsWriteAnswer (Err Disk) = Unit {0}
 IsWriteAnswer (Err _) = ⊥
 
--- stopped where it was the disk that failed
+-- stopped if the disk failed
 abbrev pub noted : JournalFault → Journaled → Journaled
 noted Disk j = halted j
 noted _ j = j
@@ -109,7 +109,7 @@ noted _ j = j
 abbrev pub HasHeader : Standing → ℕ → List ℕ → Type 0
 HasHeader s version bytes = part bytes (other_start s + 1) 31 ≡ half_header version (s.generation + 1)
 
--- What it does to the disk: a crash at any moment leaves what was there before or what is said then, and nothing is changed but the half that is not taken.
+-- Its effect on the disk: a crash at any moment leaves the journal from before or the new one, and only the half that is not taken is changed.
 pub record RunsSnapshot {D : Type 0} (g : disk.Ghosts D) (old new : D) (s : Standing) (f : Folded) : Type 0 where
   pub moments : IsTrue (g.is_honest old) → LeavesOnly g old new (λ c. Stands c s ⊎ Stands c (rewritten s f))
   pub half : Fills g old new (other_start s) (half_length s.shape)

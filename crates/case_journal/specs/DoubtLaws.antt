@@ -1,4 +1,4 @@
--- Laws of what is in doubt.
+-- Laws of the bytes that are in doubt.
 use Rattle.std.proofs.Common.{◌≡◌, inl, inr, ⊎_elim, ℕ, ◌+◌, ◌-◌, ◌≤◌, List, slice_index, Option, option_map, refl, sym, ◌∙◌, subst, arith, ◌<◌}
 use Rattle.std.specs.List.{Contains}
 use Rattle.disk_model.specs.Disk.{Follows}
@@ -71,7 +71,7 @@ module _ {D : Type 0} (g : disk.Ghosts D) where
         differs = λ c left. inr (λ p low. settled_differs g s.shape d (IsUnread (g.seen d) s) settled c p left low);
       }
 
-  -- calls that only read leave what was in doubt
+  -- calls that only read keep the bytes in doubt
   pub quiet_doubts : (old new : D) (shape : Shape) → g.seen new ≡ g.seen old → ((c : List ℕ) → g.may_leave new c → g.may_leave old c) → DoubtsGates g old shape → DoubtsGates g new shape
   quiet_doubts old new shape seen crash doubts = record {
     standing = doubts.standing;
@@ -82,7 +82,7 @@ module _ {D : Type 0} (g : disk.Ghosts D) where
     differs = λ c may. subst (λ (b : List ℕ). DiffersInDoubt b c doubts.standing doubts.last) (sym seen) (doubts.differs c (crash c may));
   }
 
-  -- and so do changes of the data blocks
+  -- changes of the data blocks keep them too
   pub apart_doubts : (old new : D) (shape : Shape) (at n : ℕ) → DataIsApart → data_start shape ≤ at → Follows (SameOutside at n) (g.may_leave old) (g.may_leave new) → SameOutside at n (g.seen old) (g.seen new)
       → DoubtsGates g old shape → DoubtsGates g new shape
   apart_doubts old new shape at n apart from crash others doubts =

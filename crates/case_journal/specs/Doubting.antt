@@ -1,4 +1,4 @@
--- What a life of an archive may leave in doubt: bytes that reads give and that the device may not have.
+-- The bytes that a life of an archive may leave in doubt: bytes that reads give and that the device may not have.
 use Rattle.std.specs.Prelude.{◌≡◌, ◌≢◌, ◌⊎◌, ℕ, ◌+◌, ◌<◌, List, length, slice_index, Option}
 use Rattle.std.specs.List.{All, Contains}
 use Rattle.disk_model.specs.declared.disk.Disk as disk
@@ -20,15 +20,15 @@ IsUnread b s p =
 abbrev pub DiffersAlone : List ℕ → List ℕ → Standing → ℕ → Type 0
 DiffersAlone b c s gate = (p : ℕ) → p < data_start s.shape → (p ≡ gate) ⊎ (slice_index c p ≡ slice_index b p)
 
--- Up to the data blocks, c is b but where no opening of b reads.
+-- Up to the data blocks, c is b except at places that no opening of b reads.
 abbrev pub DiffersUnread : List ℕ → List ℕ → Standing → Type 0
 DiffersUnread b c s = (p : ℕ) → p < data_start s.shape → IsUnread b s p ⊎ (slice_index c p ≡ slice_index b p)
 
--- In doubt is one gate, of those that a settling writes again, or what no opening reads.
+-- One gate is in doubt, of those that a settling writes again, or bytes that no opening reads.
 abbrev pub DiffersInDoubt : List ℕ → List ℕ → Standing → Option ℕ → Type 0
 DiffersInDoubt b c s last = ((gate : ℕ) × Contains (gates_of s last) gate × DiffersAlone b c s gate) ⊎ DiffersUnread b c s
 
--- What reads give encodes an archive of this shape, and what a crash now may leave is the same but for what is in doubt.
+-- The bytes that reads give encode an archive of this shape, and those that a crash now may leave are the same except for bytes in doubt.
 pub record DoubtsGates {D : Type 0} (g : disk.Ghosts D) (d : D) (shape : Shape) : Type 0 where
   pub standing : Standing
   pub same_shape : standing.shape ≡ shape
@@ -37,8 +37,9 @@ pub record DoubtsGates {D : Type 0} (g : disk.Ghosts D) (d : D) (shape : Shape) 
   pub last_gate : HasLastGate (g.seen d) standing last
   pub differs : (c : List ℕ) → g.may_leave d c → DiffersInDoubt (g.seen d) c standing last
 
--- Settling is enough. Let reads give b while the device has c, which is b but for what is in doubt. Once the gates are written again as b has
--- them, and nothing else, the device encodes what b does. The last gate is the one that a settling finds, whichever was meant before.
+-- Settling is enough. Let reads give b while the device has c, which is b except for bytes in doubt.
+-- Once the gates are written again as b has them, and nothing else, the device encodes the archive
+-- that b encodes. The last gate is the one that a settling finds, whichever was meant before.
 abbrev pub SettlingIsEnough : Type 0
 SettlingIsEnough =
     (b c new : List ℕ) (s : Standing) (last found : Option ℕ) → Stands b s → HasLastGate b s last → HasLastGate b s found

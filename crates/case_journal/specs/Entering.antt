@@ -1,4 +1,4 @@
--- How an open journal takes in what a record says.
+-- How an open journal applies a record.
 use Rattle.std.specs.Prelude.{◌≡◌, ℕ, ◌+◌, Bool, List, [], ◌∷◌, ◌++◌, Result, Ok, Err}
 use Rattle.journal_layout.specs.Case.{Case}
 use Rattle.journal_layout.specs.Folding.{dropped, with_pin, with_label}
@@ -31,7 +31,7 @@ relabelled j seq text = record j { standing = record j.standing { cases = with_l
 abbrev pub in_two : Journaled → Journaled
 in_two j = record j { standing = record j.standing { version = 2 } }
 
--- where the next record goes after this one
+-- the place of the next record after this one
 abbrev pub place_after : Standing → Record → JournalEnd
 place_after s r = record { half = (appended s r).half; generation = (appended s r).generation; used = (appended s r).used }
 

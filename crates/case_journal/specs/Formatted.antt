@@ -1,4 +1,4 @@
--- What formatting writes, and what it has made in the end.
+-- The bytes that formatting writes, and the archive that it has made in the end.
 use Rattle.std.specs.Prelude.{◌≡◌, ℕ, List, [], ◌∷◌, ◌++◌, slice_index, replicate}
 use Rattle.disk_model.specs.Places.{part}
 use Rattle.journal_layout.specs.declared.shape.Shape.{Shape}

@@ -1,4 +1,4 @@
--- What contracts see of an open journal.
+-- An open journal as contracts see it.
 use Rattle.std.specs.Prelude.{Bool, true, false}
 use Rattle.journal_layout.specs.Record.{Record}
 use Rattle.journal_layout.specs.Standing.{Standing}

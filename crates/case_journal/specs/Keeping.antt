@@ -1,4 +1,4 @@
--- What a disk and the journal that was opened on it have in common.
+-- The agreement between a disk and the journal that was opened on it.
 use Rattle.std.specs.Prelude.{◌≡◌, ◌⊎◌, ℕ, ◌*◌, ◌≤◌, false, List, IsTrue}
 use Rattle.disk_model.specs.Disk.{ChangedIn}
 use Rattle.disk_model.specs.Moments.{LeavesOnly}
@@ -13,7 +13,8 @@ use Rattle.journal_snapshot.specs.Holding.{SameFront, Holds}
 use Rattle.case_journal.specs.Doubting.{DoubtsGates}
 use Rattle.case_journal.specs.Journaled.{Journaled}
 
--- The disk is that of the journal. Of a journal that a disk fault has stopped only the disk's size is known, and what may be in doubt.
+-- The disk is that of the journal. If a disk fault has stopped the journal,
+-- only the disk's size and the bytes that may be in doubt are known.
 pub record Keeps {D : Type 0} (g : disk.Ghosts D) (d : D) (j : Journaled) : Type 0 where
   pub size : g.size d ≡ disk_length j.standing.shape
   pub holds : j.stopped ≡ false → IsTrue (g.is_honest d) → Holds g d j.standing
@@ -24,11 +25,11 @@ pub record Keeps {D : Type 0} (g : disk.Ghosts D) (d : D) (j : Journaled) : Type
 abbrev pub LeavesEither : {D : Type 0} → disk.Ghosts D → D → D → Standing → Record → Type 0
 LeavesEither g old new s r = LeavesOnly g old new (λ c. Stands c s ⊎ Stands c (appended s r))
 
--- a crash at any moment leaves what one before could have left, but for bytes of the two halves
+-- a crash at any moment leaves only disks that one before could have left, except for bytes of the two halves
 abbrev pub LeavesOutside : {D : Type 0} → disk.Ghosts D → D → D → Standing → Type 0
 LeavesOutside g old new s = LeavesOnly g old new (ChangedIn 4096 (2 * half_length s.shape) (g.may_leave old))
 
--- a change after the halves leaves what the bytes encode, and the superblock and both halves
+-- a change after the halves keeps the archive that the bytes encode, and the superblock and both halves
 abbrev pub DataIsApart : Type 0
 DataIsApart =
     (s : Standing) (at n : ℕ) (b c : List ℕ) → Stands b s → SameOutside at n b c → data_start s.shape ≤ at

@@ -1,4 +1,4 @@
--- What an open journal keeps of its shape, its version, its numbers and its cases.
+-- The shape, the version, the numbers and the cases that an open journal keeps.
 use Rattle.std.specs.Prelude.{◌≡◌, true, ℕ, ◌+◌, ◌^◌, ◌≤◌, List}
 use Rattle.journal_layout.specs.declared.shape.Shape.{Shape}
 use Rattle.journal_layout.specs.Case.{Case}

@@ -1,4 +1,4 @@
--- What contracts see of the entries of the live cases.
+-- The entries of the live cases as contracts see them.
 use Rattle.std.specs.Prelude.{ℕ, List}
 use Rattle.journal_layout.specs.declared.entry.Entry.{Entry}
 

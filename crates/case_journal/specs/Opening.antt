@@ -1,4 +1,4 @@
--- What an opening answers of the journal.
+-- The answer of an opening about the journal.
 use Rattle.std.specs.Prelude.{Result, Ok, Err}
 use Rattle.journal_layout.specs.declared.faults.OpenFault.{OpenFault}
 use Rattle.case_journal.specs.Journaled.{Journaled}

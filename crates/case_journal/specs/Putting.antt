@@ -13,7 +13,7 @@ use Rattle.case_journal.specs.Doubting.{DoubtsGates}
 use Rattle.case_journal.specs.Append.{RecordFits, RecordOverflows, MayFollow}
 use Rattle.case_journal.specs.Keeping.{LeavesEither}
 
--- These bytes are what follows the record's gate, and a closed gate; the record may follow those of the journal.
+-- These bytes are those after the record's gate, and a closed gate; the record may follow those of the journal.
 pub record IsPut (s : Standing) (r : Record) (behind : List ℕ) : Type 0 where
   pub bytes : behind ≡ behind_gate r ++ 0 ∷ []
   pub long : length behind ≡ record_size r
@@ -31,7 +31,7 @@ DecidesFit s r (Ok u) = RecordFits s r
 DecidesFit s r (Err JournalFull) = RecordOverflows s r
 DecidesFit s r (Err _) = ⊥
 
--- Where an append writes: after the records of the taken half, its gate, its bytes and the next gate; or the other half, if
+-- The place at which an append writes: after the records of the taken half, its gate, its bytes and the next gate; or the other half, if
 -- the record does not fit there.
 abbrev pub written_at : Standing → Record → ℕ
 written_at s r = if fits s r then half_start s.shape s.half + s.used else other_start s
@@ -39,8 +39,8 @@ written_at s r = if fits s r then half_start s.shape s.half + s.used else other_
 abbrev pub written_long : Standing → Record → ℕ
 written_long s r = if fits s r then 1 + record_size r else half_length s.shape
 
--- What an append does to the disk: a crash at any moment leaves what was there before or what is there after it, and nothing is changed but the halves, of which it
--- writes one alone.
+-- The effect of an append on the disk: a crash at any moment leaves the journal from before or the one after it, and only one of the halves is
+-- written; nothing else is changed.
 pub record RunsAppend {D : Type 0} (g : disk.Ghosts D) (old new : D) (s : Standing) (r : Record) : Type 0 where
   pub moments : IsTrue (g.is_honest old) → LeavesEither g old new s r
   pub half : Fills g old new (written_at s r) (written_long s r)

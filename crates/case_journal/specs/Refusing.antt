@@ -1,4 +1,4 @@
--- What a refusal leaves of a disk.
+-- The disk after a refusal.
 use Rattle.std.specs.Prelude.{◌≡◌}
 use Rattle.case_journal.specs.declared.faults.JournalFault.{JournalFault}
 use Rattle.case_journal.specs.declared.faults.JournalFault.TheVariants.{Disk}

@@ -1,4 +1,4 @@
--- Gates that are written again, as they read, before a change builds on what an earlier process wrote.
+-- Gates that are written again, as they read, before a change builds on bytes that an earlier process wrote.
 use Rattle.std.specs.Prelude.{◌≡◌, ◌≢◌, ℕ, ◌+◌, ◌-◌, List, [], ◌∷◌, length, slice_index, Option, None, Some, Result, IsTrue, OnOk}
 use Rattle.std.specs.List.{All}
 use Rattle.std.specs.Option.{option_map}
@@ -30,7 +30,7 @@ pub record WritesAgain {D : Type 0} (g : disk.Ghosts D) (places : List ℕ) (old
   pub honesty : g.is_honest new ≡ g.is_honest old
   pub size : g.size new ≡ g.size old
 
--- where the gate behind the records of the taken half is
+-- the place of the gate behind the records of the taken half
 abbrev pub gate_behind : Standing → ℕ
 gate_behind s = half_start s.shape s.half + s.used
 
@@ -55,8 +55,8 @@ pub record ShowsLast {D : Type 0} (g : disk.Ghosts D) (d : D) (s : Standing) (la
   pub view : IsView g d shown
   pub last_gate : HasLastGate shown s last
 
--- Of bytes that encode an archive these gates are written again, and only the disk and the memory refuse it. Then they read as before, and a
--- crash leaves what reads give.
+-- If bytes encode an archive, these gates are written again, and only the disk and the memory refuse it. Then they read as before, and a
+-- crash leaves the bytes that reads give.
 pub record SettlesGates {D : Type 0} (g : disk.Ghosts D) (old new : D) (s : Standing) (r : Result (Unit {0}) OpenFault) : Type 0 where
   pub last : Option ℕ
   pub last_gate : HasLastGate (g.seen old) s last

@@ -1,4 +1,4 @@
--- What reads show of a disk, which may be any disk.
+-- The bytes that reads show of a disk, which may be any disk.
 use Rattle.std.specs.Prelude.{◌≡◌, false, ℕ, nat_lt, List, length, IsTrue, Result, Ok, Err}
 use Rattle.disk_model.specs.Places.{part, SameOutside}
 use Rattle.disk_model.specs.declared.disk.Disk as disk
@@ -16,8 +16,8 @@ use Rattle.case_journal.specs.Journaled.{Journaled}
 use Rattle.case_journal.specs.declared.front.HalfHeader.{HalfHeader}
 use Rattle.case_journal.specs.declared.front.ArchiveFront.{ArchiveFront}
 
--- A list of bytes as long as the disk; on an honest disk what reads give. On any other disk each read shows a part of
--- such a list, as long as no byte is read twice.
+-- A list of bytes as long as the disk; on an honest disk the bytes that reads give. On any other disk each read shows a part of such a
+-- list, as long as no byte is read twice.
 pub record IsView {D : Type 0} (g : disk.Ghosts D) (d : D) (b : List ℕ) : Type 0 where
   pub long : length b ≡ g.size d
   pub is : IsTrue (g.is_honest d) → b ≡ g.seen d
@@ -29,7 +29,7 @@ pub record Shows {D : Type 0} (g : disk.Ghosts D) (d : D) (at : ℕ) (bytes b : 
   pub same : SameOutside at (length bytes) b shown
   pub there : part shown at (length bytes) ≡ bytes
 
--- What a call that only reads and syncs leaves of a disk.
+-- The disk after a call that only reads and syncs.
 pub record OnlyReads {D : Type 0} (g : disk.Ghosts D) (old new : D) : Type 0 where
   pub seen : IsTrue (g.is_honest old) → g.seen new ≡ g.seen old
   pub crash : IsTrue (g.is_honest old) → (c : List ℕ) → g.may_leave new c → g.may_leave old c
@@ -37,7 +37,7 @@ pub record OnlyReads {D : Type 0} (g : disk.Ghosts D) (old new : D) : Type 0 whe
   pub honesty : g.is_honest new ≡ g.is_honest old
   pub size : g.size new ≡ g.size old
 
--- what the code keeps of a half's header, and of the front
+-- the fields that the code keeps of a half's header, and of the front
 abbrev pub header_of : HalfHeader → Header
 header_of h = record { is_open = h.is_open; version = h.version; generation = h.generation }
 
@@ -62,7 +62,7 @@ Gives (Err NotAnArchive) b = IsRefused b NotAnArchive
 Gives (Err (UnknownVersion v)) b = IsRefused b (UnknownVersion v)
 Gives (Err (Damaged at which)) b = IsRefused b (Damaged at which)
 
--- an answer of the look at both headers is what they tell
+-- the answer from both headers
 abbrev pub FrontIs : Shape → Header → Header → Result ArchiveFront OpenFault → Type 0
 FrontIs s a b (Ok t) = headers_opening s a b (taken_half s a b) ≡ Ok (front_view t)
 FrontIs s a b (Err fault) = headers_opening s a b (taken_half s a b) ≡ Err fault
@@ -83,7 +83,7 @@ pub record ShowsHeaders {D : Type 0} (g : disk.Ghosts D) (d : D) (s : Shape) (fi
   pub first_there : header_of_half s shown A ≡ first
   pub second_there : header_of_half s shown B ≡ second
 
--- what a front's opening makes of a superblock
+-- the shape that a front's opening gets from a superblock
 abbrev pub ShapeGives : Result Shape OpenFault → List ℕ → Type 0
 ShapeGives (Ok s) b = (nat_lt (length b) 4096 ≡ false) × (shape_opening (length b) (part b 0 24) ≡ Ok s)
 ShapeGives (Err Disk) b = Unit {0}
@@ -110,7 +110,7 @@ pub record ShowsOpening {D : Type 0} (g : disk.Ghosts D) (d : D) (r : Result Jou
   pub view : IsView g d shown
   pub gives : Gives r shown
 
--- only the disk and the memory refuse what is found
+-- only the disk and the memory refuse an archive that is found
 abbrev pub FindsStanding : Result Journaled OpenFault → Standing → Type 0
 FindsStanding (Ok j) s = j.standing ≡ s
 FindsStanding (Err Disk) s = Unit {0}

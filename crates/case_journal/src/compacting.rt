@@ -28,7 +28,7 @@ use journal_layout::{Entry, Half, Shape};
 use journal_snapshot::{Change, Measure, Target, measured, rewrite};
 use std::alloc::Global;
 
-/// Where the next record goes: the half that is taken, its generation, and the bytes of its header and records.
+/// The place of the next record: the half that is taken, its generation, and the bytes of its header and records.
 #[derive(Clone, Copy)]
 pub(crate) struct JournalEnd {
     pub(crate) half: Half,
@@ -46,8 +46,8 @@ fn other_half(half: Half) -> Half
     }
 }
 
-/// Measures what a change makes of these cases. `JournalFull`: it does not fit into a half with the gate after it, or no
-/// generation is left for one.
+/// Measures the snapshot of these cases after a change. `JournalFull`: it does not fit into a half with the gate after
+/// it, or no generation is left for one.
 pub(crate) fn measure_snapshot(
     entries: &[Entry],
     shape: Shape,
@@ -69,8 +69,8 @@ pub(crate) fn measure_snapshot(
     Ok(measure)
 }
 
-/// Writes what a change makes of these cases into the half that is not taken, and takes it. `OutOfMemory`, before the
-/// first disk call; `Disk`. It takes as much memory as the longest record of a case has bytes.
+/// Writes the snapshot of these cases after a change into the half that is not taken, and takes it. `OutOfMemory`, before
+/// the first disk call; `Disk`. It takes as much memory as the longest record of a case has bytes.
 pub(crate) fn write_snapshot<D: Disk>(
     alloc: Global,
     disk: &mut D,
@@ -147,8 +147,8 @@ impl Journal {
         }
     }
 
-    // Writes what a change makes of the journal into the other half, which is taken then, in this version of the layout.
-    // Answers where the next record goes.
+    // Writes the journal after a change into the other half, which is taken then, in this version of the layout. Returns
+    // the place of the next record.
     pub(crate) fn put_snapshot<D: Disk>(
         &self,
         disk: &mut D,
@@ -197,7 +197,7 @@ impl Journal {
         })
     }
 
-    // Where the journal is written anew: the other half, with the next generation.
+    // The place at which the journal is written anew: the other half, with the next generation.
     fn target(&self, version: u32, next: u64) -> Target
         requires { self.now.standing.generation + 1 < 2 ^ 64 }
         ensures start { result.start ≡ other_start self.now.standing }

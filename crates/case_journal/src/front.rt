@@ -57,7 +57,7 @@ pub(crate) fn is_shape_of(size: u64, shape: Shape) -> bool
         && BLOCK * (1 + 2 * half + data) == size
 }
 
-// The shape that a superblock tells, on a disk of this length.
+// The shape that a superblock gives, on a disk of this length.
 fn read_shape(bytes: &[u8], size: u64) -> Result<Shape, OpenFault>
     requires { 24 ≤ length bytes.now }
     ensures { result ≡ shape_opening size bytes.now }
@@ -75,7 +75,7 @@ fn read_shape(bytes: &[u8], size: u64) -> Result<Shape, OpenFault>
     Ok(shape)
 }
 
-// What a half's header tells.
+// The fields of a half's header.
 #[derive(Clone, Copy)]
 pub(crate) struct HalfHeader {
     is_open: bool,
@@ -130,7 +130,7 @@ fn taken_half(shape: Shape, a: HalfHeader, b: HalfHeader) -> Result<Half, OpenFa
     Ok(Half::B)
 }
 
-/// The shape of an archive, and the half that is taken with what its header says.
+/// The shape of an archive, and the half that is taken with the fields of its header.
 #[derive(Clone, Copy)]
 pub(crate) struct ArchiveFront {
     pub(crate) shape: Shape,
@@ -139,7 +139,7 @@ pub(crate) struct ArchiveFront {
     pub(crate) generation: u64,
 }
 
-// The front that two headers tell: a half is taken, and its version is known.
+// The front that two headers give: a half is taken, and its version is known.
 fn front_of(shape: Shape, a: HalfHeader, b: HalfHeader) -> Result<ArchiveFront, OpenFault>
     requires { IsWithinLimits shape }
     ensures front { FrontIs shape (header_of a) (header_of b) result }

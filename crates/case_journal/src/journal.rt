@@ -29,12 +29,12 @@ use journal_snapshot::Change;
 use std::alloc::Global;
 use std::marker::Model;
 
-/// The journal of an open archive: its cases, the number of the next one, and where the next record goes. Contracts see
-/// what it encodes.
+/// The journal of an open archive: its cases, the number of the next one, and the place of the next record. Contracts see
+/// the content that it encodes.
 #[derive(Drop)]
 pub struct Journal {
     pub(crate) shape: Shape,
-    // The half whose records count, and what its header says.
+    // The half whose records count, and the fields of its header.
     pub(crate) half: Half,
     pub(crate) version: u32,
     pub(crate) generation: u64,
@@ -136,7 +136,7 @@ impl Journal {
         Ok(())
     }
 
-    // Puts a record after those that are there, whatever record it is. Answers where the next one goes.
+    // Puts a record after those that are there, whatever record it is. Returns the place of the next one.
     pub(crate) fn put_behind<D: Disk>(
         &self,
         disk: &mut D,
@@ -234,10 +234,10 @@ impl Journal {
         self.put_behind(disk, &pin_record(seq, flag))
     }
 
-    /// Appends the Store record of a case, which gets the next number. A refusal hands the entry back, and all but `Disk`
-    /// leave the journal and the disk as they are. Answers, in this order: `Stopped`; `JournalFull` where neither the record
-    /// nor the cases with it, written anew into the other half, have room; `NumbersSpent` where the next number is 2^32; `OutOfMemory`;
-    /// `Disk`, after which the journal is stopped.
+    /// Appends the Store record of a case, which gets the next number. A refusal returns the entry, and all
+    /// but `Disk` leave the journal and the disk as they are. Answers, in this order: `Stopped`; `JournalFull`
+    /// if neither the record nor the cases with it, written anew into the other half, have room;
+    /// `NumbersSpent` if the next number is 2^32; `OutOfMemory`; `Disk`, after which the journal is stopped.
     pub fn append_store<D: Disk>(
         &mut self,
         disk: &mut D,
@@ -297,13 +297,13 @@ impl Journal {
     }
 
     /// Appends the Drop record of cases, which are then gone. All faults but `Disk` leave the journal and the disk as they
-    /// are. Answers, in this order: `Stopped`; `JournalFull` where the record does not fit after the others and no
+    /// are. Answers, in this order: `Stopped`; `JournalFull` if the record does not fit after the others and no
     /// generation is left for the other half; `OutOfMemory`; `Disk`, after which the journal is stopped.
     pub fn append_drop<D: Disk>(&mut self, disk: &mut D, seqs: &[u32]) -> Result<(), JournalFault>
         requires keeps { Keeps D.Disk disk.old self.old }
         requires droppable { MayFollow self.old.standing (Drop seqs.now) }
         ensures step { AppendStep self.old (Drop seqs.now) result self.new }
-        // The cases that are left have room: only where no generation is left is the journal full.
+        // The cases that are left have room: the journal is full only if no generation is left.
         ensures generation { result ≡ Err JournalFault.JournalFull → IsTrue (D.is_honest disk.old)
             → self.old.standing.generation + 1 ≡ 2 ^ 64 }
         ensures untouched { RefusalLeaves result disk.old disk.new }
@@ -336,8 +336,8 @@ impl Journal {
     }
 
     /// Appends the Pin record of a live case, which is then pinned or not. All faults but `Disk` leave the journal and the
-    /// disk as they are. Answers, in this order: `Stopped`; `JournalFull` where neither the record nor the cases, written anew into the
-    /// other half, have room; `OutOfMemory`, where the record does not fit after the others alone; `Disk`, after which
+    /// disk as they are. Answers, in this order: `Stopped`; `JournalFull` if neither the record nor the cases, written anew into the
+    /// other half, have room; `OutOfMemory`, only if the record does not fit after the others; `Disk`, after which
     /// the journal is stopped.
     pub fn append_pin<D: Disk>(
         &mut self,

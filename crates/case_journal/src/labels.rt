@@ -36,8 +36,8 @@ impl Journal {
     }
 
     /// Appends the Label record of a live case, which then has this label. All faults but `Disk` leave the journal and the
-    /// disk as they are. Answers, in this order: `Stopped`; `OldVersion` where the archive is of version 1 of the layout;
-    /// `JournalFull` where neither the record nor the cases with the label, written anew into the other half, have room;
+    /// disk as they are. Answers, in this order: `Stopped`; `OldVersion` if the archive has version 1 of the layout;
+    /// `JournalFull` if neither the record nor the cases with the label, written anew into the other half, have room;
     /// `OutOfMemory`; `Disk`, after which the journal is stopped.
     pub fn append_label<D: Disk>(
         &mut self,
@@ -130,7 +130,7 @@ impl Journal {
         self.put_label_behind(disk, seq, label.as_slice())
     }
 
-    // Puts the record of a label after the others, where it fits.
+    // Puts the record of a label after the others, if it fits.
     fn put_label_behind<D: Disk>(
         &self,
         disk: &mut D,

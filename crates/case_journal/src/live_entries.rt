@@ -61,7 +61,7 @@ impl LiveEntries {
         self.all.reserve(1)
     }
 
-    /// Puts an entry after the others, where there is room for it.
+    /// Appends an entry, for which there is room.
     pub(crate) fn push(&mut self, entry: Entry)
         requires { 0 < self.old.spare }
         ensures { self.new.entries ≡ self.old.entries ++ entry ∷ [] }

@@ -27,7 +27,7 @@ use std::collections::BTreeSet;
 // The bytes of a half's header.
 const HEADER: u64 = 32;
 
-// Makes stable what was written, so that what reads give is what a crash leaves.
+// Makes the written bytes stable, so that a crash leaves the bytes that reads give.
 fn settle<D: Disk>(disk: &mut D) -> Result<(), OpenFault>
     ensures quiet { OnlyReads D.Disk disk.old disk.new }
     ensures settled { IsTrue (D.is_honest disk.old) → OnOk result (Only (D.seen disk.old) (D.may_leave disk.new)) }
@@ -69,7 +69,7 @@ fn read_records<D: Disk>(
     Ok(bytes)
 }
 
-/// What an opening finds: the journal, and what reading its records gathered.
+/// The result of an opening: the journal, and the facts that were gathered while its records were read.
 #[derive(Drop)]
 pub struct Opened {
     /// The open journal.
@@ -138,11 +138,11 @@ impl Journal {
     pub fn open<D: Disk>(alloc: Global, disk: &mut D) -> Result<Opened, OpenFault>
         // The answer is the opening of some list of bytes as long as the disk, on an honest disk of its bytes.
         ensures gives { ShowsOpening D.Disk disk.old (journal_of result) }
-        // What the disk encodes is found, and nothing but the disk and the memory refuses it.
+        // The archive that the disk encodes is found, and only the disk and the memory refuse it.
         ensures found { (s : Standing) → IsTrue (D.is_honest disk.old) → Stands (D.seen disk.old) s
             → FindsStanding (journal_of result) s }
         ensures keeps { IfOk result (λ o. Keeps D.Disk disk.new o.journal) }
-        // What holds of the cases of any archive: their numbers rise, no block is used twice, and so on.
+        // The invariants of the cases of any archive: their numbers rise, no block is used twice, and so on.
         ensures live { IfOk result (λ o. AreLive o.journal.standing.shape.data_blocks o.journal.standing.cases o.journal.standing.next) }
         // Version 2 of the layout keeps labels, and no other.
         ensures labels { IfOk result (λ o. AreLabelled o.journal.standing.version o.journal.standing.cases) }
@@ -153,11 +153,11 @@ impl Journal {
         // The set has the names of the cases, and the map the data blocks that none of them has.
         ensures names { IfOk result (λ o. AreNames o.journal.standing.cases o.names) }
         ensures free { IfOk result (λ o. IsSpareMap o.journal.standing.shape.data_blocks o.journal.standing.cases o.free) }
-        // A crash during the call leaves what one before it could have left.
+        // A crash during the call leaves only disks that one before it could have left.
         ensures any_moment { IsTrue (D.is_honest disk.old)
             → LeavesOnly D.Disk disk.old disk.new (D.may_leave disk.old) }
         ensures seen { IsTrue (D.is_honest disk.old) → D.seen disk.new ≡ D.seen disk.old }
-        // After it a crash leaves what reads give.
+        // After it a crash leaves the bytes that reads give.
         ensures settled { IsTrue (D.is_honest disk.old) → OnOk result (IsSettled D.Disk disk.new) }
         ensures disk { KeepsDisk D.Disk disk.old disk.new (result ≡ Err OpenFault.Disk) }
     {

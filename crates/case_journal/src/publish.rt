@@ -13,9 +13,9 @@ ghost use Rattle.case_journal.specs.Publishing.{Publishes};
 use disk_model::{Disk, DiskFault, write_stable};
 use journal_records::GATE_OPEN;
 
-/// Publishes a record whose closed gate is at `gate`: writes what follows the gate and makes it stable, and then opens the
-/// gate by a write of its own. On an honest disk a crash at any moment leaves bytes that encode the cases before or after,
-/// whatever the disk encoded; once it has answered `Ok`, bytes that encode those after.
+/// Publishes a record whose closed gate is at `gate`: writes the bytes after the gate and makes them stable, and then
+/// opens the gate by a write of its own. On an honest disk a crash at any moment leaves bytes that encode the cases before
+/// or after, whatever the disk encoded; once it has answered `Ok`, bytes that encode those after.
 pub(crate) fn publish<D: Disk>(disk: &mut D, gate: u64, behind: &[u8]) -> Result<(), DiskFault>
     requires { gate + 1 + length behind.now ≤ D.size disk.old }
     ensures any_moment { (s : Standing) (r : Record) → Publishes s r gate behind.now
@@ -24,7 +24,7 @@ pub(crate) fn publish<D: Disk>(disk: &mut D, gate: u64, behind: &[u8]) -> Result
     ensures made { (s : Standing) (r : Record) → Publishes s r gate behind.now
         → IsTrue (D.is_honest disk.old) → ((c : List ℕ) → D.may_leave disk.old c → Stands c s)
         → OnOk result ((c : List ℕ) → D.may_leave disk.new c → Stands c (lengthened s r)) }
-    // Whenever it ends, only the gate is in doubt, or what is behind it while it is closed.
+    // Whenever it ends, only the gate is in doubt, or the bytes behind it while it is closed.
     ensures doubts { (s : Standing) (r : Record) → Publishes s r gate behind.now
         → IsTrue (D.is_honest disk.old) → Holds D.Disk disk.old s → DoubtsGates D.Disk disk.new s.shape }
     ensures outside { IsTrue (D.is_honest disk.old)

@@ -1,4 +1,4 @@
-// Gates that are written again before a change builds on what an earlier process wrote.
+// Gates that are written again before a change builds on bytes that an earlier process wrote.
 ghost use Rattle.std.specs.Prelude.{◌≡◌, ◌+◌, ◌≤◌, ◌∷◌, [], ℕ, IsTrue, OnOk, Err};
 ghost use Rattle.std.specs.List.{All};
 ghost use Rattle.disk_model.specs.Disk.{HasCause};
@@ -59,8 +59,8 @@ impl Opened {
 }
 
 /// Opens the journal on a disk, and writes again, as they read, the gates of the superblock and of both halves, the gate of the last record,
-/// and the one behind it: each by a write of one byte, and then makes them stable. All else that the opening reads was made stable by the
-/// process that wrote it, before it wrote one of these gates. So what a change builds on then is what the device has.
+/// and the one behind it: each by a write of one byte, and then makes them stable. All other bytes that the opening reads were made stable
+/// by the process that wrote them, before it wrote one of these gates. So a later change builds on bytes that the device has.
 ///
 /// The answer is that of the opening, or `Disk` if the disk failed later. A disk that can't be opened is only read.
 pub fn settle<D: Disk>(alloc: Global, disk: &mut D) -> Result<(), OpenFault>

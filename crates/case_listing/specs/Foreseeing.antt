@@ -16,7 +16,7 @@ use Rattle.retention.specs.Rule.{IsDecision}
 use Rattle.retention.specs.declared.Decision.{Decision}
 use Rattle.retention.specs.declared.Policy.{Policy}
 use Rattle.script_lines.specs.Said.{retire_by, said}
-use Rattle.script_streams.specs.Telling.{IsDelivered}
+use Rattle.script_streams.specs.Printing.{IsDelivered}
 use Rattle.script_streams.specs.declared.streams.StreamFault.{StreamFault}
 
 -- The policy is that of the line `retire` with the words after `would-retire`. If there is no policy, the first word is another.

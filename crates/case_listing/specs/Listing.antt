@@ -22,20 +22,20 @@ use Rattle.journal_layout.specs.Case.{Case}
 use Rattle.journal_layout.specs.declared.faults.OpenFault.{OpenFault}
 
 -- a line whose text reads back as JSON of these cases, and its hidden characters are escaped
-abbrev pub TellsCases : List Case → Option (List ℕ) → Option (List ℕ) → Type 0
-TellsCases cases before after = (printed : List ℕ) × Prints (cases_json cases) printed × Appends before after (printed ++ 10 ∷ [])
+abbrev pub PrintsCases : List Case → Option (List ℕ) → Option (List ℕ) → Type 0
+PrintsCases cases before after = (printed : List ℕ) × Prints (cases_json cases) printed × Appends before after (printed ++ 10 ∷ [])
 
 -- the wanted cases in their order, as a table and as JSON
-abbrev pub TellsTable : Wanted → List Case → Option (List ℕ) → Option (List ℕ) → Type 0
-TellsTable wanted cases before after = (shown : List Case) × IsShown wanted.order (chosen wanted cases) shown × Appends before after (list_table shown)
+abbrev pub PrintsTable : Wanted → List Case → Option (List ℕ) → Option (List ℕ) → Type 0
+PrintsTable wanted cases before after = (shown : List Case) × IsShown wanted.order (chosen wanted cases) shown × Appends before after (list_table shown)
 
-abbrev pub TellsJson : Wanted → List Case → Option (List ℕ) → Option (List ℕ) → Type 0
-TellsJson wanted cases before after = (shown : List Case) × IsShown wanted.order (chosen wanted cases) shown × TellsCases shown before after
+abbrev pub PrintsJson : Wanted → List Case → Option (List ℕ) → Option (List ℕ) → Type 0
+PrintsJson wanted cases before after = (shown : List Case) × IsShown wanted.order (chosen wanted cases) shown × PrintsCases shown before after
 
 -- The wanted cases are printed, as a table or as JSON, to an output that had taken `before`; and whether there are any.
 pub record Lists (is_json : Bool) (wanted : Wanted) (cases : List Case) (before after : Option (List ℕ)) (some : Bool) : Type 0 where
-  pub told : is_json ≡ false → TellsTable wanted cases before after
-  pub told_json : is_json ≡ true → TellsJson wanted cases before after
+  pub told : is_json ≡ false → PrintsTable wanted cases before after
+  pub told_json : is_json ≡ true → PrintsJson wanted cases before after
   pub some_is : some ≡ not (length (chosen wanted cases) == 0)
 
 -- by the archive that was opened, or why it was not
@@ -74,7 +74,7 @@ IsTimeSaid now (Some text) (Some time) = SaysTime now text (Some time)
 abbrev pub untimed : Wanted → Wanted
 untimed w = record w { since = None; until = None }
 
--- What `list` wants at this time: each of its times is that of its own text, and all else is as the words have it.
+-- The wish of `list` at this time: each of its times is that of its own text, and all else is as the words have it.
 pub record IsWantedAt (now : Option ℕ) (words : ListWords) (wanted : Wanted) : Type 0 where
   pub since : IsTimeSaid now (option_copied words.since) wanted.since
   pub until : IsTimeSaid now (option_copied words.until) wanted.until

@@ -38,7 +38,7 @@ with_second number [] = []
 with_second number (first ∷ []) = first ∷ []
 with_second number (first ∷ second ∷ others) = first ∷ number ∷ others
 
--- What words ask if the second one is this number, and all others are as they are. Fewer than two words ask nothing.
+-- The question of words if the second one is this number, and all others are as they are. Fewer than two words are no question.
 abbrev pub AsksWith : List ℕ → List (List ℕ) → Option Question → Type 0
 AsksWith number (first ∷ second ∷ others) asked = AsksLine (joined (with_second number (first ∷ second ∷ others))) asked
 AsksWith number words asked = asked ≡ None

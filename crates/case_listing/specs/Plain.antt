@@ -4,7 +4,7 @@ use Rattle.archive_files.specs.declared.failures.Failure.{Failure}
 use Rattle.archive_files.specs.declared.failures.Failure.TheVariants.{Faulted}
 use Rattle.inspector_cli.specs.declared.session.SessionFault.TheVariants.{WriteFailed}
 use Rattle.plain_replies.specs.Plain.{plain_of}
-use Rattle.script_streams.specs.Telling.{IsDelivered}
+use Rattle.script_streams.specs.Printing.{IsDelivered}
 use Rattle.script_streams.specs.declared.streams.StreamFault.{StreamFault}
 
 -- how a line ended whose reply was written, or not

@@ -1,4 +1,4 @@
-// Cases as people name them, where a line of a script has their number.
+// Cases as people name them, for words that are case numbers in a script.
 ghost use Rattle.std.specs.Prelude.{◌≡◌, IfOk, false, map};
 ghost use Rattle.case_tables.specs.Named.{named_number};
 ghost use Rattle.intake.specs.Parts.{state_of};
@@ -31,9 +31,8 @@ fn is_number(word: &str) -> bool {
     parse_number(word.as_bytes()).is_some()
 }
 
-/// The request of a line whose second word names a case instead of giving its number, as if the number were 1. `None` if that word is a
-/// number, or
-/// these words are no such line.
+/// The request of a line whose second word names a case instead of giving its number, as
+/// if the number were 1. `None` if that word is a number, or these words are no such line.
 ///
 /// # Errors
 ///
@@ -112,7 +111,7 @@ fn printed(word: &str) -> Option<ArrayVec<u8, 1024>> {
 ///
 /// # Errors
 ///
-/// What an opening is refused for. `NoCase` if no case has this name.
+/// The fault of an opening that is refused. `NoCase` if no case has this name.
 pub fn find_case<D: Disk + Drop>(
     alloc: Global,
     disk: D,

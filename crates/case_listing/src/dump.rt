@@ -1,8 +1,8 @@
 // The reply to `dump` as people read it: after the bytes of each row they stand as text.
 use archive_files::Failure;
 use arrayvec::ArrayVec;
-use case_tables::tell_spaces;
-use plain_replies::tell_plain;
+use case_tables::print_spaces;
+use plain_replies::print_plain;
 use script_streams::{Output, Reply};
 use script_words::{Words, decode_hex};
 
@@ -18,7 +18,7 @@ pub(crate) fn deliver_dump<O: Output>(
     let mut reply = Reply::new(output);
     for line in text.split(|byte| *byte == b'\n') {
         if !line.is_empty() {
-            tell_row(&mut reply, line);
+            print_row(&mut reply, line);
         }
     }
     reply.finish()?;
@@ -26,15 +26,15 @@ pub(crate) fn deliver_dump<O: Output>(
 }
 
 // Prints a line of the reply, and the text of its bytes below that of the other rows.
-fn tell_row<O: Output>(reply: &mut Reply<'_, O>, line: &[u8]) {
-    tell_plain(reply, line);
+fn print_row<O: Output>(reply: &mut Reply<'_, O>, line: &[u8]) {
+    print_plain(reply, line);
     if let Some(bytes) = bytes_of(line) {
-        tell_spaces(reply, 2 + 2 * ROW.saturating_sub(bytes.len()));
+        print_spaces(reply, 2 + 2 * ROW.saturating_sub(bytes.len()));
         for byte in &bytes {
-            reply.tell(&[printed(*byte)]);
+            reply.print(&[printed(*byte)]);
         }
     }
-    reply.tell(b"\n");
+    reply.print(b"\n");
 }
 
 // The bytes of a row that has some: those of the core, or of an executable.

@@ -1,4 +1,4 @@
-// What would go if cases were retired.
+// The cases that would go if cases were retired.
 ghost use Rattle.std.specs.Prelude.{◌≡◌, ◌+◌, ◌∷◌, codes, IfOk, IfSome, OnOk, Option, None, Some, Result, Ok, Err, false, map, true};
 ghost use Rattle.std.specs.List.Sorted.{IsStrictlyIncreasing};
 ghost use Rattle.command_words.specs.Lines.{joined};
@@ -10,7 +10,7 @@ ghost use Rattle.retention.specs.Rule.{IsDecision, seq_of};
 ghost use Rattle.journal_layout.specs.Case.{case_of};
 
 use archive_files::{ArchivePath, Failure, Refusal, take_look};
-use archive_replies::tell_retired;
+use archive_replies::print_retired;
 use command_words::line_of;
 use disk_model::Disk;
 use inspector_cli::SessionFault;
@@ -23,7 +23,7 @@ use std::alloc::{AllocError, Global};
 use std::fs::File;
 use std::rt::Files;
 
-/// By what cases would be retired, if these words ask for that: `would-retire`, and the words of `retire`.
+/// The policy by which cases would be retired, if these words ask for that: `would-retire`, and the words of `retire`.
 ///
 /// # Errors
 ///
@@ -40,7 +40,7 @@ pub fn foreseen_by(alloc: Global, words: &[&str]) -> Result<Option<Policy>, Refu
     Ok(Some(retired_by(alloc, others)?))
 }
 
-// By what `retire` with these words would go.
+// The policy of `retire` with these words.
 fn retired_by(alloc: Global, words: &[&str]) -> Result<Policy, Refusal>
     ensures { IfOk result (λ policy. said (joined (codes "retire" ∷ map (λ word. word.now) words.now)) ≡ retire_by policy) }
 {
@@ -112,18 +112,18 @@ fn foresee_in<D: Disk, O: Output>(
         Err(fault) => return Err(Failure::Refused(Refusal::Call(fault))),
     };
     match decided(alloc, cases, policy) {
-        Ok(Some(decision)) => tell_decision(decision, output),
+        Ok(Some(decision)) => print_decision(decision, output),
         Ok(None) => Err(Failure::Refused(Refusal::Disk)),
         Err(_) => Err(Failure::Refused(Refusal::OutOfMemory)),
     }
 }
 
 // Prints a decision, as `retire` does.
-fn tell_decision<O: Output>(decision: Decision, output: &mut O) -> Result<(), Failure>
+fn print_decision<O: Output>(decision: Decision, output: &mut O) -> Result<(), Failure>
     ensures { (sent : Result (Unit {0}) StreamFault) × ForeseenTold decision (O.taken output.old) (O.taken output.new) (O.failures output.old) (O.failures output.new) sent × (result ≡ sent_told sent) }
 {
     let mut reply = Reply::new(output);
-    tell_retired(&mut reply, Ok(decision));
+    print_retired(&mut reply, Ok(decision));
     sent_told(reply.finish())
 }
 

@@ -1,4 +1,5 @@
-//! The cases of an archive's file as people ask for them: `list`, a case by its name, and what `retire` would drop.
+//! The cases of an archive's file as people ask for them: `list`,
+//! a case by its name, and the cases that `retire` would drop.
 #![tactic(auto)]
 
 mod case_words;

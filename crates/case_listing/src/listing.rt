@@ -5,10 +5,10 @@ ghost use Rattle.std.specs.Option.{option_copied};
 ghost use Rattle.case_tables.specs.Wanted.{chosen};
 ghost use Rattle.intake.specs.Parts.{state_of};
 ghost use Rattle.journal_layout.specs.Case.{case_of};
-ghost use Rattle.case_listing.specs.Listing.{IsTimeSaid, IsWantedAt, Lists, ListsLines, ListsLinesOn, ListsOn, TellsJson, TellsTable, picks};
+ghost use Rattle.case_listing.specs.Listing.{IsTimeSaid, IsWantedAt, Lists, ListsLines, ListsLinesOn, ListsOn, PrintsJson, PrintsTable, picks};
 
 use archive_files::{ArchivePath, Failure, Refusal, take_look};
-use case_tables::{Wanted, list_json, read_time, tell_list, tell_list_lines};
+use case_tables::{Wanted, list_json, print_list, print_list_lines, read_time};
 use disk_model::Disk;
 use inspector_cli::SessionFault;
 use intake::{Archive, Settings};
@@ -85,7 +85,7 @@ fn time_said(text: Option<&str>, now: Option<u64>) -> Result<Option<u64>, Refusa
 /// # Errors
 ///
 /// `BadLine` if a time can't be read. The refusals of `take_look` of `archive_files` and of an opening. `WriteFailed` if the list could
-/// not be written. `Told` if only some cases are asked for, and there are none.
+/// not be written. `Told` if only some cases are asked for, and no case is among them.
 pub fn list<R: AllocGlobal + Files<File = File> + Clock, O: Output>(
     rt: &R,
     place: ArchivePath<'_>,
@@ -113,7 +113,7 @@ pub fn list<R: AllocGlobal + Files<File = File> + Clock, O: Output>(
 ///
 /// # Errors
 ///
-/// What an opening is refused for. `WriteFailed` if the list could not be written.
+/// The fault of an opening that is refused. `WriteFailed` if the list could not be written.
 pub fn list_over<D: Disk + Drop, O: Output>(
     alloc: Global,
     disk: D,
@@ -133,7 +133,8 @@ pub fn list_over<D: Disk + Drop, O: Output>(
 ///
 /// # Errors
 ///
-/// What an opening is refused for. `OutOfMemory`: some lines may be printed. `WriteFailed` if the lines could not be written.
+/// The fault of an opening that is refused. `OutOfMemory`: some lines
+/// may be printed. `WriteFailed` if the lines could not be written.
 pub fn list_lines_over<D: Disk + Drop, O: Output>(
     alloc: Global,
     disk: D,
@@ -158,7 +159,7 @@ fn list_lines<D: Disk, O: Output>(
     ensures { IfOk result (ListsLines wanted.now (state_of archive.now).cases (O.taken output.old) (O.taken output.new)) }
 {
     match archive.cases() {
-        Ok(cases) => tell_lines(alloc, cases, wanted, output),
+        Ok(cases) => print_lines(alloc, cases, wanted, output),
         Err(fault) => Err(Failure::Refused(Refusal::Call(fault))),
     }
 }
@@ -178,30 +179,30 @@ fn list_archive<D: Disk, O: Output>(
         Err(fault) => return Err(Failure::Refused(Refusal::Call(fault))),
     };
     if is_json {
-        tell_json(alloc, cases, wanted, output)
+        print_json(alloc, cases, wanted, output)
     } else {
-        tell_table(alloc, cases, wanted, output)
+        print_table(alloc, cases, wanted, output)
     }
 }
 
-fn tell_table<O: Output>(
+fn print_table<O: Output>(
     alloc: Global,
     cases: &[Entry],
     wanted: &Wanted<'_>,
     output: &mut O,
 ) -> Result<bool, Failure>
-    ensures told { IfOk result (λ some. TellsTable wanted.now (map case_of cases.now) (O.taken output.old) (O.taken output.new)) }
+    ensures told { IfOk result (λ some. PrintsTable wanted.now (map case_of cases.now) (O.taken output.old) (O.taken output.new)) }
     ensures some { IfOk result (λ some. some ≡ not (length (chosen wanted.now (map case_of cases.now)) == 0)) }
 {
     let mut reply = Reply::new(output);
-    let some = tell_list(alloc, &mut reply, cases, wanted)?;
+    let some = print_list(alloc, &mut reply, cases, wanted)?;
     match reply.finish() {
         Ok(()) => Ok(some),
         Err(_) => Err(Failure::Faulted(SessionFault::WriteFailed)),
     }
 }
 
-fn tell_lines<O: Output>(
+fn print_lines<O: Output>(
     alloc: Global,
     cases: &[Entry],
     wanted: &Wanted<'_>,
@@ -210,33 +211,33 @@ fn tell_lines<O: Output>(
     ensures { IfOk result (ListsLines wanted.now (map case_of cases.now) (O.taken output.old) (O.taken output.new)) }
 {
     let mut reply = Reply::new(output);
-    let some = tell_list_lines(alloc, &mut reply, cases, wanted)?;
+    let some = print_list_lines(alloc, &mut reply, cases, wanted)?;
     match reply.finish() {
         Ok(()) => Ok(some),
         Err(_) => Err(Failure::Faulted(SessionFault::WriteFailed)),
     }
 }
 
-fn tell_json<O: Output>(
+fn print_json<O: Output>(
     alloc: Global,
     cases: &[Entry],
     wanted: &Wanted<'_>,
     output: &mut O,
 ) -> Result<bool, Failure>
-    ensures told { IfOk result (λ some. TellsJson wanted.now (map case_of cases.now) (O.taken output.old) (O.taken output.new)) }
+    ensures told { IfOk result (λ some. PrintsJson wanted.now (map case_of cases.now) (O.taken output.old) (O.taken output.new)) }
     ensures some { IfOk result (λ some. some ≡ not (length (chosen wanted.now (map case_of cases.now)) == 0)) }
 {
     let (text, some) = list_json(alloc, cases, wanted)?;
-    tell_line(text.as_bytes(), output)?;
+    print_line(text.as_bytes(), output)?;
     Ok(some)
 }
 
-fn tell_line<O: Output>(text: &[u8], output: &mut O) -> Result<(), Failure>
+fn print_line<O: Output>(text: &[u8], output: &mut O) -> Result<(), Failure>
     ensures { OnOk result (Appends (O.taken output.old) (O.taken output.new) (text.now ++ 10 ∷ [])) }
 {
     let mut reply = Reply::new(output);
-    reply.tell(text);
-    reply.tell(b"\n");
+    reply.print(text);
+    reply.print(b"\n");
     match reply.finish() {
         Ok(()) => Ok(()),
         Err(_) => Err(Failure::Faulted(SessionFault::WriteFailed)),

@@ -13,9 +13,8 @@ use std::fs::File;
 use std::rt::Files;
 use std::time::Clock;
 
-/// Answers a line, and prints its reply for people; that of `dump` has the bytes as text too. Without a question its second word names a
-/// case. The
-/// reply is held until the line is done.
+/// Answers a line, and prints its reply for people; that of `dump` has the bytes as text too.
+/// Without a question its second word names a case. The reply is held until the line is done.
 ///
 /// # Errors
 ///

@@ -41,7 +41,7 @@ IsSeenIn front size space ps address (Err u) = ⊤
 abbrev pub ReadsPiece : {D : Type 0} → disk.Ghosts D → Parts D → ℕ → Piece → Parts D → Type 0
 ReadsPiece g old seq p new = PartCall g old seq p.at (length p.bytes.items) (Ok tt) p.bytes.items new
 
--- An archive is only read: it shows what it showed, and a crash leaves what it left.
+-- An archive is only read: it shows the same as before, and a crash leaves the same as before.
 pub record IsOnlyRead {D : Type 0} (g : disk.Ghosts D) (old new : Parts D) : Type 0 where
   pub state : state_of new ≡ state_of old
   pub contents : IsTrue (g.is_honest old.disk) → contents_of g.seen new ≡ contents_of g.seen old

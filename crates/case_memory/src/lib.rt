@@ -1,4 +1,4 @@
-//! Words of the memory of a core that is a case of an archive: of the image only what tells them is read.
+//! Words of the memory of a core that is a case of an archive: of the image only the bytes that give them are read.
 #![tactic(auto)]
 
 mod pieces;

@@ -1,4 +1,4 @@
-// Words of memory, by pieces of the image that tells them.
+// Words of memory, by pieces of the image.
 ghost use Rattle.std.specs.Prelude.{◌≡◌, ◌+◌, ◌*◌, ◌^◌, ◌≤◌, ◌++◌, ◌∷◌, [], ℕ, List, IfOk, OnOk};
 ghost use Rattle.address_space.specs.SpaceWords.{core_of, space_of};
 ghost use Rattle.intake.specs.Parts.{Parts, state_of};
@@ -70,7 +70,7 @@ fn word_by<D: Disk>(
 }
 
 /// The word at an address: the little-endian number in the eight bytes there, or `None` if the memory does not have one of them. The space is
-/// that of the first bytes of the case's image. Of the rest as much is read as tells the word.
+/// that of the first bytes of the case's image. Of the rest only the bytes are read that give the word.
 ///
 /// # Errors
 ///
@@ -110,8 +110,9 @@ fn push_word(words: &mut Vec<Option<u64>>, word: Option<u64>) -> Result<(), Allo
     Ok(())
 }
 
-/// The words at this many addresses, each eight after the one before: the little-endian number in the eight bytes there, or `None` if the
-/// memory does not have one of them. The space is that of the first bytes of the case's image. Of the rest as much is read as tells the words.
+/// The words at this many addresses, each eight after the one before: the little-endian number in
+/// the eight bytes there, or `None` if the memory does not have one of them. The space is that of
+/// the first bytes of the case's image. Of the rest only the bytes are read that give the words.
 ///
 /// # Errors
 ///

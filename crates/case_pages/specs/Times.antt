@@ -1,5 +1,5 @@
--- The times of cores that may be right. A page has no clock: what a core's time can be is said by those of the cores that were stored after
--- it.
+-- The times of cores that may be right. A page has no clock: the times of
+-- the cores that were stored after a core limit the time that it can have.
 use Rattle.std.specs.Prelude.{ℕ, ◌+◌, ◌*◌, ◌^◌, ◌-◌, Bool, ◌&&◌, ◌||◌, nat_le, nat_lt, List, [], ◌∷◌, filter, length, min, if◌then◌else◌}
 
 -- not before the year 2000
@@ -17,7 +17,7 @@ support t later = length (filter (bears_out t) later)
 abbrev pub is_plausible : ℕ → List ℕ → Bool
 is_plausible t later = nat_lt (length later) 3 || nat_le (length later) (2 * support t later)
 
--- the newest of the plausible times, in the order in which the cores were stored; 0, if there is none
+-- the newest of the plausible times, in the order in which the cores were stored; 0 if there are no such times
 abbrev pub newest_of : List ℕ → ℕ
 newest_of [] = 0
 newest_of (t ∷ ts) = if nat_lt (newest_of ts) t && is_plausible t ts then t else newest_of ts

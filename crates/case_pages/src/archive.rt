@@ -1,4 +1,4 @@
-// What is shown of an archive.
+// The page of an archive.
 use crate::groups::put_groups;
 use crate::plot::put_plot;
 use crate::texts::{open, put, put_decimal, put_time};
@@ -12,7 +12,7 @@ use std::collections::BTreeSet;
 // The first second of the year 2000.
 const FIRST_TIME: u64 = 946_684_800;
 
-/// What is known of an archive.
+/// The known facts about an archive.
 #[derive(Clone, Copy)]
 pub struct PagedArchive<'p, 'a> {
     /// Its cases.
@@ -23,8 +23,8 @@ pub struct PagedArchive<'p, 'a> {
     pub latest: u64,
 }
 
-/// Puts what is known of an archive: how much there is of what, when its cores came, and a row for each of its first groups. The numbers are those of the cases
-/// that come on the page.
+/// Puts the known facts about an archive: the amounts of its parts, the times at which its cores came, and a row for each of its first groups. The
+/// numbers are those of the cases that come on the page.
 ///
 /// # Errors
 ///

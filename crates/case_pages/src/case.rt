@@ -1,4 +1,4 @@
-// What is shown of a case.
+// The page of a case.
 use crate::cause::put_cause;
 use crate::files::put_files;
 use crate::frames::put_first_frames;
@@ -12,7 +12,7 @@ use crate::texts::{
     put_text, put_time,
 };
 use crate::threads::put_threads;
-use case_screens::{CaseAnswers, CoreAnswers, elf_reason, tell_refusal};
+use case_screens::{CaseAnswers, CoreAnswers, elf_reason, print_refusal};
 use core_notes::PsInfo;
 use elf_view::{ElfFault, Header};
 use group_tables::GroupRow;
@@ -25,8 +25,8 @@ use std::alloc::{AllocError, Global};
 // How many cores like it are named at most.
 const LIKES: usize = 24;
 
-/// Puts what is known of a case, of the cases of its archive, and of its group, if it has one. The window has those bytes of its image that are at
-/// the addresses of `stack_of`.
+/// Puts the known facts about a case, about the cases of its archive, and about its group, if it has one. The window has those bytes of its image
+/// that are at the addresses of `stack_of`.
 ///
 /// # Errors
 ///
@@ -222,7 +222,7 @@ fn put_exec(page: &mut Page, case: &Entry, header: &Result<Header, ElfFault>) {
         Ok(header) => put_header(page, header),
         Err(fault) => {
             let mut reply = Reply::new(page);
-            tell_refusal(&mut reply, &elf_reason(*fault));
+            print_refusal(&mut reply, &elf_reason(*fault));
             let _ = reply.finish();
         }
     }

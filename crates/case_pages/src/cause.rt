@@ -1,6 +1,6 @@
 // Why a process ended.
 use crate::texts::{open, put_decimal, put_hexadecimal, put_signal, put_signed};
-use case_screens::{SignalCode, code_of_signal, core_reason, missing, tell_refusal};
+use case_screens::{SignalCode, code_of_signal, core_reason, missing, print_refusal};
 use core_notes::SigInfo;
 use html_pages::{Page, Tag};
 use image_replies::{CoreFault, CoreImage};
@@ -10,7 +10,7 @@ use thread_regs::signal_name;
 // SIGSEGV of signal(7).
 const SIGSEGV: i32 = 11;
 
-// Addresses below the first page: those of a null pointer, and of what is reached through one.
+// Addresses below the first page: those of a null pointer, and of fields that are reached through one.
 const NULL_PAGE: u64 = 4096;
 
 // Puts the signal that ended a process; if the core does not have it, the one that the case has, and why.
@@ -37,7 +37,7 @@ fn put_kept(page: &mut Page, signal: u32, core: &Result<CoreImage<'_>, CoreFault
         Err(fault) => core_reason(*fault),
     };
     let mut reply = Reply::new(page);
-    tell_refusal(&mut reply, &reason);
+    print_refusal(&mut reply, &reason);
     let _ = reply.finish();
 }
 

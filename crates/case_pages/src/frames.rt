@@ -4,8 +4,9 @@ use crate::texts::{
 };
 use case_screens::{CoreAnswers, file_place, frame_file};
 use core_notes::{FileMap, Files};
-use frame_replies::{FrameAnswer, FramesAnswer, stop_fault};
+use frame_replies::{FrameAnswer, FramesAnswer, line_of, stop_fault};
 use html_pages::{Attribute, AttributeName, Page, Tag, Value};
+use line_replies::SourceLine;
 use memory_replies::Location;
 use script_words::print_hexadecimal;
 use thread_regs::threads;
@@ -41,7 +42,7 @@ fn put_frames(page: &mut Page, files: Option<Files<'_>>, frames: &FramesAnswer<'
     page.open(Tag::Tbody, &[]);
     let (first, others) = frames.frames.split_at(frames.frames.len().min(MOST));
     for (row, frame) in first.iter().enumerate() {
-        put_frame(page, files, row, frame);
+        put_frame(page, files, row, frame, line_of(&frames.lines, row));
     }
     put_others(page, others.len());
     page.close();
@@ -66,7 +67,13 @@ fn put_others(page: &mut Page, count: usize) {
     page.close();
 }
 
-fn put_frame(page: &mut Page, files: Option<Files<'_>>, row: usize, frame: &FrameAnswer<'_>) {
+fn put_frame(
+    page: &mut Page,
+    files: Option<Files<'_>>,
+    row: usize,
+    frame: &FrameAnswer<'_>,
+    source: Option<&SourceLine>,
+) {
     page.open(Tag::Tr, &[]);
     open(page, Tag::Td, "num dim");
     put_decimal(page, row as u64);
@@ -74,6 +81,7 @@ fn put_frame(page: &mut Page, files: Option<Files<'_>>, row: usize, frame: &Fram
     let file = frame_file(files, frame);
     open(page, Tag::Td, "fnname");
     put_place(page, frame, file);
+    put_source(page, source);
     page.close();
     open(page, Tag::Td, "file");
     put_file(page, file);
@@ -82,6 +90,18 @@ fn put_frame(page: &mut Page, files: Option<Files<'_>>, row: usize, frame: &Fram
     put_hexadecimal(page, frame.pc);
     page.close();
     page.close();
+}
+
+// Puts the source line of a frame, if it is known.
+fn put_source(page: &mut Page, source: Option<&SourceLine>) {
+    if let Some(source) = source {
+        open(page, Tag::Span, "dim");
+        page.text(b" ");
+        put_text(page, &source.file);
+        page.text(b":");
+        put_decimal(page, u64::from(source.line));
+        page.close();
+    }
 }
 
 fn put_file(page: &mut Page, file: Option<FileMap<'_>>) {

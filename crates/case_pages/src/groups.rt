@@ -138,7 +138,7 @@ fn put_signature(page: &mut Page, signature: &Signature) {
     }
 }
 
-// Puts what stands between two frames.
+// Puts the separator between two frames.
 pub(crate) fn put_separator(page: &mut Page, at: usize) {
     if at > 0 {
         put_looking(page, Tag::Span, "sep", b"<");

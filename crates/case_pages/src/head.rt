@@ -1,12 +1,12 @@
-// What is before the parts of a page and behind them.
+// The parts of a page before and after its content.
 use crate::style::STYLE;
 use crate::texts::{open, put_decimal, put_text};
 use html_pages::{Attribute, AttributeName, Page, Tag, Value};
 
-// What a browser may load for the page: its own style alone.
+// The content that a browser may load for the page: its own style alone.
 const POLICY: &str = "default-src 'none'; style-src 'unsafe-inline'";
 
-/// Begins a page: of these cases of an archive, or of the archive itself, if there are none.
+/// Starts a page: of these cases of an archive, or of the archive itself, if there are no cases.
 pub fn put_head(page: &mut Page, archive: &[u8], cases: &[u32]) {
     page.open(Tag::Html, &[constant(AttributeName::Lang, "en")]);
     page.open(Tag::Head, &[]);

@@ -1,4 +1,4 @@
-//! What holds of the plot of a page, whatever the times are. These functions do nothing.
+//! Laws of the plot of a page, whatever the times are. These functions do nothing.
 ghost use Rattle.std.specs.Prelude.{◌≡◌, ℕ, List, filter, length};
 ghost use Rattle.std.specs.List.{sum};
 ghost use Rattle.case_pages.specs.Bars.{bars, is_among};

@@ -249,7 +249,7 @@ fn longest_of(rows: &[Row]) -> u64 {
     longest
 }
 
-// Puts the marks in a range of addresses that are in no mapping. Gives where the next row begins.
+// Puts the marks in a range of addresses that are in no mapping. Returns the place where the next row starts.
 fn put_outside(
     page: &mut Page,
     memory: &Memory<'_>,
@@ -323,7 +323,7 @@ fn put_bar(page: &mut Page, memory: &Memory<'_>, marks: &[Mark], bar: &Bar, long
     page.close();
 }
 
-// Puts the pieces of a bar. Gives where they end.
+// Puts the pieces of a bar. Returns the place where they end.
 fn put_pieces(
     page: &mut Page,
     memory: &Memory<'_>,
@@ -423,7 +423,7 @@ fn put_known(page: &mut Page, marks: &[Mark], bar: &Bar, bytes: u64, row: u64) {
     page.close();
 }
 
-// What mappings allow, if it is the same for all.
+// The rights that mappings give, if they are the same for all.
 fn rights_of(pieces: &[Mapping<'_>]) -> [u8; 3] {
     match pieces.first() {
         Some(first)

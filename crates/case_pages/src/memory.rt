@@ -1,4 +1,4 @@
-// The mappings of a core's process, and what an address points into.
+// The mappings of a core's process, and the target of an address.
 use crate::texts::base_of;
 use address_space::Mapping;
 use core_notes::CoreNotes;
@@ -16,7 +16,7 @@ const EXECUTABLE: u32 = 1;
 // PF_W.
 const WRITABLE: u32 = 2;
 
-// What a mapping is for.
+// The use of a mapping.
 #[derive(Clone, Copy, PartialEq, Eq)]
 pub(crate) enum Use {
     Stack,
@@ -90,7 +90,7 @@ impl<'a> Memory<'a> {
         self.mappings.iter().find(|mapping| has(mapping, address))
     }
 
-    // What a mapping is for: the stack is where the stack pointer is.
+    // The use of a mapping: the stack is the mapping that has the stack pointer.
     pub(crate) fn use_of(&self, mapping: &Mapping<'_>) -> Use {
         if has_some(mapping, self.sp) {
             Use::Stack
@@ -103,7 +103,7 @@ impl<'a> Memory<'a> {
         }
     }
 
-    // What a mapping is called: by its file, or else by its use.
+    // The name of a mapping: its file, or else its use.
     pub(crate) fn name_of(&self, mapping: &Mapping<'a>) -> &'a [u8] {
         match (mapping.spot, self.use_of(mapping)) {
             (Some(spot), _) => base_of(spot.name),

@@ -1,7 +1,7 @@
-// What is missing of a core.
+// The missing parts of a core.
 use crate::frames::words_of;
 use crate::texts::{open, put, put_size};
-use case_screens::{CoreAnswers, core_reason, tell_refusal};
+use case_screens::{CoreAnswers, core_reason, print_refusal};
 use html_pages::{Page, Tag};
 use image_replies::CoreFault;
 use journal_layout::Entry;
@@ -9,7 +9,7 @@ use script_streams::Reply;
 use unread_notes::UnreadNotes;
 use unwind::Stop;
 
-// Puts what is missing; nothing, if all is there.
+// Puts the missing parts; nothing, if all is there.
 pub(crate) fn put_missing(page: &mut Page, case: &Entry, answers: &CoreAnswers<'_, '_>) {
     let stop = stop_of(answers);
     let is_cut = answers.whole.is_some_and(|whole| case.length < whole);
@@ -52,7 +52,7 @@ fn put_fault(page: &mut Page, fault: CoreFault) {
     page.open(Tag::Li, &[]);
     page.text(b"The core's headers or notes can't be read: ");
     let mut reply = Reply::new(page);
-    tell_refusal(&mut reply, &core_reason(fault));
+    print_refusal(&mut reply, &core_reason(fault));
     let _ = reply.finish();
     page.close();
 }

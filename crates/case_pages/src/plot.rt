@@ -7,7 +7,7 @@ use crate::scale::Scale;
 use crate::span::Span;
 use crate::svg::{begin_box, begin_picture, begin_words, put_line};
 use crate::texts::{base_of, open, put, put_decimal, put_looking, put_text, put_time};
-use case_tables::tell_day;
+use case_tables::print_day;
 use group_tables::GroupRow;
 use html_pages::{Page, Tag};
 use script_streams::Reply;
@@ -78,7 +78,7 @@ fn put_left_out(page: &mut Page, count: u64, latest: u64) {
     page.close();
 }
 
-// Puts the bars and what their colours mean.
+// Puts the bars and the key of their colours.
 fn put_figure(
     alloc: Global,
     page: &mut Page,
@@ -107,7 +107,7 @@ fn highest(alloc: Global, layers: &[Layer<'_>]) -> Result<u64, AllocError> {
     Ok(tops.iter().max().map_or(0, |top| *top))
 }
 
-// The tops of bars, with those of another program on them. If there are none yet, they begin at 0.
+// The tops of bars, with those of another program on them. If there are no bars yet, they start at 0.
 fn stacked(alloc: Global, tops: &[u64], bars: &[u64]) -> Result<Vec<u64>, AllocError> {
     let mut sums = Vec::new(alloc);
     for (at, bar) in bars.iter().enumerate() {
@@ -244,7 +244,7 @@ fn put_mark(page: &mut Page, x: u64, time: u64) {
         begin_words(page, "axis", (x.saturating_add(30), 2_100));
     }
     let mut reply = Reply::new(page);
-    tell_day(&mut reply, time / DAY);
+    print_day(&mut reply, time / DAY);
     let _ = reply.finish();
     page.close();
 }

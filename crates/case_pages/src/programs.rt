@@ -21,7 +21,7 @@ pub(crate) struct Program<'a> {
     pub(crate) times: Vec<u64>,
 }
 
-// What a plot shows in one colour.
+// The part of a plot in one colour.
 #[derive(Drop)]
 pub(crate) struct Layer<'a> {
     pub(crate) look: &'static str,

@@ -61,7 +61,7 @@ fn put_register(
     page.close();
 }
 
-// How a register looks that points there. Those of the place where the thread was are marked.
+// The style of a register that points there. Those of the place where the thread was are marked.
 fn look_of(purpose: Option<Use>, marked: bool) -> &'static str {
     match (purpose, marked) {
         (None, false) => "reg",

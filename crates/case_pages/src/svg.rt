@@ -10,7 +10,7 @@ pub(crate) fn tenths(name: AttributeName, value: u64) -> Attribute {
     }
 }
 
-// Begins a picture that is so many pixels wide and high, and that readers who don't see it are told so.
+// Starts a picture that is so many pixels wide and high, with this text for readers who don't see it.
 pub(crate) fn begin_picture(
     page: &mut Page,
     look: &'static str,

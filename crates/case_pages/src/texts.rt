@@ -1,5 +1,5 @@
 // The small texts of a page.
-use case_tables::{tell_signal, tell_size, tell_time};
+use case_tables::{print_signal, print_size, print_time};
 use html_pages::{Attribute, AttributeName, Page, Tag, Value};
 use memchr::memrchr;
 use script_streams::Reply;
@@ -45,7 +45,7 @@ pub(crate) fn put_text(page: &mut Page, text: &[u8]) {
     }
 }
 
-// How many characters a name has at most where there is little room.
+// How many characters a name has at most if there is little room.
 const ROOM: usize = 30;
 
 // Puts the first bytes of a text, as many as there is room for.
@@ -70,7 +70,7 @@ fn fitting(text: &[u8]) -> usize {
     text.len()
 }
 
-// Puts what the colours of words mean.
+// Puts the key of the colours of words.
 pub(crate) fn put_key(page: &mut Page) {
     open(page, Tag::Span, "key");
     put_colour(page, "k-code", b"code ");
@@ -105,23 +105,23 @@ pub(crate) fn put_hexadecimal(page: &mut Page, number: u64) {
 
 pub(crate) fn put_time(page: &mut Page, time: u64) {
     let mut reply = Reply::new(page);
-    tell_time(&mut reply, time);
+    print_time(&mut reply, time);
     let _ = reply.finish();
 }
 
 pub(crate) fn put_size(page: &mut Page, size: u64) {
     let mut reply = Reply::new(page);
-    tell_size(&mut reply, size);
+    print_size(&mut reply, size);
     let _ = reply.finish();
 }
 
 pub(crate) fn put_signal(page: &mut Page, signal: u32) {
     let mut reply = Reply::new(page);
-    tell_signal(&mut reply, signal);
+    print_signal(&mut reply, signal);
     let _ = reply.finish();
 }
 
-// What is behind the last slash of a path.
+// The part of a path after its last slash.
 pub(crate) fn base_of(path: &[u8]) -> &[u8] {
     match memrchr(b'/', path) {
         Some(at) => path.split_at(at).1.split_at(1).1,

@@ -45,7 +45,7 @@ fn dated(alloc: Global, times: &[u64]) -> Result<Vec<u64>, AllocError>
     Ok(dated)
 }
 
-// The newest of the times that are plausible; 0, if there is none.
+// The newest of the times that are plausible; 0 if there are no such times.
 fn newest_of(times: &[u64]) -> u64
     ensures { result ≡ spec.newest_of times.now }
 {

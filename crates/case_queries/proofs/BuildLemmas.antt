@@ -69,10 +69,10 @@ sees_kept {A = A} g before now o ps P (Err f) sees told = subst (λ e. SeesMore 
 
 -- the build ID is found of what is gathered
 pub id_found : (o : CaseImage) (ps qs : List Part) (p : FrontPlace) (bytes : List ℕ) (id : Option (Bor (List ℕ))) (r : Result FrontId WalkFault) → HasMore o ps qs → ((image : List ℕ) → BeginsWith o qs image → IsPartOf image p.start bytes) → length bytes ≤ p.count → p.start + p.count ≤ o.size
-    → ids.TellsId bytes p.count (Ok id) → MatchResult r (λ f. id_view f ≡ (p.path.now, option_map (λ (x : Bor (List ℕ)). x.now) id)) (λ f. f ≡ OutOfMemory) → ReadsId o ps p r qs
-id_found o ps qs p bytes id (Ok f) earlier gathered few within tells told =
-    (earlier, λ image begins. told ∙ ap (λ (x : Option (List ℕ)). (p.path.now, x)) (tells (part image p.start p.count) (front_begins image bytes o.size p.start p.count begins.0.0 within few (gathered image begins))))
-id_found o ps qs p bytes id (Err f) earlier gathered few within tells told = tt
+    → ids.GivesId bytes p.count (Ok id) → MatchResult r (λ f. id_view f ≡ (p.path.now, option_map (λ (x : Bor (List ℕ)). x.now) id)) (λ f. f ≡ OutOfMemory) → ReadsId o ps p r qs
+id_found o ps qs p bytes id (Ok f) earlier gathered few within states told =
+    (earlier, λ image begins. told ∙ ap (λ (x : Option (List ℕ)). (p.path.now, x)) (states (part image p.start p.count) (front_begins image bytes o.size p.start p.count begins.0.0 within few (gathered image begins))))
+id_found o ps qs p bytes id (Err f) earlier gathered few within states told = tt
 
 -- a fault on the way
 pub told_stop : {D : Type 0} (A : Type 0) (g : disk.Ghosts D) (before now : Parts D) (o : CaseImage) (ps : List Part) (f : WalkFault) → SeesMore {A = A} g before o ps (Err f) now → SeesTold g before o (Err f) now

@@ -27,7 +27,7 @@ use Rattle.memory_replies.specs.declared.outcome.Outcome.{Outcome}
 use Rattle.memory_replies.specs.Texts.{text_line, values_between}
 use Rattle.memory_replies.proofs.AnswerLemmas.{matches_shown}
 use Rattle.memory_replies.proofs.TextLemmas.{AreTexts, strings_are, texts_told, text_values as text_has_values}
-use Rattle.script_streams.specs.Replies.{IsOutcome, Telling, TellsOutcome, TellsReply, no_reply, ok_reply, reply_of}
+use Rattle.script_streams.specs.Replies.{IsOutcome, Printing, PrintsOutcome, PrintsReply, no_reply, ok_reply, reply_of}
 use Rattle.case_queries.specs.Collecting.{Collects, CollectsAll, Wanted, with_executable}
 use Rattle.case_queries.specs.LeaveLaws.{quiet_as}
 use Rattle.case_queries.specs.Asking.{Asking, aim_answer, asking_answer, for_aim}
@@ -184,8 +184,8 @@ module _ {D : Type 0} (g : disk.Ghosts D) (before now new : Parts D) (o : CaseIm
   has_before = subst (λ (s : ArchiveState). HasSize s o.seq o.size) reads.state sized
 
   -- an image that was read whole
-  pub whole_found : (bytes : List ℕ) (outcome : Outcome) (t : Telling) → ReadsUpTo g now o.seq o.front.now o.size (Ok tt) bytes new → length bytes ≡ o.size → TellsReply t (AnswersWith outcome (asking_answer asking bytes xs))
-      → TellsOutcome t (λ text. ShowsFound g before o xs asking text new) (is_done outcome)
+  pub whole_found : (bytes : List ℕ) (outcome : Outcome) (t : Printing) → ReadsUpTo g now o.seq o.front.now o.size (Ok tt) bytes new → length bytes ≡ o.size → PrintsReply t (AnswersWith outcome (asking_answer asking bytes xs))
+      → PrintsOutcome t (λ text. ShowsFound g before o xs asking text new) (is_done outcome)
   whole_found bytes outcome t up long told =
       let all = reads_on g before now new o.seq o.size o.size o.front.now bytes (Ok tt) has_before reads up in
       let sees = all_read g before new o.seq o.size bytes has_before all long in

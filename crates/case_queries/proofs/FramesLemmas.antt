@@ -27,7 +27,7 @@ use Rattle.frame_replies.specs.declared.walk.Walk as frames
 use Rattle.intake.specs.Parts.{Parts, state_of}
 use Rattle.memory_replies.specs.Answers.{AnswersWith, is_done}
 use Rattle.memory_replies.specs.declared.outcome.Outcome.{Outcome}
-use Rattle.script_streams.specs.Replies.{Telling, TellsOutcome, TellsReply, no_reply, reply_of}
+use Rattle.script_streams.specs.Replies.{Printing, PrintsOutcome, PrintsReply, no_reply, reply_of}
 use Rattle.case_queries.specs.Asking.{for_frames, frames_answer}
 use Rattle.case_queries.specs.Finding.{found_reply}
 use Rattle.case_queries.specs.ToldWords.{IsToldBy, ShowsTold, files_told}
@@ -98,8 +98,8 @@ module _ {D : Type 0} (g : disk.Ghosts D) (before new : Parts D) (o : CaseImage)
 
   module _ (a : FramesAsked) where
     -- the frames that were found are told
-    pub frames_shown : (p : UnwoundProcess) (u : UnwoundThread) (outcome : Outcome) (tell : Telling) → (finds : FindsThread g before o ps xs t p (Ok u) new) → TellsReply tell (AnswersWith outcome (frames_answer finds.0 xs t a)) → TellsOutcome tell (λ text. ShowsTold g before o ps xs (for_frames t a) text new) (is_done outcome)
-    frames_shown p u outcome tell finds told =
+    pub frames_shown : (p : UnwoundProcess) (u : UnwoundThread) (outcome : Outcome) (print : Printing) → (finds : FindsThread g before o ps xs t p (Ok u) new) → PrintsReply print (AnswersWith outcome (frames_answer finds.0 xs t a)) → PrintsOutcome print (λ text. ShowsTold g before o ps xs (for_frames t a) text new) (is_done outcome)
+    frames_shown p u outcome print finds told =
         let answer = frames_answer finds.0 xs t a in
         (told.0, (Ok finds.0, finds.1, (finds.2.0, inl (finds.2.1, answered outcome answer told.0 told.1))), outcome_with outcome answer told.0 told.1, told.2)
 

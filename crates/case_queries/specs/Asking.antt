@@ -1,4 +1,4 @@
--- What a line asks of a core that is read piece by piece.
+-- The questions of lines about a core that is read piece by piece.
 use Rattle.std.specs.Prelude.{⊤, ℕ, List, [], Result}
 use Rattle.address_space.specs.Source.{ExecutableView}
 use Rattle.build_replies.specs.Builds.{NamedId, builds_answer}
@@ -21,8 +21,8 @@ use Rattle.case_queries.specs.declared.asked.FramesAsked.TheVariants.{Shown, Reg
 use Rattle.case_queries.specs.declared.asked.AskedFiles.{AskedFiles}
 use Rattle.case_queries.specs.declared.asked.AskedFiles.TheVariants as files
 
--- what is sought in all of its memory; what is asked of the frames of a thread; the builds of its mapped files, for which
--- the executables of these cases are read
+-- a search through all of its memory; a question about the frames of a thread; the
+-- builds of its mapped files, for which the executables of these cases are read
 pub data Asking : Type 0 where
   for_aim : Aim → Asking
   for_frames : ℕ → FramesAsked → Asking
@@ -46,13 +46,13 @@ abbrev pub asking_of : Asked → Asking
 asking_of (asked.Sought s) = for_aim (aim_of s)
 asking_of (asked.Files a) = files_asked a
 
--- nothing that is empty is sought
+-- every search is for something that is not empty
 abbrev pub IsAsking : Asking → Type 0
 IsAsking (for_aim aim) = IsAim aim
 IsAsking (for_frames thread asked) = ⊤
 IsAsking (for_builds query cases) = ⊤
 
--- the line that asks it, and what it answers
+-- the line that asks the question, and its answer
 abbrev pub aim_query : Aim → QuerySaid
 aim_query (for_bytes needle) = ask_find needle
 aim_query (for_texts least) = ask_strings least

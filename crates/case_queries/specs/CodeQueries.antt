@@ -1,4 +1,4 @@
--- The lines that ask what is at an address of an executable, by its own bytes or by the debug file of its build.
+-- The lines that ask about an address of an executable: they are answered by its own bytes or by the debug file of its build.
 use Rattle.std.specs.Prelude.{ℕ, List, Option, Result}
 use Rattle.line_replies.specs.Line.{line_answer}
 use Rattle.memory_replies.specs.SymbolDebug.{symbol_with_debug}
@@ -10,7 +10,7 @@ abbrev pub code_query : CodeQuery → ℕ → QuerySaid
 code_query Function v = ask_symbol_by_build v
 code_query Line v = ask_line v
 
--- what it shows of the bytes of an executable, and of its debug file, if there is one
+-- the answer to the line, by the bytes of an executable and of its debug file, if there is one
 abbrev pub code_answer : CodeQuery → List ℕ → Option (List ℕ) → ℕ → Result (List ℕ) (List ℕ)
 code_answer Function b debug v = symbol_with_debug b debug v
 code_answer Line b debug v = line_answer b debug v

@@ -1,5 +1,5 @@
 -- The executables that a line reads beside the image that it asks: with a core those whose names the core's NT_FILE has, and those under
--- the names of the builds that it tells; and the debug files of those that are used. With an executable it reads its debug file.
+-- the names of the builds that the core names; and the debug files of those that are used. With an executable it reads its debug file.
 use Rattle.std.specs.Prelude.{◌≡◌, ◌⊎◌, ◌&&◌, ℕ, Bool, true, false, List, [], ◌∷◌, ◌++◌, filter, map, Result, Ok, Err, MatchResult}
 use Rattle.address_space.specs.Source.{ExecutableView}
 use Rattle.build_ids.specs.BuildId.{build_id_of}
@@ -44,18 +44,18 @@ is_named_by names c = is_exec c.origin.kind && is_one_of names c.origin.name
 abbrev pub named_by : List (List ℕ) → List Case → List Wanted
 named_by names cases = map wanted_case (filter (is_named_by names) cases)
 
--- An executable that is stored under the name of one of these mapped files, or of its build, for which the core tells that ID.
+-- An executable that is stored under the name of one of these mapped files, or of its build, if the core has that ID for the file.
 abbrev pub is_for : List NamedId → Case → Bool
 is_for told c = is_named_by (stored_names told) c
 
 abbrev pub wanted_by : List NamedId → List Case → List Wanted
 wanted_by told cases = map wanted_case (filter (is_for told) cases)
 
--- one that is stored under the name of the debug file of what is used for one of them, of these executables
+-- one that is stored under the name of the debug file of one of these executables, if a mapped file uses that executable
 abbrev pub debugs_by : List NamedId → List ExecutableView → List Case → List Wanted
 debugs_by told xs cases = named_by (wanted_debugs told xs) cases
 
--- what is stored under the name of the debug file of an executable's build
+-- the cases that are stored under the name of the debug file of an executable's build
 abbrev pub own_debugs : List ℕ → List Case → List Wanted
 own_debugs b cases = named_by (name_of_debug (build_id_of b)) cases
 
@@ -71,7 +71,8 @@ wanted_for (ask_symbol_by_build address) b cases = own_debugs b cases
 wanted_for (ask_line address) b cases = own_debugs b cases
 wanted_for q b cases = wanted_of b cases
 
--- The debug files that a line reads after these executables: lines over call frames do, that over what is used, and `at` and `bt` by build.
+-- The debug files that a line reads after these executables: the lines
+-- over call frames, the line `used`, and `at` and `bt` by build read them.
 abbrev pub debugs_for : QuerySaid → List ℕ → List Case → List ExecutableView → List Wanted
 debugs_for (ask_unwind thread) b cases xs = debugs_by (told_files b) xs cases
 debugs_for (ask_lines thread) b cases xs = debugs_by (told_files b) xs cases
@@ -102,12 +103,12 @@ Collects {D} g old (x ∷ xs) r new =
 abbrev pub CollectsAll : {D : Type 0} → disk.Ghosts D → Parts D → List Wanted → Result (List ExecutableView) ArchiveFault → Parts D → Type 0
 CollectsAll g old xs r new = RunsShort old r new ⊎ Collects g old xs r new
 
--- What is read for a line: the cases, and their images.
+-- The cases that are read for a line, and their images.
 pub record Gathered : Type 0 where
   pub cases : List Wanted
   pub images : List ExecutableView
 
--- the executables of these cases, and what is read after them
+-- the executables of these cases, and those that are read after them
 abbrev pub gathered_with : List Wanted → List ExecutableView → List Wanted → Result (List ExecutableView) ArchiveFault → Result Gathered ArchiveFault
 gathered_with ws xs ds (Ok more) = Ok (record { cases = ws ++ ds; images = xs ++ more })
 gathered_with ws xs ds (Err f) = Err f

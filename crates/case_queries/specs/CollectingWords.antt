@@ -1,4 +1,4 @@
--- What code keeps of the executables that it gathers.
+-- The meaning of the executables that code gathers.
 use Rattle.std.specs.Prelude.{◌++◌, List, map, Result, Ok, Err, Vec}
 use Rattle.std.specs.Global.{Global}
 use Rattle.address_space.specs.Source.{ExecutableView}
@@ -10,7 +10,7 @@ use Rattle.case_queries.specs.declared.collect_executables.WantedCase.{WantedCas
 abbrev pub wanted_view : WantedCase → Wanted
 wanted_view w = (w.seq, w.path.items)
 
--- as what an executable was read
+-- the number and the name under which an executable was read
 abbrev pub read_as : StoredExecutable → Wanted
 read_as x = (x.seq, x.path.items)
 

@@ -1,4 +1,4 @@
--- What the code keeps of the executables of an archive.
+-- The meaning of the code's table of an archive's executables.
 use Rattle.std.specs.Prelude.{◌≡◌, List, map}
 use Rattle.journal_layout.specs.Case.{Case}
 use Rattle.case_queries.specs.CollectingWords.{wanted_view}

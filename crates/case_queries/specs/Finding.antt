@@ -1,4 +1,4 @@
--- What is sought in the memory of a core whose image is read window by window.
+-- A search through the memory of a core whose image is read window by window.
 use Rattle.std.specs.Prelude.{◌≡◌, ℕ, List, [], ◌∷◌, ◌++◌, length, take, drop, Result, Ok, Err, decimal}
 use Rattle.std.specs.List.{flat_map}
 use Rattle.address_space.specs.Occurrence.{occurrences, strings_of}
@@ -25,13 +25,13 @@ use Rattle.case_queries.specs.declared.walk.CaseImage.{CaseImage}
 use Rattle.case_queries.specs.declared.walk.WalkFault.{WalkFault}
 use Rattle.case_queries.specs.declared.walk.WalkFault.TheVariants.{Unread, OutOfMemory}
 
--- what is found in the whole memory
+-- all results of the search in the whole memory
 abbrev pub IsAllFound : Space → Aim → Found → Type 0
 IsAllFound space (for_bytes needle) (found.Addresses v) = v.items ≡ occurrences space needle
 IsAllFound space (for_texts least) (found.Texts t) = (t.places.items ≡ strings_of space least) × (t.bytes.items ≡ flat_map (text_values space) t.places.items)
 IsAllFound space aim f = ⊥
 
--- It is what is sought in the memory of the image that was seen; or why nothing is found.
+-- The results are those of the search in the memory of the image that was seen; or it is said why there are no results.
 abbrev pub Finds : {D : Type 0} → disk.Ghosts D → Parts D → Space → Aim → CaseImage → Parts D → Result Found WalkFault → Type 0
 Finds g before space aim o now (Ok f) =
     (image : List ℕ) × SeesImage g before o.seq image now × IsFrontOf o.front.now o.size image × IsAllFound (space_in image space) aim f
@@ -57,12 +57,12 @@ found_reply (Ok f) = found_lines f ++ ok_reply
 found_reply (Err (Unread f)) = no_reply (reason_of f)
 found_reply (Err OutOfMemory) = memory_reply
 
--- an answer of an image that begins so, or why it can't be read
+-- the answer of an image that begins with these bytes, or why it can't be read
 abbrev pub ToldFound : CaseImage → List ExecutableView → Asking → List ℕ → Result (List ℕ) ArchiveFault → Type 0
 ToldFound o xs asking text (Ok image) = IsFrontOf o.front.now o.size image × Answers (asking_answer asking image xs) text
 ToldFound o xs asking text (Err f) = text ≡ no_reply (reason_of f)
 
--- what the line shows, with these executables
+-- the reply of the line, with these executables
 abbrev pub ShowsFound : {D : Type 0} → disk.Ghosts D → Parts D → CaseImage → List ExecutableView → Asking → List ℕ → Parts D → Type 0
 ShowsFound g before o xs asking text now = (r : Result (List ℕ) ArchiveFault) × LooksAt g before o.seq r now × ToldFound o xs asking text r
 
@@ -70,7 +70,8 @@ ShowsFound g before o xs asking text now = (r : Result (List ℕ) ArchiveFault) 
 abbrev pub IsFrontOfCase : {D : Type 0} → disk.Ghosts D → Parts D → CaseImage → Type 0
 IsFrontOfCase g a o = (image : List ℕ) × AreOfCase g a o.seq image × (o.front.now ≡ take (length o.front.now) image)
 
--- What the line shows of a core that has no fault and begins so, with the executables that are read beside it; or why it can't be read.
+-- The reply of the line about a core that has no fault and begins with these
+-- bytes, with the executables that are read beside it; or why it can't be read.
 abbrev pub ShowsFront : {D : Type 0} → disk.Ghosts D → Parts D → CaseImage → Asking → Result (List ℕ) ArchiveFault → List ℕ → Parts D → Type 0
 ShowsFront g mid o asking (Ok image) text new = IsFrontOf o.front.now o.size image × ((kind : Kind) → ShowsCore g mid kind (asking_query asking) image text new)
 ShowsFront g mid o asking (Err f) text new = (text ≡ no_reply (reason_of f)) × (new ≡ mid)

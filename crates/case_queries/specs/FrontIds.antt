@@ -31,7 +31,7 @@ abbrev pub GathersRead : CaseImage → List Part → ℕ → ℕ → List ℕ �
 GathersRead o ps start count old (Ok u) qs new = HasMore o ps qs × StaysGathered o qs start old new × (length new ≡ count)
 GathersRead o ps start count old (Err f) qs new = ⊤
 
--- it is the name, and the build ID of what each image that has these pieces has there
+-- it is the name, and the build ID of the bytes there in each image that has these pieces
 abbrev pub IsIdAt : CaseImage → List Part → FrontPlace → FrontId → Type 0
 IsIdAt o ps p f = (image : List ℕ) → BeginsWith o ps image → id_view f ≡ (p.path.now, build_id_of (part image p.start p.count))
 
@@ -40,7 +40,7 @@ abbrev pub ReadsId : CaseImage → List Part → FrontPlace → Result FrontId W
 ReadsId o ps p (Ok f) qs = HasMore o ps qs × IsIdAt o qs p f
 ReadsId o ps p (Err f) qs = ⊤
 
--- they are the build IDs of the names, by what each image that has these pieces has there
+-- they are the build IDs of the names, by the bytes there in each image that has these pieces
 abbrev pub AreIdsAt : CaseImage → List Part → MappedFiles → List FrontId → Type 0
 AreIdsAt o ps m ids = (image : List ℕ) → BeginsWith o ps image → AreIdsOf image m ids
 

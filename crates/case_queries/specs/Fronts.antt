@@ -23,7 +23,7 @@ use Rattle.case_queries.specs.Inspecting.{want_of}
 use Rattle.case_queries.specs.Seeing.{LooksAt, SeesImage}
 use Rattle.case_queries.specs.declared.kept_image.KeptImage.{KeptImage}
 
--- as what the first bytes of an image have to be sound for a line
+-- the kind of image that the first bytes must be sound as, for a line
 abbrev pub front_want : Kind → ImageQuery → Want
 front_want kind Header = want_of kind
 front_want kind _ = Core
@@ -41,7 +41,7 @@ abbrev pub SeesEnough : {D : Type 0} → disk.Ghosts D → Parts D → ℕ → W
 SeesEnough g old seq want (Ok k) new = (image : List ℕ) × SeesImage g old seq image new × IsEnough want k.image.items image
 SeesEnough g old seq want (Err f) new = LooksAt g old seq (Err f) new
 
--- The same where they are read of an image of this size: they are 65,536 at least, or all.
+-- The same if they are read of an image of this size: they are 65,536 at least, or all.
 abbrev pub ReadsEnough : {D : Type 0} → disk.Ghosts D → Parts D → ℕ → Want → ℕ → Result (Vec ℕ Global) ArchiveFault → Parts D → Type 0
 ReadsEnough g old seq want size (Ok v) new =
     (image : List ℕ) × SeesImage g old seq image new × (v.items ≡ take (length v.items) image) × (length image ≡ size)
@@ -60,7 +60,7 @@ ReadsUpTo g old seq front end (Ok u) front' new =
 ReadsUpTo g old seq front end (Err f) front' new =
     ((f ≡ OutOfMemory) × (new ≡ old)) ⊎ ((bytes : List ℕ) × PartCall g old seq (length front) (end - length front) (Err f) bytes new)
 
--- The first bytes of the image of a case are read: the archive shows what it showed, and a crash leaves what it left.
+-- The first bytes of the image of a case are read: the archive shows the same as before, and a crash leaves the same as before.
 pub record ReadsFront {D : Type 0} (g : disk.Ghosts D) (old : Parts D) (seq : ℕ) (front : List ℕ) (new : Parts D) : Type 0 where
   pub own : IsTrue (g.is_honest old.disk)
       → (image : List ℕ) × (image_at seq (state_of old).cases (contents_of g.seen old).images ≡ Some image) × (front ≡ take (length front) image)

@@ -48,11 +48,11 @@ module _ {D : Type 0} (g : disk.Ghosts D) (old : Parts D) (seq : ℕ) (q : Query
   of_archive new true is asks = archive_stopped is asks.0 asks.1
   of_archive new false is asks = of_found new is (case_numbered seq (state_of old).cases) refl asks
 
-  -- what its steps make of a line is what it is promised to be
+  -- the promise about a line, from its steps
   pub inspected : (new : Parts D) → Asks g old seq q (kind_asked (state_of old) seq q) reply new → Inspects g old seq q reply new
   inspected new asks = of_archive new (state_of old).stopped refl asks
 
-  -- what is asked of a case that may be asked
+  -- the kind of a case that the line may ask
   pub asked_kind : (kind : Kind) → MayAsk (state_of old) seq q kind → kind_asked (state_of old) seq q ≡ Ok kind
   asked_kind kind may =
       ap (λ (b : Bool). cond b (Err (codes "Stopped")) (kind_found q (case_numbered seq (state_of old).cases))) may.runs
@@ -89,7 +89,7 @@ module _ {D : Type 0} (g : disk.Ghosts D) (old : Parts D) (seq : ℕ) (q : Query
     steps_of (shown kind may image looks reads told) =
         as_kind (Ok kind) (asked_kind kind may) (Ok image, new, looks, by_reads kind image new false reads (told, refl))
 
-    -- what it leaves of the archive
+    -- the state in which the line leaves the archive
     pub inspects_leaves : Inspects g old seq q reply new → Leaves g old new
     inspects_leaves inspects = asks_leaves g old new seq q (kind_asked (state_of old) seq q) reply (steps_of inspects)
 

@@ -1,4 +1,4 @@
--- What a line that asks an image answers, and what it leaves of the archive.
+-- The answer to a line that asks an image, and the state in which the line leaves the archive.
 use Rattle.std.specs.Prelude.{◌≡◌, ◌⊎◌, ℕ, List, [], Bool, true, false, find, Option, None, Some, Result, Ok, Err, codes}
 use Rattle.std.specs.Option.{option_map}
 use Rattle.address_space.specs.Source.{ExecutableView}
@@ -53,8 +53,8 @@ abbrev pub executable_kind : Kind → Result Kind (List ℕ)
 executable_kind Core = Err (codes "NotExec")
 executable_kind Exec = Ok Exec
 
--- of which kind a case is, where the line may ask one of that kind: a header is asked of both, a symbol and a source line of
--- executables, all else of cores
+-- the kind of a case, if the line may ask one of that kind: a header is asked
+-- of both, a symbol and a source line of executables, all else of cores
 abbrev pub kind_for : QuerySaid → Kind → Result Kind (List ℕ)
 kind_for ask_header kind = Ok kind
 kind_for (ask_symbol address) kind = executable_kind kind
@@ -63,12 +63,12 @@ kind_for (ask_line address) kind = executable_kind kind
 kind_for q Core = Ok Core
 kind_for q Exec = Err (codes "NotCore")
 
--- as what an image is read
+-- the kind of image that a case is read as
 abbrev pub want_of : Kind → Want
 want_of Core = want.Core
 want_of Exec = want.Exec
 
--- what a line over builds asks, where the executables of these cases are read
+-- the question of a line over builds, if the executables of these cases are read
 abbrev pub asking_by : BuildQuery → List Wanted → BuildsAsking
 asking_by builds.Compared cases = compares
 asking_by builds.Used cases = uses cases
@@ -89,7 +89,7 @@ by_debugs (ask_at address) b xs debugs answer = at_with_debugs b xs debugs addre
 by_debugs (ask_backtrace thread) b xs debugs answer = bt_with_debugs b xs debugs thread
 by_debugs q b xs debugs answer = answer
 
--- the debug file of the build of that ID, of what is stored under its name
+-- the debug file of the build of that ID, among the files that are stored under its name
 abbrev pub debug_of_build : Option (List ℕ) → List ExecutableView → Option ExecutableView
 debug_of_build None xs = None
 debug_of_build (Some id) xs = find (λ (x : ExecutableView). is_debug_of id x.image) xs
@@ -98,8 +98,7 @@ debug_of_build (Some id) xs = find (λ (x : ExecutableView). is_debug_of id x.im
 abbrev pub debug_image : List ℕ → List ExecutableView → Option (List ℕ)
 debug_image b xs = option_map (λ (x : ExecutableView). x.image) (debug_of_build (build_id_of b) xs)
 
--- what a query's answer shows of the bytes of an image, and of the executables of these cases, which are read for it; or why it shows
--- nothing
+-- the answer to a query, by the bytes of an image and of the executables of these cases, which are read for it; or why nothing is shown
 abbrev pub answer_of : Kind → QuerySaid → List ℕ → List Wanted → List ExecutableView → Result (List ℕ) (List ℕ)
 answer_of kind ask_header b cases xs = header_answer (want_of kind) b
 answer_of kind ask_notes b cases xs = notes_answer b
@@ -140,13 +139,14 @@ reads_executables (ask_symbol_by_build address) = true
 reads_executables (ask_line address) = true
 reads_executables _ = false
 
--- Before they are read, the fault of the core for which it is refused. What is at an address of an executable is asked of no core.
+-- The fault of the core for which the line is refused before the executables
+-- are read. A line about an address of an executable asks no core.
 abbrev pub core_fault_for : QuerySaid → List ℕ → Option CoreFault
 core_fault_for (ask_symbol_by_build address) b = None
 core_fault_for (ask_line address) b = None
 core_fault_for q b = core_fault_of b
 
--- The reply where no executable is read: that of the answer. The table of an executable's symbols takes memory.
+-- The reply if no executable is read: that of the answer. The table of an executable's symbols takes memory.
 abbrev pub Told : Kind → QuerySaid → List ℕ → List ℕ → Type 0
 Told kind (ask_symbol address) b reply = (reply ≡ reply_of (symbol_answer b address)) ⊎ ((reply ≡ memory_reply) × (executable_fault b ≡ None))
 Told kind q b reply = reply ≡ reply_of (answer_of kind q b [] [])
@@ -158,8 +158,8 @@ pub record MayAsk (s : ArchiveState) (seq : ℕ) (q : QuerySaid) (kind : Kind) :
   pub has : case_numbered seq s.cases ≡ Some entry
   pub asked : kind_for q entry.origin.kind ≡ Ok kind
 
--- A line that asks the image of a case, its reply, and the archive after it: the reasons why nothing is shown, in their order, and then
--- what is shown.
+-- A line that asks the image of a case, its reply, and the archive after it:
+-- the reasons why nothing is shown, in their order, and then the answer.
 pub data Inspects {D : Type 0} (g : disk.Ghosts D) (old : Parts D) (seq : ℕ) (q : QuerySaid) (reply : List ℕ) (new : Parts D) : Type 0 where
   -- the archive is stopped
   archive_stopped : (state_of old).stopped ≡ true → reply ≡ no_reply (codes "Stopped") → new ≡ old → Inspects g old seq q reply new

@@ -8,12 +8,12 @@ use Rattle.case_queries.specs.CollectingWords.{executable_view, read_as}
 use Rattle.case_queries.specs.declared.collect_executables.StoredExecutable.{StoredExecutable}
 use Rattle.case_queries.specs.declared.kept_image.KeptImage.{KeptImage}
 
--- Executables that are kept are what reading those cases may give here, with no byte read and nothing changed.
+-- Kept executables are a possible result of reading those cases here, with no byte read and nothing changed.
 abbrev pub StayCollected : {D : Type 0} → disk.Ghosts D → Parts D → Option (Vec StoredExecutable Global) → Type 0
 StayCollected g a None = Unit {0}
 StayCollected g a (Some v) = Collects g a (map read_as v.items) (Ok (map executable_view v.items)) a
 
--- so are those that are kept with an image
+-- the executables that are kept with an image stay too
 abbrev pub AreKept : {D : Type 0} → disk.Ghosts D → Parts D → Option KeptImage → Type 0
 AreKept g a None = Unit {0}
 AreKept g a (Some k) = StayCollected g a k.executables

@@ -1,4 +1,4 @@
--- What a line that asks an image leaves of the archive.
+-- The state in which a line that asks an image leaves the archive.
 use Rattle.std.proofs.Common.{◌≡◌, ◌⊎◌, inl, inr, ⊎_elim, ℕ, Bool, true, false, List, [], ◌∷◌, Option, None, Some, Result, Ok, Err, Vec, Global, refl, ap, sym, subst, ◌∙◌}
 use Rattle.std.specs.Prelude.{IsTrue}
 use Rattle.address_space.specs.Source.{ExecutableView}
@@ -56,7 +56,7 @@ unmoved_taken : (old new : Contents) (f : ArchiveFault) → UnmovedBytes old f n
 unmoved_taken old new Disk unmoved = inr refl
 unmoved_taken old new _ unmoved = inl (ap (λ (c : Contents). c.taken) unmoved)
 
--- The cases and their images are as they were, and so are the streams, unless the archive is stopped.
+-- The cases and their images are the same as before. The streams are too, unless the archive is stopped.
 pub record Leaves {D : Type 0} (g : disk.Ghosts D) (old new : Parts D) : Type 0 where
   pub stays : ChangesNoCase g old new
   pub halts : old.stopped ≡ true → new.stopped ≡ true

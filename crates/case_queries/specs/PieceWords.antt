@@ -1,4 +1,4 @@
--- What lent pieces mean.
+-- The meaning of borrowed pieces.
 use Rattle.std.specs.Prelude.{ℕ, List}
 use Rattle.seen_memory.specs.declared.part.Part.{Part}
 

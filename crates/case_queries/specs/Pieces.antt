@@ -46,7 +46,7 @@ AreApart start past (p ∷ ps) = ApartFrom start past p × AreApart start past p
 abbrev pub BeginsWith : CaseImage → List Part → List ℕ → Type 0
 BeginsWith o ps image = IsFrontOf o.front.now o.size image × ArePieces image ps
 
--- So is the image of the case that is seen.
+-- The image of the case that is seen is such an image.
 abbrev pub SeesPieces : {D : Type 0} → disk.Ghosts D → Parts D → CaseImage → List Part → Parts D → Type 0
 SeesPieces g before o ps now = (image : List ℕ) × SeesImage g before o.seq image now × BeginsWith o ps image
 
@@ -71,7 +71,7 @@ abbrev pub HasRead : CaseImage → List Part → Result (Unit {0}) WalkFault →
 HasRead o old (Ok u) new = HasMore o old new
 HasRead o old (Err f) new = ⊤
 
--- what became of a walk through the frames of a thread, as far as these pieces go
+-- the result of a walk through the frames of a thread, as far as these pieces go
 abbrev pub WalkedTo : CaseImage → List Part → Result Stop frame_faults.WalkFault → frames.Walk → Type 0
 WalkedTo o ps (Ok stop) w = HasFound w stop
 WalkedTo o ps (Err (frame_fault.Unread u)) w = (length o.front.now ≤ u.place) × AreBeside u.place ps × ((image : List ℕ) → BeginsWith o ps image → u.place < o.size)

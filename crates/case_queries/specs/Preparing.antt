@@ -16,11 +16,11 @@ use Rattle.case_queries.specs.declared.prepared.PreparedExecutables.{PreparedExe
 abbrev pub prepared_views : PreparedExecutables → List ExecutableView
 prepared_views p = map attached_view p.attached.items
 
--- Of these the same are chosen for a core that tells these mapped files as for those for which they were prepared.
+-- The same of these are chosen for a core that has these mapped files as for the files for which they were prepared.
 abbrev pub AreChosenFor : PreparedExecutables → List NamedId → Type 0
 AreChosenFor p told = choice_of told (prepared_views p) ≡ choice_of (map id_view p.files.items) (prepared_views p)
 
--- They serve such a core of an archive with these cases: what is read for it are they, and of them the same are chosen.
+-- They serve such a core of an archive with these cases: they are the ones that would be read for it, and the same of them are chosen.
 pub record Serves (p : PreparedExecutables) (told : List NamedId) (cases : List Case) : Type 0 where
   pub wanted : map read_as p.stored.now ≡ wanted_by told cases
   pub debugs : map read_as p.debug_files.now ≡ debugs_by told (map executable_view p.stored.now) cases

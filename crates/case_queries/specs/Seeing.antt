@@ -19,8 +19,8 @@ pub record AreOfCase {D : Type 0} (g : disk.Ghosts D) (a : Parts D) (seq : ℕ) 
   pub bytes : IsTrue (g.is_honest a.disk) → image_at seq (state_of a).cases (contents_of g.seen a).images ≡ Some image
   pub long : (c : Case) → case_numbered seq (state_of a).cases ≡ Some c → length image ≡ c.len
 
--- The image of a case is seen, whether it is read now or was kept since it was: the archive shows what it showed, and a crash
--- leaves what it left.
+-- The image of a case is seen, whether it is read now or was kept since an earlier read: the archive shows the same as before, and a crash
+-- leaves the same as before.
 pub record SeesImage {D : Type 0} (g : disk.Ghosts D) (old : Parts D) (seq : ℕ) (image : List ℕ) (new : Parts D) : Type 0 where
   pub own : AreOfCase g old seq image
   pub state : state_of new ≡ state_of old
@@ -54,7 +54,7 @@ abbrev pub HoldsFront : {D : Type 0} → disk.Ghosts D → Parts D → ℕ → B
 HoldsFront g a seq is_whole bytes =
     (image : List ℕ) × AreOfCase g a seq image × (bytes ≡ take (length bytes) image) × (is_whole ≡ true → bytes ≡ image)
 
--- what is kept of an image is of that of its case
+-- the kept bytes of an image are those of its case's image
 abbrev pub IsKept : {D : Type 0} → disk.Ghosts D → Parts D → Option KeptImage → Type 0
 IsKept g a None = Unit {0}
 IsKept g a (Some k) = HoldsFront g a k.seq k.is_whole k.image.items

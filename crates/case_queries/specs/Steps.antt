@@ -1,5 +1,5 @@
--- How a line that asks an image is answered, step by step: what the functions of this crate promise each other. Put together it is
--- `Inspects` (`InspectLaws`).
+-- The steps in which a line that asks an image is answered: the promises that the functions of this crate make to each other. Put together
+-- they are `Inspects` (`InspectLaws`).
 use Rattle.std.specs.Prelude.{◌≡◌, ℕ, List, Bool, true, false, Option, None, Some, Result, Ok, Err, codes, if◌then◌else◌}
 use Rattle.std.specs.Borrow.{Bor}
 use Rattle.address_space.specs.Source.{ExecutableView}
@@ -24,12 +24,12 @@ abbrev pub kind_found : QuerySaid → Option Case → Result Kind (List ℕ)
 kind_found q None = Err (codes "NoCase")
 kind_found q (Some c) = kind_for q c.origin.kind
 
--- The kind of the case that a line asks; or why it shows nothing, whatever the image: the archive is stopped, or has no such
--- case, or it is of the other kind.
+-- The kind of the case that a line asks; or why it shows nothing, whatever the image:
+-- the archive is stopped, or has no such case, or the case has the other kind.
 abbrev pub kind_asked : ArchiveState → ℕ → QuerySaid → Result Kind (List ℕ)
 kind_asked s seq q = if s.stopped then Err (codes "Stopped") else kind_found q (case_numbered seq s.cases)
 
--- the reply where these are read, or one can't be
+-- the reply if these are read, or if one can't be
 abbrev pub ToldWithExecutables : Kind → QuerySaid → List ℕ → Result Gathered ArchiveFault → List ℕ → Type 0
 ToldWithExecutables kind q b (Ok read) reply = Answers (answer_of kind q b read.cases read.images) reply
 ToldWithExecutables kind q b (Err f) reply = reply ≡ no_reply (reason_of f)
@@ -45,7 +45,7 @@ abbrev pub ShowsCore : {D : Type 0} → disk.Ghosts D → Parts D → Kind → Q
 ShowsCore g old kind q b reply new =
     (r : Result Gathered ArchiveFault) × GathersFor g old q b r new × ToldWithExecutables kind q b r reply
 
--- the executables are read where the core has no fault
+-- the executables are read if the core has no fault
 abbrev pub ShowsWithExecutables : {D : Type 0} → disk.Ghosts D → Parts D → Kind → QuerySaid → List ℕ → Option CoreFault → List ℕ → Parts D → Type 0
 ShowsWithExecutables g old kind q b (Some fault) reply new = (reply ≡ no_reply (core_reason fault)) × (new ≡ old)
 ShowsWithExecutables g old kind q b None reply new = ShowsCore g old kind q b reply new
@@ -54,7 +54,7 @@ abbrev pub ShowsBy : {D : Type 0} → disk.Ghosts D → Parts D → Kind → Que
 ShowsBy g old kind q b true reply new = ShowsWithExecutables g old kind q b (core_fault_for q b) reply new
 ShowsBy g old kind q b false reply new = Told kind q b reply × (new ≡ old)
 
--- what a query shows of an image
+-- the reply to a query of an image
 abbrev pub Shows : {D : Type 0} → disk.Ghosts D → Parts D → Kind → QuerySaid → List ℕ → List ℕ → Parts D → Type 0
 Shows g old kind q b reply new = ShowsBy g old kind q b (reads_executables q) reply new
 
@@ -67,7 +67,7 @@ abbrev pub Asks : {D : Type 0} → disk.Ghosts D → Parts D → ℕ → QuerySa
 Asks g old seq q (Err reason) reply new = (reply ≡ no_reply reason) × (new ≡ old)
 Asks {D} g old seq q (Ok kind) reply new = (r : Result (List ℕ) ArchiveFault) × (mid : Parts D) × LooksAt g old seq r mid × ShowsSeen g mid kind q r reply new
 
--- the kind that code tells, or the reason
+-- the kind that code returns, or the reason
 abbrev pub asked_view : Result Kind (Bor (List ℕ)) → Result Kind (List ℕ)
 asked_view (Ok kind) = Ok kind
 asked_view (Err reason) = Err reason.now

@@ -1,4 +1,4 @@
--- What a line that asks a case is answered of, as a statement: of the bytes that are stored.
+-- The bytes from which a line that asks a case is answered, as a statement: those that are stored.
 use Rattle.std.specs.Prelude.{◌≡◌, ◌⊎◌, ℕ, List, [], ◌∷◌, ◌++◌, length, true, false, None, Some, IsTrue}
 use Rattle.address_space.specs.Source.{ExecutableView}
 use Rattle.archive_replies.specs.Reasons.{reason_of}
@@ -49,13 +49,13 @@ abbrev pub IsHindered : {D : Type 0} → disk.Ghosts D → Parts D → List ℕ 
 IsHindered g old reply new =
     (reply ≡ no_reply (reason_of OutOfMemory)) ⊎ ((reply ≡ no_reply (reason_of Disk)) × HasRisen (g.failures old.disk) (g.failures new.disk))
 
--- On an honest disk a line that may ask a case is answered of what is stored, or it is hindered.
+-- On an honest disk a line that may ask a case is answered from the stored bytes, or it is hindered.
 abbrev pub AnswersAreOfTheCase : {D : Type 0} → disk.Ghosts D → Type 0
 AnswersAreOfTheCase {D} g =
     (old new : Parts D) (seq : ℕ) (q : QuerySaid) (kind : Kind) (reply : List ℕ) → IsTrue (g.is_honest old.disk) → MayAsk (state_of old) seq q kind
     → Inspects g old seq q reply new → IsAnsweredOfTheCase g.seen old seq q kind reply ⊎ IsHindered g old reply new
 
--- And what is stored has one such answer.
+-- And the stored bytes have one such answer.
 abbrev pub WhatIsStoredHasOneAnswer : {D : Type 0} → disk.Ghosts D → Type 0
 WhatIsStoredHasOneAnswer {D} g =
     (a : Parts D) (seq : ℕ) (q : QuerySaid) (kind : Kind) (reply reply' : List ℕ) → IsAnsweredOfTheCase g.seen a seq q kind reply → IsAnsweredOfTheCase g.seen a seq q kind reply'

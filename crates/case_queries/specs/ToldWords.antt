@@ -1,4 +1,5 @@
--- The mapped files of a core that is read piece by piece, each with the build ID that the core tells; and what a line shows by them.
+-- The mapped files of a core that is read piece by piece, each with the
+-- build ID that the core has for it; and the reply of a line that uses them.
 use Rattle.std.specs.Prelude.{◌≡◌, ◌⊎◌, ◌++◌, ℕ, List, Result, Ok, Err}
 use Rattle.address_space.specs.Source.{ExecutableView}
 use Rattle.address_space.specs.Whole.{IsFrontOf}
@@ -22,7 +23,7 @@ use Rattle.case_queries.specs.declared.walk.WalkFault.{WalkFault}
 use Rattle.case_queries.specs.declared.walk.WalkFault.TheVariants.{Unread, OutOfMemory}
 use Rattle.case_queries.specs.declared.window.Part.{Part}
 
--- Each image that begins so and has these pieces tells these files; and there is such an image.
+-- Each image that begins with these bytes and has these pieces has these mapped files; and there is such an image.
 pub record IsToldBy (o : CaseImage) (t : ToldFiles) : Type 0 where
   pub some : (image : List ℕ) × BeginsWith o t.pieces.items image
   pub told : (image : List ℕ) → BeginsWith o t.pieces.items image → told_of image ≡ told_view t.files
@@ -33,21 +34,21 @@ SeesTold g before o (Ok t) now = SeesPieces g before o t.pieces.items now
 SeesTold g before o (Err (Unread f)) now = LooksAt g before o.seq (Err f) now
 SeesTold g before o (Err OutOfMemory) now = (image : List ℕ) × SeesImage g before o.seq image now × IsFrontOf o.front.now o.size image
 
--- what is at hand is of the case's image
+-- the pieces at hand are of the case's image
 abbrev pub ArePiecesOfCase : {D : Type 0} → disk.Ghosts D → Parts D → CaseImage → List Part → Type 0
 ArePiecesOfCase g a o ps = (image : List ℕ) × AreOfCase g a o.seq image × BeginsWith o ps image
 
--- an answer of an image that begins so and has these pieces, or that there is no memory; or why it can't be read
+-- the answer of an image that begins with these bytes and has these pieces, or that there is no memory; or why it can't be read
 abbrev pub ToldPieces : CaseImage → List Part → List ExecutableView → Asking → List ℕ → Result (List ℕ) ArchiveFault → Type 0
 ToldPieces o ps xs asking text (Ok image) =
     IsFrontOf o.front.now o.size image × ((ArePieces image ps × Answers (asking_answer asking image xs) text) ⊎ (text ≡ memory_reply))
 ToldPieces o ps xs asking text (Err f) = text ≡ no_reply (reason_of f)
 
--- what the line shows, with these executables
+-- the reply of the line, with these executables
 abbrev pub ShowsTold : {D : Type 0} → disk.Ghosts D → Parts D → CaseImage → List Part → List ExecutableView → Asking → List ℕ → Parts D → Type 0
 ShowsTold g before o ps xs asking text now = (r : Result (List ℕ) ArchiveFault) × LooksAt g before o.seq r now × ToldPieces o ps xs asking text r
 
--- the files that are told
+-- the mapped files that were found
 abbrev pub files_told : ToldFiles → List NamedId
 files_told t = told_or_none (told_view t.files)
 
@@ -56,7 +57,7 @@ abbrev pub ShowsMore : {D : Type 0} → disk.Ghosts D → Parts D → Parts D �
 ShowsMore g before mid o t asked ws xs ds (Ok more) text new = ShowsTold g before o t.pieces.items (xs ++ more) (files_asking asked (ws ++ ds)) text new × Leaves g mid new
 ShowsMore g before mid o t asked ws xs ds (Err f) text new = (text ≡ no_reply (reason_of f)) × (new ≡ mid)
 
--- what the line shows, with these executables, and the debug files that are read after them
+-- the reply of the line, with these executables, and the debug files that are read after them
 abbrev pub ShowsGathered : {D : Type 0} → disk.Ghosts D → Parts D → Parts D → CaseImage → ToldFiles → AskedFiles → List Wanted → List ExecutableView → List ℕ → Parts D → Type 0
 ShowsGathered {D} g before old o t asked ws xs text new =
     (more : Result (List ExecutableView) ArchiveFault) × (mid : Parts D) × CollectsAll g old (debugs_asked asked (files_told t) xs (state_of old).cases) more mid

@@ -18,8 +18,8 @@ use Rattle.case_queries.specs.declared.walk.WalkFault.{WalkFault}
 use Rattle.case_queries.specs.declared.walk.WalkFault.TheVariants.{Unread, OutOfMemory}
 use Rattle.case_queries.specs.declared.window.Part.{Part}
 
--- Each walk that begins through the frames of a thread is one through those of any image that begins so and has these pieces, and there is
--- such an image.
+-- Each walk that begins through the frames of a thread is one through those of any image that begins with these bytes and has these pieces,
+-- and there is such an image.
 pub record BeginsWalks (o : CaseImage) (xs : List ExecutableView) (u : UnwoundCore) : Type 0 where
   pub own : o.front.now ≡ core_of u.process.space
   pub some : (image : List ℕ) × BeginsWith o u.pieces.items image

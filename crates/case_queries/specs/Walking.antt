@@ -27,7 +27,8 @@ pub record IsReadTo {D : Type 0} (g : disk.Ghosts D) (before : Parts D) (o : Cas
   pub begins : o.front.now ≡ take (length o.front.now) bytes
   pub within : length bytes ≤ o.size
 
--- The image is read so far, the window has the last bytes of that, and the memory of any image which begins so is searched so far.
+-- The image is read up to this place, the window has the last bytes of that, and the memory of any image which begins with these bytes is
+-- searched up to this address.
 pub record IsAt {D : Type 0} (g : disk.Ghosts D) (before : Parts D) (space : Space) (aim : Aim) (o : CaseImage) (w : Walk) (now : Parts D) : Type 0 where
   pub bytes : List ℕ
   pub read : IsReadTo g before o w.at bytes now
@@ -35,7 +36,7 @@ pub record IsAt {D : Type 0} (g : disk.Ghosts D) (before : Parts D) (space : Spa
   pub searched : (image : List ℕ) → BeginsSo o bytes image → HasScanned (space_in image space) w.search
   pub asked : aimed_at w.search ≡ aim
 
--- what became of a walk
+-- the result of a walk
 abbrev pub Walks : {D : Type 0} → disk.Ghosts D → Parts D → Space → Aim → CaseImage → Walk → Parts D → Result (Unit {0}) WalkFault → Type 0
 Walks g before space aim o w now (Ok u) = IsAt g before space aim o w now
 Walks g before space aim o w now (Err (Unread f)) = LooksAt g before o.seq (Err f) now
@@ -45,7 +46,7 @@ Walks g before space aim o w now (Err OutOfMemory) = (at : ℕ) × (bytes : List
 abbrev pub HasValues : Space → CaseImage → ℕ → ℕ → ℕ → Type 0
 HasValues space o a p n = (image : List ℕ) → IsFrontOf o.front.now o.size image → values_from (space_in image space) a n ≡ part image p n
 
--- a step tells what is there: so many bytes of the image, or of an executable, or none, are the values of so many addresses
+-- a step says which bytes are there: so many bytes of the image, or of an executable, or no bytes, are the values of so many addresses
 abbrev pub HasStep : Space → CaseImage → ℕ → ℕ → Step → Type 0
 HasStep space o p a s = (image : List ℕ) → IsFrontOf o.front.now o.size image → values_from (space_in image space) a (count_of s) ≡ bytes_of image p s
 

@@ -1,4 +1,4 @@
--- What is seen of an image for a line over a core's memory: its first bytes, and a part of it that has what the line shows.
+-- The part of an image that is seen for a line over a core's memory: its first bytes, and a part that has the bytes for the reply.
 use Rattle.std.specs.Prelude.{◌≡◌, ℕ, ◌+◌, ◌-◌, ◌≤◌, false, List, ◌++◌, length, OnOk, Option, None, Some, Result, Ok, Err}
 use Rattle.disk_model.specs.declared.disk.Disk as disk
 use Rattle.elf_view.specs.Field.{part}
@@ -18,7 +18,7 @@ use Rattle.case_queries.specs.Seeing.{LooksAt, SeesImage}
 use Rattle.case_queries.specs.declared.window.Part.{Part}
 use Rattle.case_queries.specs.declared.window.Seen.{Seen}
 
--- where the part begins, and its bytes; without one the whole image is at hand
+-- the place at which the part begins, and its bytes; without one the whole image is at hand
 abbrev pub part_at : Option Part → ℕ
 part_at None = 0
 part_at (Some p) = p.at
@@ -39,8 +39,8 @@ most_for (Lines thread) = 0
 most_for (Frame thread frame) = 0
 most_for (Builds query) = 0
 
--- These are as much of an image as a line wants: all of it; or bytes that are enough for its headers and notes, and a window of it,
--- for a dump with what the range shows, for the frames of a thread with its stack. What is at an address wants no window.
+-- These are as much of an image as a line wants: all of it; or bytes that are enough for its headers and notes, and a window of it, for a
+-- dump with the bytes of its range, for the frames of a thread with its stack. `at` wants no window.
 abbrev pub IsSeenBy : MemoryQuery → List ℕ → ℕ → ℕ → List ℕ → List ℕ → Type 0
 IsSeenBy (Dump first n) front size at bytes image = IsEnough Core front image × IsAtHand front size at bytes first n image
 IsSeenBy (At address) front size at bytes image = IsEnough Core front image × IsFrontOf front size image
@@ -61,7 +61,8 @@ SeesFor g old seq q (Err f) new = LooksAt g old seq (Err f) new
 abbrev pub SeesDump : {D : Type 0} → disk.Ghosts D → Parts D → ℕ → ℕ → ℕ → Result Seen ArchiveFault → Parts D → Type 0
 SeesDump g old seq first n r new = SeesFor g old seq (Dump first n) r new
 
--- The range of an image of that size that begins with these bytes has what n addresses from `first` on show of it, and is not long.
+-- The range of an image of that size that begins with these bytes has the
+-- bytes that n addresses from `first` on show of it, and is not long.
 pub record IsWanted (front : List ℕ) (size first n start past : ℕ) : Type 0 where
   pub held : is_out_of_range first n ≡ false → AreHeldWithin size first n start past (segments_of front)
   pub range : (start ≤ past) × (past ≤ size)

@@ -1,4 +1,4 @@
-// What a line asks of a core that is read piece by piece.
+// The questions of lines about a core that is read piece by piece.
 ghost use Rattle.std.specs.Prelude.{◌≡◌, map};
 ghost use Rattle.build_replies.specs.BuildsWords.{asking_view, numbered_view};
 ghost use Rattle.case_queries.specs.Inspecting.{asking_by};
@@ -8,16 +8,16 @@ use frame_replies::Shown;
 use script_lines::BuildQuery;
 use windowed_search::Sought;
 
-// What a line asks of a core that is read piece by piece.
+// The question of a line about a core that is read piece by piece.
 #[derive(Clone, Copy, Debug)]
 pub(crate) enum Asked<'n> {
-    // What is sought in all of its memory.
+    // A search through all of its memory.
     Sought(Sought<'n>),
-    // What is answered by the executables of its mapped files, each of the build that was mapped.
+    // A question that the executables of its mapped files answer, each of the build that was mapped.
     Files(AskedFiles),
 }
 
-// What is answered by these.
+// A question that these executables answer.
 #[derive(Clone, Copy, Debug)]
 pub(crate) enum AskedFiles {
     // The frames of a thread.
@@ -26,7 +26,7 @@ pub(crate) enum AskedFiles {
     Builds(BuildQuery),
 }
 
-// What is asked of the frames of a thread.
+// A question about the frames of a thread.
 #[derive(Clone, Copy, Debug)]
 pub(crate) enum FramesAsked {
     // A line for each.
@@ -35,7 +35,7 @@ pub(crate) enum FramesAsked {
     Registers(u64),
 }
 
-// What a line over builds asks, where the executables of these cases are read.
+// The question of a line over builds, if the executables of these cases are read.
 pub(crate) fn builds_asked<'c>(query: BuildQuery, cases: &'c [NumberedCase<'c>]) -> BuildsAsked<'c>
     ensures { asking_view result ≡ asking_by query (map numbered_view cases.entry.now) }
 {

@@ -75,7 +75,7 @@ fn kept_id<'a>(alloc: Global, name: &'a [u8], id: Option<&[u8]>) -> Result<Front
     }
 }
 
-// The build ID of the front at a place of an image. As much of it is read as tells the ID.
+// The build ID of the front at a place of an image. As much of it is read as the ID needs.
 pub(crate) fn read_id<'a, D: Disk>(
     alloc: Global,
     image: CaseImage<'_>,

@@ -8,7 +8,7 @@ ghost use Rattle.image_replies.specs.CoreWords.{core_bytes};
 ghost use Rattle.intake.specs.Parts.{Parts, state_of};
 ghost use Rattle.memory_replies.specs.Answers.{is_done};
 ghost use Rattle.memory_replies.specs.Memory.{attached_view};
-ghost use Rattle.script_streams.specs.Replies.{TellsOutcome, telling};
+ghost use Rattle.script_streams.specs.Replies.{PrintsOutcome, printing};
 ghost use Rattle.case_queries.specs.Asking.{debugs_asked, files_asked, files_asking};
 ghost use Rattle.case_queries.specs.CollectingWords.{executable_view, read_as, wanted_view};
 ghost use Rattle.case_queries.specs.Finding.{AsksFront, IsFrontOfCase};
@@ -23,24 +23,24 @@ use crate::collect_executables::{
     LentExecutables, StoredExecutable, WantedCase, collect, lent_with, wanted_by_build,
     wanted_debugs,
 };
-use crate::find::tell_no_memory;
-use crate::found::tell_found;
+use crate::find::print_no_memory;
+use crate::found::print_found;
 use crate::frames::frames_in_core;
 use crate::memory::refused_by;
 use crate::told::{ToldFiles, told_files};
 use crate::walk::CaseImage;
 use archive_replies::reason;
-use build_replies::{FrontId, listed, tell_told};
+use build_replies::{FrontId, listed, print_told};
 use disk_model::Disk;
 use image_replies::CoreImage;
 use intake::Archive;
 use memory_replies::Outcome;
 use script_lines::BuildQuery;
-use script_streams::{Output, Reply, tell_no};
+use script_streams::{Output, Reply, print_no};
 use std::alloc::{AllocError, Global};
 
-// Tells what is asked of a core, with the executables that are stored for its mapped files.
-fn tell_asked<'a, O: Output, D: Disk>(
+// Prints the answer to a question about a core, with the executables that are stored for its mapped files.
+fn print_asked<'a, O: Output, D: Disk>(
     alloc: Global,
     image: CaseImage<'_>,
     core: &CoreImage<'a>,
@@ -55,7 +55,7 @@ fn tell_asked<'a, O: Output, D: Disk>(
     requires sound { IsSoundFront Core image.front.now }
     requires told { IsToldBy image told }
     ensures { (before : Parts D) → SeesPieces D.Disk before image.entry told.entry.pieces.items archive.old
-        → TellsOutcome (telling O.Output reply.old reply.new) (λ text. ShowsTold D.Disk before image.entry told.entry.pieces.items (map attached_view lent.now.attached.items) (files_asking asked (map numbered_view lent.now.cases.items)) text archive.new) (is_done result) }
+        → PrintsOutcome (printing O.Output reply.old reply.new) (λ text. ShowsTold D.Disk before image.entry told.entry.pieces.items (map attached_view lent.now.attached.items) (files_asking asked (map numbered_view lent.now.cases.items)) text archive.new) (is_done result) }
 {
     match asked {
         AskedFiles::Frames { thread, asked } => {
@@ -71,7 +71,7 @@ fn tell_asked<'a, O: Output, D: Disk>(
                 archive,
             )
         }
-        AskedFiles::Builds(query) => tell_told(
+        AskedFiles::Builds(query) => print_told(
             alloc,
             reply,
             &told.files,
@@ -101,7 +101,7 @@ fn debugs_asked<D: Disk>(
 }
 
 // The same with these executables and debug files.
-fn tell_with<O: Output, D: Disk>(
+fn print_with<O: Output, D: Disk>(
     alloc: Global,
     image: CaseImage<'_>,
     core: &CoreImage<'_>,
@@ -117,16 +117,16 @@ fn tell_with<O: Output, D: Disk>(
     requires sound { IsSoundFront Core image.front.now }
     requires told { IsToldBy image told }
     ensures { (before : Parts D) → SeesPieces D.Disk before image.entry told.entry.pieces.items archive.old
-        → TellsOutcome (telling O.Output reply.old reply.new) (λ text. ShowsTold D.Disk before image.entry told.entry.pieces.items (map executable_view executables.now ++ map executable_view debug_files.now) (files_asking asked (map read_as executables.now ++ map read_as debug_files.now)) text archive.new) (is_done result) }
+        → PrintsOutcome (printing O.Output reply.old reply.new) (λ text. ShowsTold D.Disk before image.entry told.entry.pieces.items (map executable_view executables.now ++ map executable_view debug_files.now) (files_asking asked (map read_as executables.now ++ map read_as debug_files.now)) text archive.new) (is_done result) }
 {
     match lent_with(alloc, executables, debug_files) {
-        Ok(lent) => tell_asked(alloc, image, core, told, &lent, asked, reply, archive),
-        Err(_) => tell_no_memory(reply),
+        Ok(lent) => print_asked(alloc, image, core, told, &lent, asked, reply, archive),
+        Err(_) => print_no_memory(reply),
     }
 }
 
 // The same with these executables. The debug files that the line wants are read now.
-fn tell_gathered<O: Output, D: Disk>(
+fn print_gathered<O: Output, D: Disk>(
     alloc: Global,
     image: CaseImage<'_>,
     core: &CoreImage<'_>,
@@ -143,12 +143,12 @@ fn tell_gathered<O: Output, D: Disk>(
     requires told { IsToldBy image told }
     requires own { ArePiecesOfCase D.Disk archive.old image told.pieces.items }
     ensures answers { (before : Parts D) → SeesPieces D.Disk before image.entry told.entry.pieces.items archive.old
-        → TellsOutcome (telling O.Output reply.old reply.new) (λ text. ShowsGathered D.Disk before archive.old image.entry told.entry asked (map read_as executables.now) (map executable_view executables.now) text archive.new) (is_done result) }
+        → PrintsOutcome (printing O.Output reply.old reply.new) (λ text. ShowsGathered D.Disk before archive.old image.entry told.entry asked (map read_as executables.now) (map executable_view executables.now) text archive.new) (is_done result) }
     ensures leaves { Leaves D.Disk archive.old archive.new }
 {
     let wanted = debugs_asked(alloc, asked, listed(&told.files), executables, archive);
     match collect(alloc, wanted, None, archive) {
-        Ok(debug_files) => tell_with(
+        Ok(debug_files) => print_with(
             alloc,
             image,
             core,
@@ -160,14 +160,14 @@ fn tell_gathered<O: Output, D: Disk>(
             archive,
         ),
         Err(refusal) => {
-            tell_no(reply, reason(refusal));
+            print_no(reply, reason(refusal));
             refused_by(refusal)
         }
     }
 }
 
 // The same with those that are stored for the files. They are kept for the lines over the same core that come next.
-fn tell_collected<O: Output, D: Disk>(
+fn print_collected<O: Output, D: Disk>(
     alloc: Global,
     image: CaseImage<'_>,
     core: &CoreImage<'_>,
@@ -185,14 +185,14 @@ fn tell_collected<O: Output, D: Disk>(
     requires own { ArePiecesOfCase D.Disk archive.old image told.pieces.items }
     requires kept { StayCollected D.Disk archive.old kept.old }
     ensures answers { (before : Parts D) → SeesPieces D.Disk before image.entry told.entry.pieces.items archive.old
-        → TellsOutcome (telling O.Output reply.old reply.new) (λ text. AsksFront D.Disk before image.entry (files_asked asked) text archive.new) (is_done result) }
+        → PrintsOutcome (printing O.Output reply.old reply.new) (λ text. AsksFront D.Disk before image.entry (files_asked asked) text archive.new) (is_done result) }
     ensures kept { StayCollected D.Disk archive.new kept.new }
     ensures leaves { Leaves D.Disk archive.old archive.new }
 {
     let wanted = wanted_by_build(alloc, listed(&told.files), archive);
     match collect(alloc, wanted, kept.take(), archive) {
         Ok(executables) => {
-            let outcome = tell_gathered(
+            let outcome = print_gathered(
                 alloc,
                 image,
                 core,
@@ -206,14 +206,14 @@ fn tell_collected<O: Output, D: Disk>(
             outcome
         }
         Err(refusal) => {
-            tell_no(reply, reason(refusal));
+            print_no(reply, reason(refusal));
             refused_by(refusal)
         }
     }
 }
 
 // Answers a line over call frames or builds of a core of which the first bytes are at hand. Its mapped files are found first, each with the
-// build ID that the core tells; then the executables are read that are stored for them.
+// build ID that the core has for it; then the executables are read that are stored for them.
 pub(crate) fn answer_by_build<O: Output, D: Disk>(
     alloc: Global,
     image: CaseImage<'_>,
@@ -231,12 +231,12 @@ pub(crate) fn answer_by_build<O: Output, D: Disk>(
     requires own { IsFrontOfCase D.Disk archive.old image }
     requires kept { StayCollected D.Disk archive.old kept.old }
     ensures answers { (before : Parts D) → ReadsFront D.Disk before image.entry.seq image.entry.front.now archive.old
-        → TellsOutcome (telling O.Output reply.old reply.new) (λ text. AsksFront D.Disk before image.entry (files_asked asked) text archive.new) (is_done result) }
+        → PrintsOutcome (printing O.Output reply.old reply.new) (λ text. AsksFront D.Disk before image.entry (files_asked asked) text archive.new) (is_done result) }
     ensures kept { StayCollected D.Disk archive.new kept.new }
     ensures leaves { Leaves D.Disk archive.old archive.new }
 {
     match told_files(alloc, image, core, archive) {
-        Ok(told) => tell_collected(alloc, image, core, told, asked, kept, reply, archive),
-        Err(fault) => tell_found(reply, Err(fault)),
+        Ok(told) => print_collected(alloc, image, core, told, asked, kept, reply, archive),
+        Err(fault) => print_found(reply, Err(fault)),
     }
 }

@@ -3,7 +3,7 @@ ghost use Rattle.std.specs.Prelude.{◌≡◌, Ok, false, find, map};
 ghost use Rattle.std.specs.Option.{option_map};
 ghost use Rattle.build_replies.specs.ByBuild as spec;
 ghost use Rattle.memory_replies.specs.Answers.{AnswersWith, is_done};
-ghost use Rattle.script_streams.specs.Replies.{TellsOutcome, TellsReply, telling};
+ghost use Rattle.script_streams.specs.Replies.{PrintsOutcome, PrintsReply, printing};
 ghost use Rattle.case_queries.specs.CollectingWords.{executable_view};
 ghost use Rattle.case_queries.specs.CodeQueries.{code_answer, code_query};
 ghost use Rattle.case_queries.specs.Inspecting.{debug_image};
@@ -19,9 +19,9 @@ use build_ids::{build_id, debug_id};
 use disk_model::Disk;
 use intake::Archive;
 use journal_layout::Kind;
-use line_replies::tell_line;
-use memory_replies::{Outcome, tell_symbol_with_debug};
-use script_streams::{Output, Reply, tell_no};
+use line_replies::print_line;
+use memory_replies::{Outcome, print_symbol_with_debug};
+use script_streams::{Output, Reply, print_no};
 use std::alloc::Global;
 
 /// What is asked of an address of an executable.
@@ -61,7 +61,7 @@ fn debug_image<'a>(image: &[u8], files: &'a [StoredExecutable]) -> Option<&'a [u
 }
 
 // Tells what is asked of an address of an executable and of its debug file, if there is one.
-fn tell_code<O: Output>(
+fn print_code<O: Output>(
     alloc: Global,
     reply: &mut Reply<'_, O>,
     query: CodeQuery,
@@ -69,17 +69,11 @@ fn tell_code<O: Output>(
     debug: Option<&[u8]>,
     address: u64,
 ) -> Outcome
-    ensures { TellsReply (telling O.Output reply.old reply.new) (λ text. AnswersWith result (code_answer query image.now (option_map (λ d. d.now) debug.entry) address) text) }
+    ensures { PrintsReply (printing O.Output reply.old reply.new) (λ text. AnswersWith result (code_answer query image.now (option_map (λ d. d.now) debug.entry) address) text) }
 {
     match query {
-        CodeQuery::Function => tell_symbol_with_debug(alloc, reply, image, debug, address),
-        CodeQuery::Line => {
-            if tell_line(reply, image, debug, address) {
-                Outcome::Done
-            } else {
-                Outcome::Refused
-            }
-        }
+        CodeQuery::Function => print_symbol_with_debug(alloc, reply, image, debug, address),
+        CodeQuery::Line => print_line(alloc, reply, image, debug, address),
     }
 }
 
@@ -97,19 +91,19 @@ fn answer_executable<O: Output, D: Disk>(
 ) -> Outcome
     requires runs { archive.old.stopped ≡ false }
     requires kept { StayCollected D.Disk archive.old kept.old }
-    ensures answers { TellsOutcome (telling O.Output reply.old reply.new) (λ text. Shows D.Disk archive.old kind (code_query query address) image.now text archive.new) (is_done result) }
+    ensures answers { PrintsOutcome (printing O.Output reply.old reply.new) (λ text. Shows D.Disk archive.old kind (code_query query address) image.now text archive.new) (is_done result) }
     ensures kept { StayCollected D.Disk archive.new kept.new }
 {
     let wanted = wanted_own_debugs(alloc, image, archive);
     match collect(alloc, wanted, kept.take(), archive) {
         Ok(files) => {
             let debug = debug_image(image, &files);
-            let outcome = tell_code(alloc, reply, query, image, debug, address);
+            let outcome = print_code(alloc, reply, query, image, debug, address);
             *kept = Some(files);
             outcome
         }
         Err(refusal) => {
-            tell_no(reply, reason(refusal));
+            print_no(reply, reason(refusal));
             refused_by(refusal)
         }
     }
@@ -129,7 +123,7 @@ pub(crate) fn answer_code<O: Output, D: Disk>(
     requires runs { archive.old.stopped ≡ false }
     requires kept { IsKept D.Disk archive.old images.old.kept }
     requires are_kept { AreKept D.Disk archive.old images.old.kept }
-    ensures answers { TellsOutcome (telling O.Output reply.old reply.new) (λ text. Asks D.Disk archive.old seq (code_query query address) (Ok kind) text archive.new) result }
+    ensures answers { PrintsOutcome (printing O.Output reply.old reply.new) (λ text. Asks D.Disk archive.old seq (code_query query address) (Ok kind) text archive.new) result }
     ensures kept { IsKept D.Disk archive.new images.new.kept }
     ensures are_kept { AreKept D.Disk archive.new images.new.kept }
 {
@@ -150,7 +144,7 @@ pub(crate) fn answer_code<O: Output, D: Disk>(
             outcome.is_done()
         }
         Err(fault) => {
-            tell_no(reply, reason(fault));
+            print_no(reply, reason(fault));
             false
         }
     }

@@ -200,7 +200,8 @@ fn debugs_among(
     named_among(alloc, &stored, entries)
 }
 
-// What is stored under the name of the debug file of an executable's build. The error is that there is no memory.
+// The cases that are stored under the name of the debug file of an
+// executable's build. The only error is that there is no memory.
 pub(crate) fn wanted_own_debugs<D: Disk>(
     alloc: Global,
     image: &[u8],
@@ -287,8 +288,8 @@ pub(crate) fn collect<D: Disk>(
     kept_or_read(alloc, &wanted, kept, archive)
 }
 
-/// Reads the executables that are stored under the names of a core's mapped files, or of the builds that it tells, in the order of their
-/// numbers.
+/// Reads the executables that are stored under the names of a core's mapped
+/// files, or of the builds that the core names, in the order of their numbers.
 ///
 /// # Errors
 ///

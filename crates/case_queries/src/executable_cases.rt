@@ -158,8 +158,8 @@ impl ExecutableCases {
         Ok(named_in(alloc, &stored, &self.cases)?)
     }
 
-    /// A number of what is stored for a core's mapped files: the same for cores that tell the same files, and the same build IDs of them,
-    /// as far as executables are stored for them. Others have the same number rarely. No answer rests on it.
+    /// A number for the executables that are stored for a core's mapped files: the same for cores that have the same files, and the same
+    /// build IDs of them, if executables are stored for them. Others rarely have the same number. No answer rests on it.
     ///
     /// # Errors
     ///

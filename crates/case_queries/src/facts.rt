@@ -1,4 +1,4 @@
-// What a screen shows of a core beside its notes, as values.
+// The facts of a core that a screen shows beside its notes, as values.
 ghost use Rattle.std.specs.Prelude.{◌≡◌, ◌≤◌, ◌++◌, ℕ, List, IfOk, OnOk, Option, length, map};
 ghost use Rattle.address_space.specs.Source.{ExecutableView};
 ghost use Rattle.address_space.specs.SpaceWords.{core_of};
@@ -12,7 +12,7 @@ ghost use Rattle.image_replies.specs.CoreWords.{core_bytes};
 ghost use Rattle.intake.specs.Parts.{Parts, state_of};
 ghost use Rattle.std.specs.Option.{option_map};
 ghost use Rattle.case_queries.specs.CollectingWords.{executable_view};
-ghost use Rattle.case_queries.specs.Facts.{AreFramesOf, AreOfThread, SaysFacts};
+ghost use Rattle.case_queries.specs.Facts.{AreFramesOf, AreOfThread, SaysFacts, lines_for};
 ghost use Rattle.case_queries.specs.Fronts.{HasSize, IsSoundFront};
 ghost use Rattle.case_queries.specs.Pieces.{BeginsWith, SeesPieces};
 ghost use Rattle.case_queries.specs.Preparing.{AreChosenFor, prepared_views};
@@ -35,19 +35,28 @@ use std::alloc::Global;
 /// The frames of threads of a core, and the build IDs of its mapped files.
 #[derive(Drop)]
 pub struct CoreFacts<'a> {
-    /// The frames of the threads, from number 0 on. `None` where the core has fewer.
+    /// The frames of the threads, from number 0 on. `None` if the core has fewer.
     pub unwound: Vec<Option<FramesAnswer<'a>>>,
-    /// The build IDs. `None` where it has no NT_FILE.
+    /// The build IDs. `None` if it has no NT_FILE.
     pub builds: Option<Vec<BuildAnswer<'a>>>,
 }
 
-// The frames of a thread, as values. `None` where the core has no thread of that number.
+// How many frames of a thread get their source lines: so many of the first thread, which dumped, and none of another.
+fn lines_for(lines: usize, thread: u64) -> usize
+    ensures { result ≡ lines_for lines thread }
+{
+    if thread == 0 { lines } else { 0 }
+}
+
+// The frames of a thread, as values, with the source lines of so many of them, if it is the first. `None` if the core has no thread of that
+// number.
 fn thread_frames<'e, D: Disk>(
     alloc: Global,
     image: CaseImage<'_>,
     core: &CoreImage<'_>,
     found: &mut UnwoundCore<'_, '_, 'e>,
     thread: u64,
+    lines: usize,
     archive: &mut Archive<D>,
 ) -> Result<Option<FramesAnswer<'e>>, WalkFault>
     requires has { HasSize (state_of archive.old) image.seq image.size }
@@ -59,7 +68,7 @@ fn thread_frames<'e, D: Disk>(
     ensures told { IfOk result (λ u. (before : Parts D) (told : Option (List NamedId)) (stored : List ExecutableView) → BeginsWalks image.entry stored found.old
         → ((b : List ℕ) → BeginsWith image.entry found.old.pieces.items b → told_of b ≡ told)
         → SeesPieces D.Disk before image.entry found.old.pieces.items archive.old
-        → AreOfThread D.Disk before image.entry.seq image.entry.front.now image.entry.size told stored thread u) }
+        → AreOfThread D.Disk before image.entry.seq image.entry.front.now image.entry.size told stored lines thread u) }
     ensures process { found.new.process ≡ found.old.process }
     ensures pieces { OnOk result (found.new.pieces.items ≡ found.old.pieces.items) }
     ensures sees { OnOk result ((before : Parts D) → SeesPieces D.Disk before image.entry found.old.pieces.items archive.old
@@ -71,13 +80,18 @@ fn thread_frames<'e, D: Disk>(
         return Ok(None);
     };
     let unwound = walk_thread(alloc, image, found, begun, archive)?;
-    match found.process.frames(alloc, &unwound.walk, unwound.stop) {
+    let lines = lines_for(lines, thread);
+    match found
+        .process
+        .frames(alloc, &unwound.walk, unwound.stop, lines)
+    {
         Ok(frames) => Ok(Some(frames)),
         Err(_) => Err(WalkFault::OutOfMemory),
     }
 }
 
-// The frames of this many threads, with executables that are prepared, of which these are chosen. What all threads stand on is made once.
+// The frames of this many threads, with prepared executables, of which these are chosen, and the source lines of so many frames of the
+// first thread. The process that all walks need is made once.
 fn unwind_threads<'a, 'e, D: Disk>(
     alloc: Global,
     image: CaseImage<'_>,
@@ -86,6 +100,7 @@ fn unwind_threads<'a, 'e, D: Disk>(
     chosen: ChosenExecutables<'a>,
     prepared: &PreparedExecutables<'e>,
     threads: u64,
+    lines: usize,
     archive: &mut Archive<D>,
 ) -> Result<Vec<Option<FramesAnswer<'e>>>, WalkFault>
     requires chosen { choice_view chosen ≡ choice_of (files_told told) (prepared_views prepared.now) }
@@ -96,7 +111,7 @@ fn unwind_threads<'a, 'e, D: Disk>(
     requires sound { IsSoundFront Core image.front.now }
     requires told { IsToldBy image told }
     ensures told { IfOk result (λ all. (before : Parts D) → SeesPieces D.Disk before image.entry told.entry.pieces.items archive.old
-        → AreFramesOf D.Disk before image.entry.seq image.entry.front.now image.entry.size (told_view told.entry.files) (prepared_views prepared.now) 0 all.items) }
+        → AreFramesOf D.Disk before image.entry.seq image.entry.front.now image.entry.size (told_view told.entry.files) (prepared_views prepared.now) lines 0 all.items) }
     ensures sees { IfOk result (λ all. (before : Parts D) → SeesPieces D.Disk before image.entry told.entry.pieces.items archive.old
         → SeesPieces D.Disk before image.entry told.entry.pieces.items archive.new) }
     ensures count { IfOk result (λ all. length all.items ≡ threads) }
@@ -107,7 +122,7 @@ fn unwind_threads<'a, 'e, D: Disk>(
     let mut found = found;
     let mut all = Vec::new(alloc);
     for thread in 0..threads {
-        let frames = thread_frames(alloc, image, core, &mut found, thread, archive)?;
+        let frames = thread_frames(alloc, image, core, &mut found, thread, lines, archive)?;
         let Ok(()) = all.push(frames) else {
             return Err(WalkFault::OutOfMemory);
         };
@@ -115,12 +130,14 @@ fn unwind_threads<'a, 'e, D: Disk>(
     Ok(all)
 }
 
-/// Finds the frames of the first threads of a core, and the build IDs of its mapped files, with the executables that are stored for
-/// them, and their debug files. The core may be the first bytes alone of the case's image. Of the rest it reads what tells the frames.
+/// Finds the frames of the first threads of a core, and the build IDs of its mapped files,
+/// with the executables that are stored for them, and their debug files. Of the first thread,
+/// which dumped, so many frames get their source lines. The core may be the first bytes alone
+/// of the case's image. Of the rest it reads the bytes that the frames need.
 ///
 /// # Errors
 ///
-/// `Unread`: the image can't be read. `OutOfMemory`: there is no memory for what was found.
+/// `Unread`: the image can't be read. `OutOfMemory`: there is no memory for the results.
 pub fn core_facts<'a, D: Disk>(
     alloc: Global,
     image: CaseImage<'_>,
@@ -129,6 +146,7 @@ pub fn core_facts<'a, D: Disk>(
     executables: &'a [StoredExecutable],
     debug_files: &'a [StoredExecutable],
     threads: u64,
+    lines: usize,
     archive: &mut Archive<D>,
 ) -> Result<CoreFacts<'a>, WalkFault>
     requires has { HasSize (state_of archive.old) image.seq image.size }
@@ -137,12 +155,12 @@ pub fn core_facts<'a, D: Disk>(
     requires sound { IsSoundFront Core image.front.now }
     requires told { IsToldBy image told }
     ensures { IfOk result (λ facts. (before : Parts D) → SeesPieces D.Disk before image.entry told.entry.pieces.items archive.old
-        → SaysFacts D.Disk before image.entry.seq image.entry.front.now image.entry.size (told_view told.entry.files) (map executable_view executables.now ++ map executable_view debug_files.now) threads facts archive.new) }
+        → SaysFacts D.Disk before image.entry.seq image.entry.front.now image.entry.size (told_view told.entry.files) (map executable_view executables.now ++ map executable_view debug_files.now) threads lines facts archive.new) }
 {
     let Ok(prepared) = PreparedExecutables::of(alloc, &told, executables, debug_files) else {
         return Err(WalkFault::OutOfMemory);
     };
-    Ok(core_facts_with(alloc, image, core, told, &prepared, threads, archive)?)
+    Ok(core_facts_with(alloc, image, core, told, &prepared, threads, lines, archive)?)
 }
 
 /// Finds the same with executables and debug files that are prepared, which serve this core.
@@ -157,6 +175,7 @@ pub fn core_facts_with<'a, 'e: 'a, D: Disk>(
     told: ToldFiles<'a>,
     prepared: &PreparedExecutables<'e>,
     threads: u64,
+    lines: usize,
     archive: &mut Archive<D>,
 ) -> Result<CoreFacts<'a>, WalkFault>
     requires serve { AreChosenFor prepared.now (files_told told) }
@@ -166,7 +185,7 @@ pub fn core_facts_with<'a, 'e: 'a, D: Disk>(
     requires sound { IsSoundFront Core image.front.now }
     requires told { IsToldBy image told }
     ensures { IfOk result (λ facts. (before : Parts D) → SeesPieces D.Disk before image.entry told.entry.pieces.items archive.old
-        → SaysFacts D.Disk before image.entry.seq image.entry.front.now image.entry.size (told_view told.entry.files) (prepared_views prepared.now) threads facts archive.new) }
+        → SaysFacts D.Disk before image.entry.seq image.entry.front.now image.entry.size (told_view told.entry.files) (prepared_views prepared.now) threads lines facts archive.new) }
 {
     let Ok(chosen) = ChosenExecutables::of(alloc, listed(&told.files), &prepared.attached) else {
         return Err(WalkFault::OutOfMemory);
@@ -174,7 +193,9 @@ pub fn core_facts_with<'a, 'e: 'a, D: Disk>(
     let Ok(builds) = build_answers(alloc, &told.files, &prepared.attached) else {
         return Err(WalkFault::OutOfMemory);
     };
-    match unwind_threads(alloc, image, core, told, chosen, prepared, threads, archive) {
+    match unwind_threads(
+        alloc, image, core, told, chosen, prepared, threads, lines, archive,
+    ) {
         Ok(unwound) => Ok(CoreFacts { unwound, builds }),
         Err(fault) => Err(fault),
     }

@@ -9,7 +9,7 @@ ghost use Rattle.image_replies.specs.Core.{core_fault_of};
 ghost use Rattle.elf_view.specs.declared.faults.Want.TheVariants.{Core};
 ghost use Rattle.memory_replies.specs.Answers.{AnswersWith, is_done, memory_reply};
 ghost use Rattle.memory_replies.specs.Memory.{attached_view};
-ghost use Rattle.script_streams.specs.Replies.{TellsOutcome, TellsReply, TellsText, telling};
+ghost use Rattle.script_streams.specs.Replies.{PrintsOutcome, PrintsReply, PrintsText, printing};
 ghost use Rattle.windowed_search.specs.Rising.{IsRising};
 ghost use Rattle.windowed_search.specs.ScanWords.{IsAim, aim_of};
 ghost use Rattle.windowed_search.specs.StepWords.{StepsFit};
@@ -28,7 +28,7 @@ ghost use Rattle.case_queries.specs.Walking.{LeadsOn};
 use crate::asked::Asked;
 use crate::by_build::answer_by_build;
 use crate::collect_executables::{StoredExecutable, collect, lent, wanted_by_path};
-use crate::found::tell_found;
+use crate::found::print_found;
 use crate::front::{read_up_to, see_front};
 use crate::kept_image::{Images, KeptImage, kept_if};
 use crate::memory::{answer_memory, refused_by};
@@ -37,18 +37,18 @@ use address_space::Attached;
 use archive_replies::reason;
 use disk_model::Disk;
 use elf_view::Want;
-use image_replies::{CoreImage, a_sound_front_answers, tell_core_fault};
+use image_replies::{CoreImage, a_sound_front_answers, print_core_fault};
 use intake::Archive;
 use journal_layout::Kind;
 use memory_replies::{
-    Outcome, Window, a_sound_front_names_the_files, space_with, tell_find, tell_strings,
+    Outcome, Window, a_sound_front_names_the_files, print_find, print_strings, space_with,
 };
 use script_lines::MemoryQuery;
-use script_streams::{Output, Reply, tell_no, tell_ok};
+use script_streams::{Output, Reply, print_no, print_ok};
 use std::alloc::Global;
 use windowed_search::{Found, MemoryScan, Sought, Step, plan};
 
-// What is sought in a core's memory, by the steps through it: the image is read once, window by window.
+// The results of a search in a core's memory, by the steps through it: the image is read once, window by window.
 fn search_windows<D: Disk>(
     alloc: Global,
     image: CaseImage<'_>,
@@ -80,16 +80,16 @@ fn search_windows<D: Disk>(
     }
 }
 
-// Tells that there is no memory.
-pub(crate) fn tell_no_memory<O: Output>(reply: &mut Reply<'_, O>) -> Outcome
-    ensures tells { TellsText (telling O.Output reply.old reply.new) memory_reply }
+// Prints that there is no memory.
+pub(crate) fn print_no_memory<O: Output>(reply: &mut Reply<'_, O>) -> Outcome
+    ensures states { PrintsText (printing O.Output reply.old reply.new) memory_reply }
     ensures done { is_done result ≡ false }
 {
-    tell_no(reply, b"OutOfMemory");
+    print_no(reply, b"OutOfMemory");
     Outcome::OutOfMemory
 }
 
-// Tells what is sought in the memory of a core that is read whole.
+// Prints the results of a search in the memory of a core that is read whole.
 fn find_in_bytes<O: Output>(
     alloc: Global,
     bytes: &[u8],
@@ -99,16 +99,17 @@ fn find_in_bytes<O: Output>(
 ) -> Outcome
     requires some { IsAim (aim_of sought) }
     requires clean { core_fault_of bytes.now ≡ None }
-    ensures { TellsReply (telling O.Output reply.old reply.new) (AnswersWith result (aim_answer (aim_of sought.entry) bytes.now (map attached_view attached.now))) }
+    ensures { PrintsReply (printing O.Output reply.old reply.new) (AnswersWith result (aim_answer (aim_of sought.entry) bytes.now (map attached_view attached.now))) }
 {
     let core = CoreImage::read(bytes).unwrap();
     match sought {
-        Sought::Bytes(needle) => tell_find(alloc, reply, &core, attached, needle),
-        Sought::Texts(least) => tell_strings(alloc, reply, &core, attached, least),
+        Sought::Bytes(needle) => print_find(alloc, reply, &core, attached, needle),
+        Sought::Texts(least) => print_strings(alloc, reply, &core, attached, least),
     }
 }
 
-// The same of a core of which the first bytes are at hand: the others are read too, and all are kept while it is told.
+// The same of a core of which the first bytes are at hand: the
+// others are read too, and all are kept while the reply is printed.
 fn find_in_whole<O: Output, D: Disk>(
     alloc: Global,
     image: CaseImage<'_>,
@@ -123,17 +124,17 @@ fn find_in_whole<O: Output, D: Disk>(
     requires sound { IsSoundFront Core image.front.now }
     requires clean { core_fault_of image.front.now ≡ None }
     ensures { (before : Parts D) → ReadsFront D.Disk before image.entry.seq image.entry.front.now archive.old
-        → TellsOutcome (telling O.Output reply.old reply.new) (λ text. ShowsFound D.Disk before image.entry (map attached_view attached.now) (for_aim (aim_of sought.entry)) text archive.new) (is_done result) }
+        → PrintsOutcome (printing O.Output reply.old reply.new) (λ text. ShowsFound D.Disk before image.entry (map attached_view attached.now) (for_aim (aim_of sought.entry)) text archive.new) (is_done result) }
 {
     a_sound_front_answers();
     let Ok(mut bytes) = Vec::with_capacity(alloc, image.size) else {
-        return tell_no_memory(reply);
+        return print_no_memory(reply);
     };
     bytes.extend_from_slice(image.front).unwrap();
     match read_up_to(image.seq, image.size, &mut bytes, archive) {
         Ok(()) => find_in_bytes(alloc, &bytes, attached, sought, reply),
         Err(fault) => {
-            tell_no(reply, reason(fault));
+            print_no(reply, reason(fault));
             Outcome::Refused
         }
     }
@@ -156,19 +157,19 @@ fn find_in_core<O: Output, D: Disk>(
     requires sound { IsSoundFront Core image.front.now }
     requires clean { core_fault_of image.front.now ≡ None }
     ensures { (before : Parts D) → ReadsFront D.Disk before image.entry.seq image.entry.front.now archive.old
-        → TellsOutcome (telling O.Output reply.old reply.new) (λ text. ShowsFound D.Disk before image.entry (map attached_view attached.now) (for_aim (aim_of sought.entry)) text archive.new) (is_done result) }
+        → PrintsOutcome (printing O.Output reply.old reply.new) (λ text. ShowsFound D.Disk before image.entry (map attached_view attached.now) (for_aim (aim_of sought.entry)) text archive.new) (is_done result) }
 {
     a_sound_front_names_the_files();
     let Ok(space) = space_with(alloc, core, attached) else {
-        return tell_no_memory(reply);
+        return print_no_memory(reply);
     };
     match plan(alloc, &core.elf(), &space, image.size as u64) {
         Ok(Some(steps)) => {
             let found = search_windows(alloc, image, &steps, sought, archive);
-            tell_found(reply, found)
+            print_found(reply, found)
         }
         Ok(None) => find_in_whole(alloc, image, attached, sought, reply, archive),
-        Err(_) => tell_no_memory(reply),
+        Err(_) => print_no_memory(reply),
     }
 }
 
@@ -189,15 +190,15 @@ fn find_with<O: Output, D: Disk>(
     requires sound { IsSoundFront Core image.front.now }
     requires clean { core_fault_of image.front.now ≡ None }
     ensures { (before : Parts D) → ReadsFront D.Disk before image.entry.seq image.entry.front.now archive.old
-        → TellsOutcome (telling O.Output reply.old reply.new) (λ text. ShowsFound D.Disk before image.entry (map executable_view executables.now) (for_aim (aim_of sought.entry)) text archive.new) (is_done result) }
+        → PrintsOutcome (printing O.Output reply.old reply.new) (λ text. ShowsFound D.Disk before image.entry (map executable_view executables.now) (for_aim (aim_of sought.entry)) text archive.new) (is_done result) }
 {
     match lent(alloc, executables) {
         Ok(lent) => find_in_core(alloc, image, core, &lent.attached, sought, reply, archive),
-        Err(_) => tell_no_memory(reply),
+        Err(_) => print_no_memory(reply),
     }
 }
 
-// The same with the executables that its process had mapped, where they are stored. They are kept for the lines over the same
+// The same with the executables that its process had mapped, if they are stored. They are kept for the lines over the same
 // core that come next.
 fn find_collected<O: Output, D: Disk>(
     alloc: Global,
@@ -218,7 +219,7 @@ fn find_collected<O: Output, D: Disk>(
     requires own { IsFrontOfCase D.Disk archive.old image }
     requires kept { StayCollected D.Disk archive.old kept.old }
     ensures answers { (before : Parts D) → ReadsFront D.Disk before image.entry.seq image.entry.front.now archive.old
-        → TellsOutcome (telling O.Output reply.old reply.new) (λ text. AsksFront D.Disk before image.entry (for_aim (aim_of sought.entry)) text archive.new) (is_done result) }
+        → PrintsOutcome (printing O.Output reply.old reply.new) (λ text. AsksFront D.Disk before image.entry (for_aim (aim_of sought.entry)) text archive.new) (is_done result) }
     ensures kept { StayCollected D.Disk archive.new kept.new }
     ensures leaves { Leaves D.Disk archive.old archive.new }
 {
@@ -231,13 +232,13 @@ fn find_collected<O: Output, D: Disk>(
             outcome
         }
         Err(refusal) => {
-            tell_no(reply, reason(refusal));
+            print_no(reply, reason(refusal));
             refused_by(refusal)
         }
     }
 }
 
-// What a line asks of a core that has no fault.
+// Answers a line about a core that has no fault.
 fn ask_core<O: Output, D: Disk>(
     alloc: Global,
     image: CaseImage<'_>,
@@ -257,7 +258,7 @@ fn ask_core<O: Output, D: Disk>(
     requires own { IsFrontOfCase D.Disk archive.old image }
     requires kept { StayCollected D.Disk archive.old kept.old }
     ensures answers { (before : Parts D) → ReadsFront D.Disk before image.entry.seq image.entry.front.now archive.old
-        → TellsOutcome (telling O.Output reply.old reply.new) (λ text. AsksFront D.Disk before image.entry (asking_of asked.entry) text archive.new) (is_done result) }
+        → PrintsOutcome (printing O.Output reply.old reply.new) (λ text. AsksFront D.Disk before image.entry (asking_of asked.entry) text archive.new) (is_done result) }
     ensures kept { StayCollected D.Disk archive.new kept.new }
     ensures leaves { Leaves D.Disk archive.old archive.new }
 {
@@ -286,7 +287,7 @@ fn find_front<O: Output, D: Disk>(
     requires own { IsFrontOfCase D.Disk archive.old image }
     requires kept { StayCollected D.Disk archive.old kept.old }
     ensures answers { (before : Parts D) (kind : Kind) → ReadsFront D.Disk before image.entry.seq image.entry.front.now archive.old
-        → TellsOutcome (telling O.Output reply.old reply.new) (λ text. Asks D.Disk before image.entry.seq (asking_query (asking_of asked.entry)) (Ok kind) text archive.new) (is_done result) }
+        → PrintsOutcome (printing O.Output reply.old reply.new) (λ text. Asks D.Disk before image.entry.seq (asking_query (asking_of asked.entry)) (Ok kind) text archive.new) (is_done result) }
     ensures kept { StayCollected D.Disk archive.new kept.new }
     ensures leaves { Leaves D.Disk archive.old archive.new }
 {
@@ -294,7 +295,7 @@ fn find_front<O: Output, D: Disk>(
     match CoreImage::read(image.front) {
         Ok(core) => ask_core(alloc, image, &core, asked, kept, reply, archive),
         Err(fault) => {
-            tell_core_fault(reply, fault);
+            print_core_fault(reply, fault);
             Outcome::Refused
         }
     }
@@ -319,7 +320,7 @@ fn find_seen<O: Output, D: Disk>(
     requires kept { IsKept D.Disk archive.old (Some kept.old) }
     requires are_kept { AreKept D.Disk archive.old (Some kept.old) }
     ensures answers { (before : Parts D) → SeesEnough D.Disk before kept.old.seq Core (Ok kept.old) archive.old
-        → TellsOutcome (telling O.Output reply.old reply.new) (λ text. Asks D.Disk before kept.old.seq (memory_query query.now) (Ok kind) text archive.new) (is_done result) }
+        → PrintsOutcome (printing O.Output reply.old reply.new) (λ text. Asks D.Disk before kept.old.seq (memory_query query.now) (Ok kind) text archive.new) (is_done result) }
     ensures kept { IsKept D.Disk archive.new (Some kept.new) }
     ensures are_kept { AreKept D.Disk archive.new (Some kept.new) }
 {
@@ -365,7 +366,7 @@ pub(crate) fn answer_find<O: Output, D: Disk>(
     requires says { memory_query query.now ≡ asking_query (asking_of asked) }
     requires kept { IsKept D.Disk archive.old images.old.kept }
     requires are_kept { AreKept D.Disk archive.old images.old.kept }
-    ensures answers { TellsOutcome (telling O.Output reply.old reply.new) (λ text. Asks D.Disk archive.old seq (memory_query query.now) (Ok kind) text archive.new) result }
+    ensures answers { PrintsOutcome (printing O.Output reply.old reply.new) (λ text. Asks D.Disk archive.old seq (memory_query query.now) (Ok kind) text archive.new) result }
     ensures kept { IsKept D.Disk archive.new images.new.kept }
     ensures are_kept { AreKept D.Disk archive.new images.new.kept }
 {
@@ -386,7 +387,7 @@ pub(crate) fn answer_find<O: Output, D: Disk>(
             outcome.is_done()
         }
         Err(fault) => {
-            tell_no(reply, reason(fault));
+            print_no(reply, reason(fault));
             false
         }
     }

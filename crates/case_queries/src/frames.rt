@@ -10,7 +10,7 @@ ghost use Rattle.image_replies.specs.CoreWords.{core_bytes};
 ghost use Rattle.intake.specs.Parts.{Parts, state_of};
 ghost use Rattle.memory_replies.specs.Answers.{AnswersWith, is_done};
 ghost use Rattle.memory_replies.specs.Memory.{attached_view};
-ghost use Rattle.script_streams.specs.Replies.{TellsOutcome, TellsReply, telling};
+ghost use Rattle.script_streams.specs.Replies.{PrintsOutcome, PrintsReply, printing};
 ghost use Rattle.case_queries.specs.Asking.{for_frames, frames_answer};
 ghost use Rattle.case_queries.specs.Fronts.{HasSize, IsSoundFront};
 ghost use Rattle.case_queries.specs.Pieces.{BeginsWith, FindsFrames, SeesPieces, WalkedTo};
@@ -20,8 +20,8 @@ ghost use Rattle.case_queries.specs.declared.walk.CaseImage as images;
 ghost use Rattle.case_queries.specs.declared.window.Part as windows;
 
 use crate::asked::FramesAsked;
-use crate::find::tell_no_memory;
-use crate::found::tell_found;
+use crate::find::print_no_memory;
+use crate::found::print_found;
 use crate::pieces::{MOST, lent_pieces, read_more};
 use crate::told::ToldFiles;
 use crate::walk::{CaseImage, WalkFault};
@@ -30,11 +30,11 @@ use address_space::Attached;
 use build_replies::{ChosenExecutables, listed};
 use disk_model::Disk;
 use elf_view::a_sound_front_is_enough;
-use frame_replies::{UnwoundExecutables, UnwoundProcess, Walk, tell_walked, tell_walked_frame};
+use frame_replies::{UnwoundExecutables, UnwoundProcess, Walk, print_walked, print_walked_frame};
 use image_replies::CoreImage;
 use intake::Archive;
 use memory_replies::{Outcome, a_sound_front_names_the_files};
-use script_streams::{Output, Reply, tell_no};
+use script_streams::{Output, Reply, print_no};
 use std::alloc::{AllocError, Global};
 use unwind::Stop;
 
@@ -158,20 +158,26 @@ pub(crate) fn walk_thread<D: Disk>(
 }
 
 // Tells what is asked of the frames of a thread.
-fn tell_frames<O: Output>(
+fn print_frames<O: Output>(
+    alloc: Global,
     reply: &mut Reply<'_, O>,
     process: &UnwoundProcess<'_, '_, '_>,
     unwound: &UnwoundThread,
     asked: FramesAsked,
 ) -> Outcome
     ensures { (image : List ℕ) (executables : List ExecutableView) (thread : ℕ) → IsUnwound image executables thread process.now unwound.now
-        → TellsReply (telling O.Output reply.old reply.new) (AnswersWith result (frames_answer image executables thread asked)) }
+        → PrintsReply (printing O.Output reply.old reply.new) (AnswersWith result (frames_answer image executables thread asked)) }
 {
     match asked {
-        FramesAsked::Registers(frame) => tell_walked_frame(reply, &unwound.walk, frame),
-        FramesAsked::Shown(shown) => {
-            tell_walked(reply, process, &unwound.walk, unwound.stop, shown)
-        }
+        FramesAsked::Registers(frame) => print_walked_frame(reply, &unwound.walk, frame),
+        FramesAsked::Shown(shown) => print_walked(
+            alloc,
+            reply,
+            process,
+            &unwound.walk,
+            unwound.stop,
+            shown,
+        ),
     }
 }
 
@@ -190,12 +196,12 @@ fn frames_of_walk<O: Output, D: Disk>(
     requires some { (b : List ℕ) × BeginsWith image found.pieces.items b }
     ensures { (before : Parts D) (stored : List ExecutableView) (thread : ℕ) → SeesPieces D.Disk before image.entry found.entry.pieces.items archive.old
         → ((b : List ℕ) → BeginsWith image.entry found.entry.pieces.items b → IsWalkOf b stored thread found.entry.process begun)
-        → TellsOutcome (telling O.Output reply.old reply.new) (λ text. ShowsTold D.Disk before image.entry found.entry.pieces.items stored (for_frames thread asked) text archive.new) (is_done result) }
+        → PrintsOutcome (printing O.Output reply.old reply.new) (λ text. ShowsTold D.Disk before image.entry found.entry.pieces.items stored (for_frames thread asked) text archive.new) (is_done result) }
 {
     let mut core = found;
     match walk_thread(alloc, image, &mut core, begun, archive) {
-        Ok(unwound) => tell_frames(reply, &core.process, &unwound, asked),
-        Err(fault) => tell_found(reply, Err(fault)),
+        Ok(unwound) => print_frames(alloc, reply, &core.process, &unwound, asked),
+        Err(fault) => print_found(reply, Err(fault)),
     }
 }
 
@@ -217,21 +223,21 @@ pub(crate) fn frames_in_core<'a, O: Output, D: Disk>(
     requires sound { IsSoundFront Core image.front.now }
     requires told { IsToldBy image told }
     ensures { (before : Parts D) → SeesPieces D.Disk before image.entry told.entry.pieces.items archive.old
-        → TellsOutcome (telling O.Output reply.old reply.new) (λ text. ShowsTold D.Disk before image.entry told.entry.pieces.items (map attached_view attached.now) (for_frames thread asked) text archive.new) (is_done result) }
+        → PrintsOutcome (printing O.Output reply.old reply.new) (λ text. ShowsTold D.Disk before image.entry told.entry.pieces.items (map attached_view attached.now) (for_frames thread asked) text archive.new) (is_done result) }
 {
     a_sound_front_is_enough();
     let Some(begun) = Walk::begin(alloc, core, thread) else {
-        tell_no(reply, b"NoThread");
+        print_no(reply, b"NoThread");
         return Outcome::Refused;
     };
     let Ok(chosen) = ChosenExecutables::of(alloc, listed(&told.files), attached) else {
-        return tell_no_memory(reply);
+        return print_no_memory(reply);
     };
     let Ok(executables) = UnwoundExecutables::of(alloc, &chosen) else {
-        return tell_no_memory(reply);
+        return print_no_memory(reply);
     };
     match process_in_core(alloc, core, told, chosen, &executables) {
         Ok(found) => frames_of_walk(alloc, image, found, begun, asked, reply, archive),
-        Err(_) => tell_no_memory(reply),
+        Err(_) => print_no_memory(reply),
     }
 }

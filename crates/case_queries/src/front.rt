@@ -110,7 +110,7 @@ pub(crate) fn size_of<D: Disk>(seq: u32, archive: &Archive<D>) -> Option<usize>
     }
 }
 
-// Whether what is kept of an image is enough.
+// Whether the kept bytes of an image are enough.
 fn is_kept_enough(want: Want, kept: &KeptImage) -> bool
     ensures { result ≡ true → (kept.now.is_whole ≡ true) ⊎ IsSoundFront want kept.now.image.items }
 {
@@ -120,7 +120,7 @@ fn is_kept_enough(want: Want, kept: &KeptImage) -> bool
     is_sound(want, &kept.image)
 }
 
-// What is kept of an image, if it is of that case and enough.
+// The kept bytes of an image, if they are of that case and enough.
 fn enough_of_case(seq: u32, want: Want, kept: Option<KeptImage>) -> Option<KeptImage>
     ensures { IfSome result (λ k. (kept ≡ Some k) × (k.seq ≡ seq) × ((k.is_whole ≡ true) ⊎ IsSoundFront want k.image.items)) }
 {
@@ -134,7 +134,7 @@ fn enough_of_case(seq: u32, want: Want, kept: Option<KeptImage>) -> Option<KeptI
     Some(image)
 }
 
-// As much of a case's image as the lines over headers and notes want: what is kept, if it is of that case and enough.
+// As much of a case's image as the lines over headers and notes want: the kept image, if it is of that case and enough.
 // Otherwise the kept image is dropped with its executables, and the case's is read.
 pub(crate) fn see_front<D: Disk>(
     alloc: Global,

@@ -1,7 +1,7 @@
 // The answers to lines that ask an image.
 ghost use Rattle.std.specs.Prelude.{◌≡◌, false, IfOk, Ok};
 ghost use Rattle.intake.specs.Parts.{state_of};
-ghost use Rattle.script_streams.specs.Replies.{TellsOutcome, telling};
+ghost use Rattle.script_streams.specs.Replies.{PrintsOutcome, printing};
 ghost use Rattle.script_lines.specs.Queries.{query_of, image_query, ask_notes, ask_symbol};
 ghost use Rattle.case_queries.specs.Inspecting.{Inspects, executable_kind, kind_for};
 ghost use Rattle.case_queries.specs.Steps.{Asks, asked_view, kind_asked};
@@ -17,14 +17,14 @@ use archive_replies::reason;
 use disk_model::Disk;
 use intake::Archive;
 use journal_layout::Kind;
-use memory_replies::tell_symbol;
+use memory_replies::print_symbol;
 use script_lines::{ImageQuery, Query};
-use script_streams::{Output, Reply, tell_no};
+use script_streams::{Output, Reply, print_no};
 
-/// Answers a line that asks the image of a case: tells what the layouts give for it, or the first reason why nothing is shown.
-/// The image is kept for the lines that ask the same case next, and with it the executables that are read with it. Where
-/// memory was refused nothing is kept, so that the line made again has its room. Says whether it was done; if not, the reply is
-/// `no REASON`.
+/// Answers a line that asks the image of a case: prints the answer that the layouts give for it, or
+/// the first reason why nothing is shown. The image is kept for the lines that ask the same case
+/// next, and with it the executables that are read with it. If memory was refused nothing is kept, so
+/// that the line made again has its room. Says whether it was done; if not, the reply is `no REASON`.
 pub fn answer_query<O: Output, D: Disk>(
     seq: u32,
     query: &Query,
@@ -34,14 +34,14 @@ pub fn answer_query<O: Output, D: Disk>(
 ) -> bool
     requires kept { IsKept D.Disk archive.old images.old.kept }
     requires are_kept { AreKept D.Disk archive.old images.old.kept }
-    ensures answers { TellsOutcome (telling O.Output reply.old reply.new) (λ text. Inspects D.Disk archive.old seq (query_of query.now) text archive.new) result }
+    ensures answers { PrintsOutcome (printing O.Output reply.old reply.new) (λ text. Inspects D.Disk archive.old seq (query_of query.now) text archive.new) result }
     ensures kept { IsKept D.Disk archive.new images.new.kept }
     ensures are_kept { AreKept D.Disk archive.new images.new.kept }
 {
     let kind = match kind_asked(seq, query, archive) {
         Ok(kind) => kind,
         Err(reason) => {
-            tell_no(reply, reason);
+            print_no(reply, reason);
             return false;
         }
     };
@@ -82,18 +82,18 @@ fn answer_symbol<O: Output, D: Disk>(
 ) -> bool
     requires kept { IsKept D.Disk archive.old images.old.kept }
     requires are_kept { AreKept D.Disk archive.old images.old.kept }
-    ensures answers { TellsOutcome (telling O.Output reply.old reply.new) (λ text. Asks D.Disk archive.old seq (ask_symbol address) (Ok kind) text archive.new) result }
+    ensures answers { PrintsOutcome (printing O.Output reply.old reply.new) (λ text. Asks D.Disk archive.old seq (ask_symbol address) (Ok kind) text archive.new) result }
     ensures kept { IsKept D.Disk archive.new images.new.kept }
     ensures are_kept { AreKept D.Disk archive.new images.new.kept }
 {
     match see_image(seq, images.kept.take(), archive) {
         Ok(seen) => {
-            let outcome = tell_symbol(images.alloc, reply, &seen.image, address);
+            let outcome = print_symbol(images.alloc, reply, &seen.image, address);
             images.kept = kept_if(outcome.had_memory(), seen);
             outcome.is_done()
         }
         Err(fault) => {
-            tell_no(reply, reason(fault));
+            print_no(reply, reason(fault));
             false
         }
     }
@@ -110,7 +110,7 @@ fn kind_asked<D: Disk>(seq: u32, query: &Query, archive: &Archive<D>) -> Result<
     }
 }
 
-// The kind of a case, where the line may ask one of that kind.
+// The kind of a case, if the line may ask one of that kind.
 fn kind_for(query: &Query, kind: Kind) -> Result<Kind, &'static [u8]>
     ensures { asked_view result ≡ kind_for (query_of query.now) kind }
 {

@@ -8,10 +8,10 @@ use disk_model::Disk;
 use intake::{Archive, ArchiveFault};
 use std::alloc::Global;
 
-/// What lines that ask images take memory from, and the image that they keep.
+/// The allocator of the lines that ask images, and the image that they keep.
 #[derive(Drop)]
 pub struct Images {
-    /// Where they take memory.
+    /// The allocator from which they take memory.
     pub alloc: Global,
     /// The image that was read last, if it is kept: none at first, and none after a line that asks no image.
     pub kept: Option<KeptImage>,

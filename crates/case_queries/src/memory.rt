@@ -2,7 +2,7 @@
 ghost use Rattle.std.specs.Prelude.{◌≡◌, ◌++◌, ℕ, List, Ok, false, map, Some, IfOk, IfSome};
 ghost use Rattle.image_replies.specs.CoreWords.{core_bytes};
 ghost use Rattle.script_lines.specs.Queries.{memory_query};
-ghost use Rattle.script_streams.specs.Replies.{TellsOutcome, TellsReply, telling};
+ghost use Rattle.script_streams.specs.Replies.{PrintsOutcome, PrintsReply, printing};
 ghost use Rattle.memory_replies.specs.Answers.{AnswersWith, is_done};
 ghost use Rattle.memory_replies.specs.Memory.{attached_view};
 ghost use Rattle.intake.specs.Parts.{state_of};
@@ -27,24 +27,24 @@ use crate::find::answer_find;
 use crate::front::size_of;
 use crate::kept_image::{Images, kept_if};
 use crate::window::{lent_window, see_memory};
-use address_replies::tell_at;
+use address_replies::print_at;
 use archive_replies::reason;
-use build_replies::{listed, tell_builds, told_ids};
+use build_replies::{listed, print_builds, told_ids};
 use disk_model::Disk;
-use frame_replies::{Shown, tell_frame, tell_unwind};
-use image_replies::{CoreImage, a_sound_front_answers, tell_core_fault};
+use frame_replies::{Shown, print_frame, print_unwind};
+use image_replies::{CoreImage, a_sound_front_answers, print_core_fault};
 use intake::{Archive, ArchiveFault};
 use journal_layout::Kind;
 use memory_replies::{
-    Outcome, Window, a_sound_front_names_the_files, tell_bt, tell_dump, tell_find, tell_strings,
+    Outcome, Window, a_sound_front_names_the_files, print_bt, print_dump, print_find, print_strings,
 };
 use script_lines::{BuildQuery, MemoryQuery};
-use script_streams::{Output, Reply, tell_no};
+use script_streams::{Output, Reply, print_no};
 use std::alloc::{AllocError, Global};
 use windowed_search::Sought;
 
-// The most bytes of an image that is searched whole, in memory: what is found is then told as it is found. Of a larger one it is held
-// until all of the image is read.
+// The most bytes of an image that is searched whole, in memory: each result is then printed as it is found. The results of a larger
+// one are held until all of the image is read.
 const SMALL: usize = 8_388_608;
 
 // Answers a line over a core's memory of a case of this kind. Says whether it was done; if not, it was refused.
@@ -59,7 +59,7 @@ pub(crate) fn answer_by_memory<O: Output, D: Disk>(
     requires runs { archive.old.stopped ≡ false }
     requires kept { IsKept D.Disk archive.old images.old.kept }
     requires are_kept { AreKept D.Disk archive.old images.old.kept }
-    ensures answers { TellsOutcome (telling O.Output reply.old reply.new) (λ text. Asks D.Disk archive.old seq (memory_query query.now) (Ok kind) text archive.new) result }
+    ensures answers { PrintsOutcome (printing O.Output reply.old reply.new) (λ text. Asks D.Disk archive.old seq (memory_query query.now) (Ok kind) text archive.new) result }
     ensures kept { IsKept D.Disk archive.new images.new.kept }
     ensures are_kept { AreKept D.Disk archive.new images.new.kept }
 {
@@ -73,7 +73,7 @@ pub(crate) fn answer_by_memory<O: Output, D: Disk>(
     }
 }
 
-// What a line asks of an image of that size, if it is read piece by piece for it.
+// The question of a line about an image of that size, if it is read piece by piece for it.
 fn asked_in(query: &MemoryQuery, size: usize) -> Option<Asked<'_>>
     ensures { IfSome result (λ a. IsAsking (asking_of a) × (memory_query query.now ≡ asking_query (asking_of a))) }
 {
@@ -119,7 +119,7 @@ fn answer_seen<O: Output, D: Disk>(
     requires runs { archive.old.stopped ≡ false }
     requires kept { IsKept D.Disk archive.old images.old.kept }
     requires are_kept { AreKept D.Disk archive.old images.old.kept }
-    ensures answers { TellsOutcome (telling O.Output reply.old reply.new) (λ text. Asks D.Disk archive.old seq (memory_query query.now) (Ok kind) text archive.new) result }
+    ensures answers { PrintsOutcome (printing O.Output reply.old reply.new) (λ text. Asks D.Disk archive.old seq (memory_query query.now) (Ok kind) text archive.new) result }
     ensures kept { IsKept D.Disk archive.new images.new.kept }
     ensures are_kept { AreKept D.Disk archive.new images.new.kept }
 {
@@ -140,14 +140,14 @@ fn answer_seen<O: Output, D: Disk>(
             outcome.is_done()
         }
         Err(fault) => {
-            tell_no(reply, reason(fault));
+            print_no(reply, reason(fault));
             false
         }
     }
 }
 
-// The same of an image of which this much is seen, with the executables that its process had mapped, where they are stored. They
-// are kept for the lines over the same core that come next. Says what became of it.
+// The same of an image of which this much is seen, with the executables that its process had mapped, if they are stored. They
+// are kept for the lines over the same core that come next. Returns the outcome.
 pub(crate) fn answer_memory<O: Output, D: Disk>(
     alloc: Global,
     kind: Kind,
@@ -161,14 +161,14 @@ pub(crate) fn answer_memory<O: Output, D: Disk>(
     requires runs { archive.old.stopped ≡ false }
     requires kept { StayCollected D.Disk archive.old kept.old }
     ensures answers { (image : List ℕ) → IsSeenBy query.now front.now window.entry.size window.entry.at window.entry.bytes.now image
-        → TellsOutcome (telling O.Output reply.old reply.new) (λ text. Shows D.Disk archive.old kind (memory_query query.now) image text archive.new) (is_done result) }
+        → PrintsOutcome (printing O.Output reply.old reply.new) (λ text. Shows D.Disk archive.old kind (memory_query query.now) image text archive.new) (is_done result) }
     ensures kept { StayCollected D.Disk archive.new kept.new }
 {
     a_sound_front_answers();
     match CoreImage::read(front) {
         Ok(core) => answer_core(alloc, kind, query, &core, window, kept, reply, archive),
         Err(fault) => {
-            tell_core_fault(reply, fault);
+            print_core_fault(reply, fault);
             Outcome::Refused
         }
     }
@@ -188,13 +188,13 @@ fn answer_core<O: Output, D: Disk>(
     requires runs { archive.old.stopped ≡ false }
     requires kept { StayCollected D.Disk archive.old kept.old }
     ensures answers { (image : List ℕ) → IsSeenBy query.now (core_bytes core.now) window.entry.size window.entry.at window.entry.bytes.now image
-        → TellsOutcome (telling O.Output reply.old reply.new) (λ text. ShowsCore D.Disk archive.old kind (memory_query query.now) image text archive.new) (is_done result) }
+        → PrintsOutcome (printing O.Output reply.old reply.new) (λ text. ShowsCore D.Disk archive.old kind (memory_query query.now) image text archive.new) (is_done result) }
     ensures kept { StayCollected D.Disk archive.new kept.new }
 {
     a_sound_front_names_the_files();
     match collected(alloc, query, core, kept.take(), archive) {
         Ok(executables) => {
-            let outcome = tell_gathered(
+            let outcome = print_gathered(
                 alloc,
                 kind,
                 query,
@@ -208,13 +208,13 @@ fn answer_core<O: Output, D: Disk>(
             outcome
         }
         Err(refusal) => {
-            tell_no(reply, reason(refusal));
+            print_no(reply, reason(refusal));
             refused_by(refusal)
         }
     }
 }
 
-// What became of a line that the archive refused so.
+// The outcome of a line that the archive refused for this reason.
 pub(crate) fn refused_by(fault: ArchiveFault) -> Outcome
     ensures { is_done result ≡ false }
 {
@@ -247,7 +247,7 @@ fn wanted_for<D: Disk>(
     }
 }
 
-// Those of a core of which all bytes are at hand, by the builds that it tells.
+// Those of a core of which all bytes are at hand, by the builds that the core names.
 pub(crate) fn wanted_for_builds<D: Disk>(
     alloc: Global,
     core: &CoreImage<'_>,
@@ -304,7 +304,7 @@ fn debugs_for<D: Disk>(
     }
 }
 
-// Those of what is used for a core of which all bytes are at hand.
+// Those of the executables that are used for a core of which all bytes are at hand.
 pub(crate) fn debugs_of_core<D: Disk>(
     alloc: Global,
     core: &CoreImage<'_>,
@@ -318,8 +318,8 @@ pub(crate) fn debugs_of_core<D: Disk>(
     wanted_debugs(alloc, listed(&told), executables, archive)
 }
 
-// Tells what a core and these executables answer, with the debug files that the line wants. Says what became of it.
-fn tell_gathered<O: Output, D: Disk>(
+// Prints the answer of a core and these executables, with the debug files that the line wants. Returns the outcome.
+fn print_gathered<O: Output, D: Disk>(
     alloc: Global,
     kind: Kind,
     query: &MemoryQuery,
@@ -331,12 +331,12 @@ fn tell_gathered<O: Output, D: Disk>(
 ) -> Outcome
     requires { archive.old.stopped ≡ false }
     ensures answers { (image : List ℕ) → IsSeenBy query.now (core_bytes core.now) window.entry.size window.entry.at window.entry.bytes.now image
-        → TellsOutcome (telling O.Output reply.old reply.new) (λ text. ShowsGathered D.Disk archive.old kind (memory_query query.now) image (core_bytes core.now) (map read_as executables.now) (map executable_view executables.now) text archive.new) (is_done result) }
+        → PrintsOutcome (printing O.Output reply.old reply.new) (λ text. ShowsGathered D.Disk archive.old kind (memory_query query.now) image (core_bytes core.now) (map read_as executables.now) (map executable_view executables.now) text archive.new) (is_done result) }
     ensures leaves { Leaves D.Disk archive.old archive.new }
 {
     let wanted = debugs_for(alloc, query, core, executables, archive);
     match collect(alloc, wanted, None, archive) {
-        Ok(debug_files) => tell_with_executables(
+        Ok(debug_files) => print_with_executables(
             alloc,
             kind,
             query,
@@ -347,14 +347,14 @@ fn tell_gathered<O: Output, D: Disk>(
             reply,
         ),
         Err(fault) => {
-            tell_no(reply, reason(fault));
+            print_no(reply, reason(fault));
             refused_by(fault)
         }
     }
 }
 
 // The same with these executables and debug files.
-fn tell_with_executables<O: Output>(
+fn print_with_executables<O: Output>(
     alloc: Global,
     kind: Kind,
     query: &MemoryQuery,
@@ -365,18 +365,18 @@ fn tell_with_executables<O: Output>(
     reply: &mut Reply<'_, O>,
 ) -> Outcome
     ensures { (image : List ℕ) → IsSeenBy query.now (core_bytes core.now) window.entry.size window.entry.at window.entry.bytes.now image
-        → TellsReply (telling O.Output reply.old reply.new) (AnswersWith result (answer_of kind (memory_query query.now) image (map read_as executables.now ++ map read_as debug_files.now) (map executable_view executables.now ++ map executable_view debug_files.now))) }
+        → PrintsReply (printing O.Output reply.old reply.new) (AnswersWith result (answer_of kind (memory_query query.now) image (map read_as executables.now ++ map read_as debug_files.now) (map executable_view executables.now ++ map executable_view debug_files.now))) }
 {
     match lent_with(alloc, executables, debug_files) {
-        Ok(lent) => tell_memory(alloc, kind, query, core, window, &lent, reply),
+        Ok(lent) => print_memory(alloc, kind, query, core, window, &lent, reply),
         Err(_) => {
-            tell_no(reply, b"OutOfMemory");
+            print_no(reply, b"OutOfMemory");
             Outcome::OutOfMemory
         }
     }
 }
 
-pub(crate) fn tell_memory<O: Output>(
+pub(crate) fn print_memory<O: Output>(
     alloc: Global,
     kind: Kind,
     query: &MemoryQuery,
@@ -386,33 +386,33 @@ pub(crate) fn tell_memory<O: Output>(
     reply: &mut Reply<'_, O>,
 ) -> Outcome
     ensures { (image : List ℕ) → IsSeenBy query.now (core_bytes core.now) window.entry.size window.entry.at window.entry.bytes.now image
-        → TellsReply (telling O.Output reply.old reply.new) (AnswersWith result (answer_of kind (memory_query query.now) image (map numbered_view lent.now.cases.items) (map attached_view lent.now.attached.items))) }
+        → PrintsReply (printing O.Output reply.old reply.new) (AnswersWith result (answer_of kind (memory_query query.now) image (map numbered_view lent.now.cases.items) (map attached_view lent.now.attached.items))) }
 {
     let attached = lent.attached.as_slice();
     match query {
         MemoryQuery::Dump { first, length } => {
-            tell_dump(alloc, reply, core, window, attached, *first, *length)
+            print_dump(alloc, reply, core, window, attached, *first, *length)
         }
         MemoryQuery::At { address } => {
-            tell_at(alloc, reply, core, window.size, attached, *address)
+            print_at(alloc, reply, core, window.size, attached, *address)
         }
         MemoryQuery::Find { needle } => {
-            tell_find(alloc, reply, core, attached, needle.bytes.as_slice())
+            print_find(alloc, reply, core, attached, needle.bytes.as_slice())
         }
-        MemoryQuery::Strings { least } => { tell_strings(alloc, reply, core, attached, *least) }
+        MemoryQuery::Strings { least } => { print_strings(alloc, reply, core, attached, *least) }
         MemoryQuery::Backtrace { thread } => {
-            tell_bt(alloc, reply, core, window, attached, *thread)
+            print_bt(alloc, reply, core, window, attached, *thread)
         }
         MemoryQuery::Unwind { thread } => {
-            tell_unwind(alloc, reply, core, attached, *thread, Shown::Stack)
+            print_unwind(alloc, reply, core, attached, *thread, Shown::Stack)
         }
         MemoryQuery::Lines { thread } => {
-            tell_unwind(alloc, reply, core, attached, *thread, Shown::Source)
+            print_unwind(alloc, reply, core, attached, *thread, Shown::Source)
         }
         MemoryQuery::Frame { thread, frame } => {
-            tell_frame(alloc, reply, core, attached, *thread, *frame)
+            print_frame(alloc, reply, core, attached, *thread, *frame)
         }
-        MemoryQuery::Builds(query) => tell_builds(
+        MemoryQuery::Builds(query) => print_builds(
             alloc,
             reply,
             core,

@@ -57,8 +57,8 @@ impl<'e> PreparedExecutables<'e> {
             unwound,
         })
     }
-    /// Whether these serve a core with those mapped files, of an archive with those executables: they are what is read for it, and of them
-    /// the same are chosen as for the core for which they were prepared. The error is that there is no memory.
+    /// Whether these serve a core with those mapped files, of an archive with those executables: they are the ones that would be read for
+    /// it, and the same of them are chosen as for the core for which they were prepared. The only error is that there is no memory.
     pub fn serve(
         &self,
         alloc: Global,

@@ -1,4 +1,4 @@
-// What is read of an image for the frames of a thread: its first bytes and the thread's stack, or all of it.
+// The part of an image that is read for the frames of a thread: its first bytes and the thread's stack, or all of it.
 ghost use Rattle.std.specs.Prelude.{◌≡◌, ◌+◌, ◌-◌, ◌<◌, ◌≤◌, ℕ, List, [], Ok, OnOk, IfOk, IfSome, Some, length, true, false, vec_len, vec_capacity};
 ghost use Rattle.elf_view.specs.declared.faults.Want.TheVariants.{Core};
 ghost use Rattle.address_space.specs.Whole.{IsFrontOf};
@@ -22,7 +22,7 @@ use image_replies::CoreImage;
 use intake::{Archive, ArchiveFault};
 use memory_replies::{Window, has_frames, stack_range};
 
-// The places of an image of `size` bytes that have a thread's stack. These are its first bytes. `None` where the core has a fault.
+// The places of an image of `size` bytes that have a thread's stack. These are its first bytes. `None` if the core has a fault.
 fn wanted_stack(front: &[u8], size: u64, thread: u64) -> Option<ImageRange>
     ensures within { IfSome result (λ r. (r.start ≤ r.past) × (r.past ≤ size)) }
     ensures few { IfSome result (λ r. r.past - r.start ≤ 1048576) }
@@ -97,7 +97,7 @@ fn read_to_part<D: Disk>(
     Ok(())
 }
 
-// Reads what is left of an image, of which these are the first bytes and this part is read.
+// Reads the rest of an image, of which these are the first bytes and this part is read.
 fn read_others<D: Disk>(
     seq: u32,
     size: usize,
@@ -165,7 +165,7 @@ fn read_stack<D: Disk>(
     })
 }
 
-// What the frames of a thread want of an image apart from its first bytes.
+// The part of an image that the frames of a thread want, apart from its first bytes.
 pub(crate) fn see_stack<D: Disk>(
     seq: u32,
     size: usize,

@@ -1,4 +1,4 @@
-// The mapped files of a core that is read piece by piece, each with the build ID that the core tells.
+// The mapped files of a core that is read piece by piece, each with the build ID that the core has for it.
 ghost use Rattle.std.specs.Prelude.{◌≡◌, ◌≤◌, IfOk, OnOk, length};
 ghost use Rattle.elf_view.specs.declared.faults.Want.TheVariants.{Core};
 ghost use Rattle.image_replies.specs.CoreWords.{core_bytes};
@@ -18,7 +18,8 @@ use image_replies::CoreImage;
 use intake::Archive;
 use std::alloc::Global;
 
-/// The mapped files of a core, each with the build ID that it tells, and the pieces of its image that tell them.
+/// The mapped files of a core, each with the build ID that the
+/// core has for it, and the pieces of its image that have these.
 #[derive(Drop)]
 pub struct ToldFiles<'a> {
     // `None` is a core without NT_FILE.
@@ -26,7 +27,7 @@ pub struct ToldFiles<'a> {
     pub(crate) pieces: Vec<Part>,
 }
 
-// The build IDs of a core's mapped files, one for each name. As much of the image is read as tells them, each byte once.
+// The build IDs of a core's mapped files, one for each name. As much of the image is read as they need, each byte once.
 fn read_ids<'a, D: Disk>(
     alloc: Global,
     image: CaseImage<'_>,
@@ -50,12 +51,12 @@ fn read_ids<'a, D: Disk>(
     Ok(ids)
 }
 
-/// Finds the build IDs that a core tells for its mapped files. The core may be the first bytes alone of the case's image. Of the rest as
-/// much is read as tells the IDs, each byte once.
+/// Finds the build IDs that a core has for its mapped files. The core may be the first bytes alone of the case's image. Of the rest as
+/// much is read as the IDs need, each byte once.
 ///
 /// # Errors
 ///
-/// `Unread`: the image can't be read. `OutOfMemory`: there is no memory for what was found.
+/// `Unread`: the image can't be read. `OutOfMemory`: there is no memory for the results.
 pub fn told_files<'a, D: Disk>(
     alloc: Global,
     image: CaseImage<'_>,

@@ -28,7 +28,7 @@ pub struct CaseImage<'f> {
     pub front: &'f [u8],
 }
 
-// How far the image is read, the piece of it that was read last, and the search of the values so far.
+// The place up to which the image is read, the piece of it that was read last, and the search of the values so far.
 #[derive(Drop)]
 pub(crate) struct Walk<'n> {
     pub(crate) at: u64,
@@ -41,7 +41,7 @@ pub(crate) struct Walk<'n> {
 pub enum WalkFault {
     /// The image can't be read.
     Unread(ArchiveFault),
-    /// There is no memory for what was found.
+    /// There is no memory for the results.
     OutOfMemory,
 }
 

@@ -1,4 +1,4 @@
-// How much of an image its headers and notes want, as far as its first bytes tell. No answer rests on this: a wrong number costs
+// How much of an image its headers and notes want, as far as its first bytes show. No answer rests on this: a wrong number costs
 // one more read.
 ghost use Rattle.std.specs.Prelude.{◌+◌, ◌*◌, ◌<◌, ◌≤◌, length};
 
@@ -12,7 +12,7 @@ const PROGRAM_HEADER: usize = 56;
 // The most bytes that are read before all are.
 const MOST: u64 = 67_108_864;
 
-// Where the program header at place `at` wants the image to end, if it is a PT_NOTE.
+// The end of the image that the program header at place `at` wants, if it is a PT_NOTE.
 fn note_end(front: &[u8], at: usize) -> u64
     requires { at + 56 ≤ length front.now }
 {
@@ -22,7 +22,7 @@ fn note_end(front: &[u8], at: usize) -> u64
     u64_at(front, at + 8).saturating_add(u64_at(front, at + 32))
 }
 
-// Where `count` program headers from place `at` on want the image to end.
+// The end of the image that `count` program headers from place `at` on want.
 fn notes_end(front: &[u8], at: usize, count: usize) -> u64
     requires { at + 56 * count ≤ length front.now }
 {

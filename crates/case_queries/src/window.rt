@@ -1,4 +1,4 @@
-// What is read of an image for a line over a core's memory.
+// The part of an image that is read for a line over a core's memory.
 ghost use Rattle.std.specs.Prelude.{◌≡◌, ◌+◌, ◌-◌, ◌^◌, ◌<◌, ◌≤◌, ℕ, [], Ok, IfOk, IfSome, Some, drop, take, length, false, vec_capacity};
 ghost use Rattle.elf_view.specs.Field.{part};
 ghost use Rattle.elf_view.specs.Header.{segments_of};
@@ -39,7 +39,8 @@ pub(crate) struct Part {
     pub(crate) bytes: Vec<u8>,
 }
 
-// What is seen of an image of `size` bytes: the first of them, and a part that was read for one line; or all of them.
+// The part of an image of `size` bytes that is seen: the first of
+// them, and a part that was read for one line; or all of them.
 #[derive(Drop)]
 pub(crate) struct Seen {
     pub(crate) kept: KeptImage,
@@ -97,7 +98,7 @@ fn see_whole<D: Disk>(
     Ok(all_of(kept))
 }
 
-// The places of an image of `size` bytes that have what a dump shows, if they are few. These are its first bytes.
+// The places of an image of `size` bytes that have the bytes of a dump, if they are few. These are its first bytes.
 fn wanted_range(front: &[u8], size: u64, first: u64, count: u64) -> Option<ImageRange>
     ensures { IfSome result (λ r. IsWanted front.now size first count r.start r.past) }
 {
@@ -131,7 +132,8 @@ fn read_after<D: Disk>(
     archive.image_part(seq, start + at as u64, &mut bytes[at..])
 }
 
-// Reads what a range of a case's image has after the first bytes of it, and puts what they have of the range before it.
+// Reads the bytes that a case's image has of a range after its first
+// bytes, and puts those of the range that these have before them.
 pub(crate) fn read_range<D: Disk>(
     seq: u32,
     size: usize,
@@ -213,7 +215,7 @@ pub(crate) fn read_rest<D: Disk>(
     }))
 }
 
-// What a dump wants of an image apart from its first bytes.
+// The part of an image that a dump wants, apart from its first bytes.
 fn see_range<D: Disk>(
     seq: u32,
     size: usize,
@@ -254,7 +256,7 @@ fn first_of(front: KeptImage, size: usize) -> Seen
     }
 }
 
-// What a line over a core's memory wants of an image apart from its first bytes.
+// The part of an image that a line over a core's memory wants, apart from its first bytes.
 fn see_more<D: Disk>(
     seq: u32,
     size: usize,
@@ -358,8 +360,8 @@ fn reads_all(seq: u32, query: &MemoryQuery, kept: &Option<KeptImage>) -> bool {
     }
 }
 
-// As much of a case's image as a line over a core's memory wants. What is kept of that case's image is not read again; another
-// image is dropped with its executables.
+// As much of a case's image as a line over a core's memory wants. The kept bytes of that case's image are not read again;
+// another image is dropped with its executables.
 pub(crate) fn see_memory<D: Disk>(
     alloc: Global,
     seq: u32,

@@ -7,7 +7,7 @@ ghost use Rattle.memory_replies.specs.Answers.{AnswersWith, is_done};
 ghost use Rattle.memory_replies.specs.Memory.{attached_view};
 ghost use Rattle.script_lines.specs.declared.query.MemoryQuery.{MemoryQuery};
 ghost use Rattle.script_lines.specs.Queries.{ask_by_build, memory_query};
-ghost use Rattle.script_streams.specs.Replies.{TellsOutcome, TellsReply, telling};
+ghost use Rattle.script_streams.specs.Replies.{PrintsOutcome, PrintsReply, printing};
 ghost use Rattle.intake.specs.Parts.{state_of};
 ghost use Rattle.case_queries.specs.Collecting.{debugs_for};
 ghost use Rattle.case_queries.specs.CollectingWords.{executable_view, read_as, wanted_view};
@@ -22,18 +22,18 @@ use crate::collect_executables::{
     LentExecutables, StoredExecutable, WantedCase, collect, lent_with,
 };
 use crate::kept_image::{Images, kept_if, see_image};
-use crate::memory::{debugs_of_core, refused_by, tell_memory, wanted_for_builds};
-use address_replies::tell_at_with_debugs;
+use crate::memory::{debugs_of_core, print_memory, refused_by, wanted_for_builds};
+use address_replies::print_at_with_debugs;
 use address_space::Attached;
 use archive_replies::reason;
 use build_replies::{ChosenExecutables, listed, told_ids};
 use disk_model::Disk;
-use image_replies::{CoreImage, tell_core_fault};
+use image_replies::{CoreImage, print_core_fault};
 use intake::Archive;
 use journal_layout::Kind;
-use memory_replies::{Outcome, Window, tell_bt_with_debugs};
+use memory_replies::{Outcome, Window, print_bt_with_debugs};
 use script_lines::MemoryQuery;
-use script_streams::{Output, Reply, tell_no};
+use script_streams::{Output, Reply, print_no};
 use std::alloc::{AllocError, Global};
 
 // Of the executables that are read for a core, those that are used for its mapped files, and the debug files of these.
@@ -67,8 +67,8 @@ fn lent_used<'a>(
     })
 }
 
-// Tells what a core answers with these. `at` and `bt` name functions by the debug files too.
-fn tell_with_used<O: Output>(
+// Prints the answer of a core with these. `at` and `bt` name functions by the debug files too.
+fn print_with_used<O: Output>(
     alloc: Global,
     kind: Kind,
     query: &MemoryQuery,
@@ -76,11 +76,11 @@ fn tell_with_used<O: Output>(
     used: &UsedExecutables<'_>,
     reply: &mut Reply<'_, O>,
 ) -> Outcome
-    ensures { TellsReply (telling O.Output reply.old reply.new) (AnswersWith result (by_debugs (memory_query query.now) (core_bytes core.now) (map attached_view used.now.lent.attached.items) (map attached_view used.now.debugs.items) (answer_of kind (memory_query query.now) (core_bytes core.now) (map numbered_view used.now.lent.cases.items) (map attached_view used.now.lent.attached.items)))) }
+    ensures { PrintsReply (printing O.Output reply.old reply.new) (AnswersWith result (by_debugs (memory_query query.now) (core_bytes core.now) (map attached_view used.now.lent.attached.items) (map attached_view used.now.debugs.items) (answer_of kind (memory_query query.now) (core_bytes core.now) (map numbered_view used.now.lent.cases.items) (map attached_view used.now.lent.attached.items)))) }
 {
     let window = whole_window(core);
     match query {
-        MemoryQuery::At { address } => tell_at_with_debugs(
+        MemoryQuery::At { address } => print_at_with_debugs(
             alloc,
             reply,
             core,
@@ -89,7 +89,7 @@ fn tell_with_used<O: Output>(
             &used.debugs,
             *address,
         ),
-        MemoryQuery::Backtrace { thread } => tell_bt_with_debugs(
+        MemoryQuery::Backtrace { thread } => print_bt_with_debugs(
             alloc,
             reply,
             core,
@@ -98,12 +98,13 @@ fn tell_with_used<O: Output>(
             &used.debugs,
             *thread,
         ),
-        _ => tell_memory(alloc, kind, query, core, window, &used.lent, reply),
+        _ => print_memory(alloc, kind, query, core, window, &used.lent, reply),
     }
 }
 
-// Tells what a core answers with those of these executables that are used for its mapped files, and with the debug files of these.
-fn tell_with_debugs<O: Output>(
+// Prints the answer of a core with those of these executables that
+// are used for its mapped files, and with the debug files of these.
+fn print_with_debugs<O: Output>(
     alloc: Global,
     kind: Kind,
     query: &MemoryQuery,
@@ -112,12 +113,12 @@ fn tell_with_debugs<O: Output>(
     debug_files: &[StoredExecutable],
     reply: &mut Reply<'_, O>,
 ) -> Outcome
-    ensures { TellsReply (telling O.Output reply.old reply.new) (AnswersWith result (answer_of kind (ask_by_build (memory_query query.now)) (core_bytes core.now) (map read_as executables.now ++ map read_as debug_files.now) (map executable_view executables.now ++ map executable_view debug_files.now))) }
+    ensures { PrintsReply (printing O.Output reply.old reply.new) (AnswersWith result (answer_of kind (ask_by_build (memory_query query.now)) (core_bytes core.now) (map read_as executables.now ++ map read_as debug_files.now) (map executable_view executables.now ++ map executable_view debug_files.now))) }
 {
     match lent_used(alloc, core, executables, debug_files) {
-        Ok(used) => tell_with_used(alloc, kind, query, core, &used, reply),
+        Ok(used) => print_with_used(alloc, kind, query, core, &used, reply),
         Err(_) => {
-            tell_no(reply, b"OutOfMemory");
+            print_no(reply, b"OutOfMemory");
             Outcome::OutOfMemory
         }
     }
@@ -153,8 +154,8 @@ fn debugs_wanted<D: Disk>(
     }
 }
 
-// Tells what a core and these executables answer, with the debug files that the line reads after them. Says what became of it.
-fn tell_gathered<O: Output, D: Disk>(
+// Prints the answer of a core and these executables, with the debug files that the line reads after them. Returns the outcome.
+fn print_gathered<O: Output, D: Disk>(
     alloc: Global,
     kind: Kind,
     query: &MemoryQuery,
@@ -164,16 +165,16 @@ fn tell_gathered<O: Output, D: Disk>(
     archive: &mut Archive<D>,
 ) -> Outcome
     requires { archive.old.stopped ≡ false }
-    ensures answers { TellsOutcome (telling O.Output reply.old reply.new) (λ text. ShowsGathered D.Disk archive.old kind (ask_by_build (memory_query query.now)) (core_bytes core.now) (core_bytes core.now) (map read_as executables.now) (map executable_view executables.now) text archive.new) (is_done result) }
+    ensures answers { PrintsOutcome (printing O.Output reply.old reply.new) (λ text. ShowsGathered D.Disk archive.old kind (ask_by_build (memory_query query.now)) (core_bytes core.now) (core_bytes core.now) (map read_as executables.now) (map executable_view executables.now) text archive.new) (is_done result) }
     ensures leaves { Leaves D.Disk archive.old archive.new }
 {
     let wanted = debugs_wanted(alloc, query, core, executables, archive);
     match collect(alloc, wanted, None, archive) {
         Ok(debug_files) => {
-            tell_with_debugs(alloc, kind, query, core, executables, &debug_files, reply)
+            print_with_debugs(alloc, kind, query, core, executables, &debug_files, reply)
         }
         Err(fault) => {
-            tell_no(reply, reason(fault));
+            print_no(reply, reason(fault));
             refused_by(fault)
         }
     }
@@ -191,18 +192,18 @@ fn answer_in_core<O: Output, D: Disk>(
 ) -> Outcome
     requires runs { archive.old.stopped ≡ false }
     requires kept { StayCollected D.Disk archive.old kept.old }
-    ensures answers { TellsOutcome (telling O.Output reply.old reply.new) (λ text. ShowsCore D.Disk archive.old kind (ask_by_build (memory_query query.now)) (core_bytes core.now) text archive.new) (is_done result) }
+    ensures answers { PrintsOutcome (printing O.Output reply.old reply.new) (λ text. ShowsCore D.Disk archive.old kind (ask_by_build (memory_query query.now)) (core_bytes core.now) text archive.new) (is_done result) }
     ensures kept { StayCollected D.Disk archive.new kept.new }
 {
     let wanted = wanted_for_builds(alloc, core, archive);
     match collect(alloc, wanted, kept.take(), archive) {
         Ok(executables) => {
-            let outcome = tell_gathered(alloc, kind, query, core, &executables, reply, archive);
+            let outcome = print_gathered(alloc, kind, query, core, &executables, reply, archive);
             *kept = Some(executables);
             outcome
         }
         Err(refusal) => {
-            tell_no(reply, reason(refusal));
+            print_no(reply, reason(refusal));
             refused_by(refusal)
         }
     }
@@ -220,13 +221,13 @@ fn answer_image<O: Output, D: Disk>(
 ) -> Outcome
     requires runs { archive.old.stopped ≡ false }
     requires kept { StayCollected D.Disk archive.old kept.old }
-    ensures answers { TellsOutcome (telling O.Output reply.old reply.new) (λ text. Shows D.Disk archive.old kind (ask_by_build (memory_query query.now)) image.now text archive.new) (is_done result) }
+    ensures answers { PrintsOutcome (printing O.Output reply.old reply.new) (λ text. Shows D.Disk archive.old kind (ask_by_build (memory_query query.now)) image.now text archive.new) (is_done result) }
     ensures kept { StayCollected D.Disk archive.new kept.new }
 {
     match CoreImage::read(image) {
         Ok(core) => answer_in_core(alloc, kind, query, &core, kept, reply, archive),
         Err(fault) => {
-            tell_core_fault(reply, fault);
+            print_core_fault(reply, fault);
             Outcome::Refused
         }
     }
@@ -245,7 +246,7 @@ pub(crate) fn answer_with_builds<O: Output, D: Disk>(
     requires runs { archive.old.stopped ≡ false }
     requires kept { IsKept D.Disk archive.old images.old.kept }
     requires are_kept { AreKept D.Disk archive.old images.old.kept }
-    ensures answers { TellsOutcome (telling O.Output reply.old reply.new) (λ text. Asks D.Disk archive.old seq (ask_by_build (memory_query query.now)) (Ok kind) text archive.new) result }
+    ensures answers { PrintsOutcome (printing O.Output reply.old reply.new) (λ text. Asks D.Disk archive.old seq (ask_by_build (memory_query query.now)) (Ok kind) text archive.new) result }
     ensures kept { IsKept D.Disk archive.new images.new.kept }
     ensures are_kept { AreKept D.Disk archive.new images.new.kept }
 {
@@ -265,7 +266,7 @@ pub(crate) fn answer_with_builds<O: Output, D: Disk>(
             outcome.is_done()
         }
         Err(fault) => {
-            tell_no(reply, reason(fault));
+            print_no(reply, reason(fault));
             false
         }
     }

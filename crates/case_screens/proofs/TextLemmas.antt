@@ -2,35 +2,36 @@
 use Rattle.std.proofs.Common.{◌≡◌, ◌≤◌, ◌<◌, ◌==◌, ◌-◌, ℕ, Bool, min, take, true, false, if◌then◌else◌, List, [], ◌∷◌, ◌++◌, length, sym, ap, ◌∙◌, refl, append_assoc, arith, ℤ, SFits, to_z, of_z}
 use Rattle.std.specs.List.{flat_map}
 use Rattle.std.specs.Int.{Width}
-use Rattle.std.proofs.lemmas.Bool.{ltb-true, ltb-false}
+use Rattle.std.proofs.lemmas.Bool.{eqb-true, eqb-false, ltb-true, ltb-false}
 use Rattle.std.proofs.lemmas.Int.{to_z-of_z}
 use Rattle.std.proofs.lemmas.List.{append-nil, length-append, length-take}
 use Rattle.std.specs.Prelude.{nat_lt, codes}
-use Rattle.script_streams.specs.TellLaws.{tells_then, tells_as, tells_nothing}
-use Rattle.script_streams.specs.Telling.{Sink, Tells}
+use Rattle.script_streams.specs.PrintLaws.{prints_then, prints_as, prints_nothing}
+use Rattle.script_streams.specs.Printing.{Sink, Prints}
 use Rattle.script_words.specs.Printing.{escape, prints_itself, shown, shown_byte}
 use Rattle.case_screens.specs.Files.{exec_text}
 use Rattle.case_screens.specs.Quotes.{quoted}
+use Rattle.case_screens.specs.Screen.{label_text}
 use Rattle.case_screens.specs.Texts.{more_words, name_text}
 
 -- of a whole text all was told but what is left
-pub record TellsFront (old new : Sink) (whole left : List ℕ) : Type 0 where
+pub record PrintsFront (old new : Sink) (whole left : List ℕ) : Type 0 where
   pub front : List ℕ
   pub split : front ++ left ≡ whole
-  pub told : Tells old new front
+  pub told : Prints old new front
 
-pub front_begins : {a : Sink} {whole : List ℕ} → TellsFront a a whole whole
-front_begins = record { front = []; split = refl; told = tells_nothing }
+pub front_begins : {a : Sink} {whole : List ℕ} → PrintsFront a a whole whole
+front_begins = record { front = []; split = refl; told = prints_nothing }
 
-pub front_grows : {a b c : Sink} {whole left x more : List ℕ} → TellsFront a b whole left → left ≡ x ++ more → Tells b c x → TellsFront a c whole more
+pub front_grows : {a b c : Sink} {whole left x more : List ℕ} → PrintsFront a b whole left → left ≡ x ++ more → Prints b c x → PrintsFront a c whole more
 front_grows {x = x} {more = more} before is next = record {
   front = before.front ++ x;
   split = append_assoc before.front x more ∙ sym (ap (λ (t : List ℕ). before.front ++ t) is) ∙ before.split;
-  told = tells_then before.told next;
+  told = prints_then before.told next;
 }
 
-pub front_ends : {a b : Sink} {whole left : List ℕ} → TellsFront a b whole left → left ≡ [] → Tells a b whole
-front_ends before is = tells_as (sym (append-nil before.front) ∙ sym (ap (λ (t : List ℕ). before.front ++ t) is) ∙ before.split) before.told
+pub front_ends : {a b : Sink} {whole left : List ℕ} → PrintsFront a b whole left → left ≡ [] → Prints a b whole
+front_ends before is = prints_as (sym (append-nil before.front) ∙ sym (ap (λ (t : List ℕ). before.front ++ t) is) ∙ before.split) before.told
 
 -- a signed number that is handed on
 pub signed_as : (w : Width) (x z : ℤ) → x ≡ z → SFits w x → to_z w (of_z w x) ≡ z
@@ -94,3 +95,14 @@ store_here false t e few = refl
 -- the command that stores a file whose name a case can have
 pub store_some : (t : List ℕ) → length t ≤ 128 → exec_text t ≡ codes "not stored: corekeep store ARCHIVE FILE --exec " ++ quoted (shown t)
 store_some t few = store_here (nat_lt 128 (length t)) t refl few
+
+-- a label, if there is one
+pub labelled : (label : List ℕ) → (length label == 0) ≡ false → codes ", label " ++ shown label ≡ label_text label
+labelled [] is = absurd (eqb-false 0 0 is refl)
+labelled (c ∷ cs) is = refl
+
+pub unlabelled : (label : List ℕ) → (length label == 0) ≡ true → [] ≡ label_text label
+unlabelled [] is = refl
+unlabelled (c ∷ cs) is =
+    let none : length (c ∷ cs) ≡ 0 = eqb-true (length (c ∷ cs)) 0 is in
+    absurd (omega arith)

@@ -37,12 +37,12 @@ abbrev pub found : Option (List ℕ) → Result (List ℕ) Reason
 found None = Err missing
 found (Some desc) = Ok desc
 
--- the descriptor of the first typed note of a kind, or why it has none
+-- the descriptor of the first typed note of a kind, or why there is no such descriptor
 abbrev pub desc_in : ℕ → Result (List NoteView) CoreFault → Result (List ℕ) Reason
 desc_in kind (Ok notes) = found (first_desc kind notes)
 desc_in kind (Err fault) = Err (core_reason fault)
 
--- the files of an NT_FILE; none, if there is no such note
+-- the files of an NT_FILE; an empty list, if there is no such note
 abbrev pub files_in : Option (List ℕ) → List FileView
 files_in None = []
 files_in (Some desc) = files_of desc

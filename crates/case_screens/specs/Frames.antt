@@ -7,10 +7,13 @@ use Rattle.core_notes.specs.Typed.{all_descs, first_desc}
 use Rattle.crash_signatures.specs.Frames.{place_text as place_in_file}
 use Rattle.elf_view.specs.NoteList.{NoteView}
 use Rattle.frame_replies.specs.FrameLines.{stop_line}
+use Rattle.frame_replies.specs.FrameSources.{line_at}
+use Rattle.frame_replies.specs.SourceWords.{lines_view}
 use Rattle.frame_replies.specs.declared.values.FrameAnswer.{FrameAnswer}
 use Rattle.frame_replies.specs.declared.values.FramesAnswer.{FramesAnswer}
 use Rattle.image_replies.specs.Lines.{numbered_lines}
 use Rattle.image_replies.specs.declared.core_image.CoreFault.{CoreFault}
+use Rattle.line_replies.specs.Line.{SourceView}
 use Rattle.memory_replies.specs.declared.named.Location.{Location}
 use Rattle.script_words.specs.Printing.{hexadecimal}
 use Rattle.case_tables.specs.Table.{left_text}
@@ -41,18 +44,24 @@ abbrev pub function_text : Option Location → Option FileView → ℕ → List 
 function_text None file pc = unnamed_text file pc
 function_text (Some l) file pc = name_text l.name.now ++ (codes "+" ++ hexadecimal l.distance)
 
--- where a frame is: that a signal handler returns there, or a place in a function or a file
+-- the place of a frame: that a signal handler returns there, or a place in a function or a file
 abbrev pub place_text : FrameAnswer → Option FileView → List ℕ
 place_text f file = if f.signal then codes "signal" else function_text f.function file f.pc
 
--- where a frame is, and its file, if that is known
+-- the place of a frame, and its file, if that is known
 abbrev pub where_text : FrameAnswer → Option FileView → List ℕ
 where_text f None = place_text f None
 where_text f (Some m) = left_text 24 (place_text f (Some m)) ++ name_text m.name
 
-abbrev pub frame_row : List FileView → ℕ → FrameAnswer → List ℕ
-frame_row files k f =
-    label_at (codes "frames    ") k ++ (left_text 2 (decimal k) ++ (left_text 14 (hexadecimal f.pc) ++ (where_text f (frame_file files f) ++ 10 ∷ [])))
+-- the source line of a frame, if it is known
+abbrev pub source_text : Option SourceView → List ℕ
+source_text None = []
+source_text (Some s) = codes "  " ++ (name_text s.file ++ (codes ":" ++ decimal s.line))
+
+-- with the source lines of the first frames
+abbrev pub frame_row : List FileView → List (Option SourceView) → ℕ → FrameAnswer → List ℕ
+frame_row files lines k f =
+    label_at (codes "frames    ") k ++ (left_text 2 (decimal k) ++ (left_text 14 (hexadecimal f.pc) ++ (where_text f (frame_file files f) ++ (source_text (line_at lines k) ++ 10 ∷ []))))
 
 -- a line that says that there are so many more
 abbrev pub rest_text : ℕ → List ℕ
@@ -65,7 +74,7 @@ more_text n = if nat_lt 20 n then rest_text (n - 20) else []
 -- at most 20 frames, and why they end
 abbrev pub known_frames : List FileView → FramesAnswer → List ℕ
 known_frames files a =
-    numbered_lines (frame_row files) 0 (take 20 a.frames.items) ++ (more_text (length a.frames.items) ++ (margin ++ stop_line a.stop))
+    numbered_lines (frame_row files (lines_view a)) 0 (take 20 a.frames.items) ++ (more_text (length a.frames.items) ++ (margin ++ stop_line a.stop))
 
 -- the core has no such thread
 abbrev pub frames_text : List FileView → Option FramesAnswer → List ℕ
@@ -91,7 +100,7 @@ pc_place files (Some a) = first_place files a.frames.items
 -- a thread, by its NT_PRSTATUS, and its frames
 abbrev pub thread_text : List FileView → ℕ → List ℕ → Option FramesAnswer → List ℕ
 thread_text files count d frames =
-    codes "thread    " ++ (signed_decimal (status_pid d) ++ (codes " of " ++ (decimal count ++ (codes ", pc " ++ (hexadecimal (pr_reg d 0)
+    codes "thread    " ++ (signed_decimal (status_pid d) ++ (codes " (" ++ (decimal count ++ (codes " in all), pc " ++ (hexadecimal (pr_reg d 0)
     ++ (pc_place files frames ++ (10 ∷ [] ++ frames_text files frames)))))))
 
 -- as many threads as were unwound

@@ -15,7 +15,7 @@ process_line d =
     codes "process   " ++ (signed_decimal (process_pid d) ++ (codes " (parent " ++ (signed_decimal (process_ppid d) ++ (codes "), user "
     ++ (decimal (pr_uid d) ++ (codes ", " ++ (command_text (pr_psargs d) (pr_fname d) ++ 10 ∷ [])))))))
 
--- by its descriptor, or why there is none
+-- by its descriptor, or why there is no descriptor
 abbrev pub process_text : Result (List ℕ) Reason → List ℕ
 process_text (Ok d) = process_line d
 process_text (Err r) = refused_line (codes "process   ") r

@@ -7,11 +7,11 @@ use Rattle.script_words.specs.Printing.{escape, shown_byte}
 abbrev pub quoted_byte : ℕ → List ℕ
 quoted_byte c = if c == 39 then escape c else c ∷ []
 
--- what stands between the quotes: all that a shell hands over, since no quote is among it
+-- the text between the quotes: all that a shell hands over, since no quote is among it
 abbrev pub between_quotes : List ℕ → List ℕ
 between_quotes word = flat_map quoted_byte word
 
--- and what stands there of a byte of a name
+-- the text there of a byte of a name
 abbrev pub quoted_shown : ℕ → List ℕ
 quoted_shown c = between_quotes (shown_byte c)
 

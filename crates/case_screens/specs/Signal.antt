@@ -9,7 +9,7 @@ use Rattle.case_screens.specs.Codes.{CodeView, code_of_signal, sent_code}
 use Rattle.case_screens.specs.Reasons.{Reason}
 use Rattle.case_screens.specs.Texts.{refusal_text}
 
--- a signal by its name, or by its number if it has none
+-- a signal by its name, or by its number if it has no name
 abbrev pub signal_word : Option (List ℕ) → ℤ → List ℕ
 signal_word (Some name) signo = codes "SIG" ++ name
 signal_word None signo = signed_decimal signo
@@ -42,7 +42,7 @@ code_text None d = sent_word (sent_code (si_code d)) (si_code d) ++ (sender_text
 abbrev pub cause_text : List ℕ → List ℕ
 cause_text d = signal_word (name_of_signal (si_signo d)) (si_signo d) ++ (codes ", " ++ code_text (code_of_signal (si_signo d) (si_code d)) d)
 
--- by its descriptor; if it has none, by the facts of the case, and why
+-- by its descriptor; without one, by the facts of the case, and why
 abbrev pub met_or_kept : ℕ → Result (List ℕ) Reason → List ℕ
 met_or_kept signal (Ok d) = cause_text d
 met_or_kept signal (Err r) = signal_text signal ++ (codes ", " ++ refusal_text r)

@@ -5,7 +5,7 @@ use Rattle.std.specs.Str.{bytes_eq}
 use Rattle.script_words.specs.Printing.{shown, shown_byte}
 use Rattle.case_screens.specs.Reasons.{Reason, named}
 
--- what stands before a line that continues the one above it
+-- the text before a line that continues the one above it
 abbrev pub margin : List ℕ
 margin = codes "          "
 
@@ -38,11 +38,11 @@ name_text name = if nat_lt 256 (length name) then shown (take 256 name) ++ more_
 abbrev pub rest_line : List ℕ → ℕ → List ℕ
 rest_line label n = label ++ (more_words n ++ 10 ∷ [])
 
--- the same where more than that many are shown
+-- the same if more than that many are shown
 abbrev pub rest_after : List ℕ → ℕ → ℕ → List ℕ
 rest_after label most n = if nat_lt most n then rest_line label (n - most) else []
 
--- the fields by which a file is of another machine
+-- the fields by which a file belongs to another machine
 abbrev pub is_of_another_machine : List ℕ → Bool
 is_of_another_machine name = bytes_eq name (codes "e_machine") || (bytes_eq name (codes "EI_CLASS") || bytes_eq name (codes "EI_DATA"))
 

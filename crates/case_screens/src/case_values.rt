@@ -11,7 +11,7 @@ use serde_json::{Map, Value, put};
 use std::alloc::{AllocError, Global};
 use thread_regs::threads;
 
-/// A JSON object with the facts of a case that `tell_case_screen` shows: the fields that `list` has, those of its image, and those that are
+/// A JSON object with the facts of a case that `print_case_screen` shows: the fields that `list` has, those of its image, and those that are
 /// found in its memory.
 ///
 /// # Errors

@@ -1,18 +1,20 @@
 // The frames of a thread.
-ghost use Rattle.std.specs.Prelude.{◌≡◌, ◌-◌, Some, find, length, option_map};
+ghost use Rattle.std.specs.Prelude.{◌≡◌, ◌-◌, Some, find, length, map, option_map};
 ghost use Rattle.core_notes.specs.FileList.{is_mapping};
 ghost use Rattle.core_notes.specs.FileWords.{file_view, files_bytes, files_left};
 ghost use Rattle.image_replies.specs.Lines.{numbered_lines};
-ghost use Rattle.script_streams.specs.Replies.{TellsText, telling};
+ghost use Rattle.line_replies.specs.LineWords.{source_view};
+ghost use Rattle.script_streams.specs.Replies.{PrintsText, printing};
 ghost use Rattle.case_screens.specs.Core.{files_in};
 ghost use Rattle.case_screens.specs.Frames as spec;
 
 use crate::reason::no_thread;
-use crate::texts::{MARGIN, room_after, tell_label, tell_left, tell_name, tell_refused};
-use case_tables::tell_spaces;
+use crate::texts::{MARGIN, print_label, print_left, print_name, print_refused, room_after};
+use case_tables::print_spaces;
 use core_notes::{FileMap, FileMaps, Files};
 use crash_signatures::{FrameFacts, MappedFile, Word, word_of};
-use frame_replies::{FrameAnswer, FramesAnswer, tell_stop};
+use frame_replies::{FrameAnswer, FramesAnswer, line_of, print_stop};
+use line_replies::SourceLine;
 use memory_replies::Location;
 use script_streams::{Output, Reply};
 use script_words::{print_decimal, print_hexadecimal};
@@ -21,104 +23,119 @@ use script_words::{print_decimal, print_hexadecimal};
 const MOST: usize = 20;
 
 // Prints the frames of a thread, at most 20, and why they end, if the core has the thread.
-pub(crate) fn tell_frames<O: Output>(
+pub(crate) fn print_frames<O: Output>(
     reply: &mut Reply<'_, O>,
     files: Option<Files<'_>>,
     frames: &Option<FramesAnswer<'_>>,
 )
-    ensures { TellsText (telling O.Output reply.old reply.new) (spec.frames_text (files_in (option_map files_bytes files.entry)) frames.now) }
+    ensures { PrintsText (printing O.Output reply.old reply.new) (spec.frames_text (files_in (option_map files_bytes files.entry)) frames.now) }
 {
     match frames {
-        Some(answer) => tell_known_frames(reply, files, answer),
-        None => tell_refused(reply, b"frames    ", &no_thread()),
+        Some(answer) => print_known_frames(reply, files, answer),
+        None => print_refused(reply, b"frames    ", &no_thread()),
     }
 }
 
-fn tell_known_frames<O: Output>(
+fn print_known_frames<O: Output>(
     reply: &mut Reply<'_, O>,
     files: Option<Files<'_>>,
     answer: &FramesAnswer<'_>,
 )
-    ensures { TellsText (telling O.Output reply.old reply.new) (spec.known_frames (files_in (option_map files_bytes files.entry)) answer.now) }
+    ensures { PrintsText (printing O.Output reply.old reply.new) (spec.known_frames (files_in (option_map files_bytes files.entry)) answer.now) }
 {
     let count = answer.frames.len();
     let (shown, _) = answer.frames.split_at(count.min(MOST));
-    tell_rows(reply, files, shown);
-    tell_more(reply, count);
-    reply.tell(MARGIN);
-    tell_stop(reply, answer.stop);
+    print_rows(reply, files, shown, &answer.lines);
+    print_more(reply, count);
+    reply.print(MARGIN);
+    print_stop(reply, answer.stop);
 }
 
-fn tell_rows<O: Output>(
+fn print_rows<O: Output>(
     reply: &mut Reply<'_, O>,
     files: Option<Files<'_>>,
     frames: &[FrameAnswer<'_>],
+    lines: &[Option<SourceLine>],
 )
-    ensures { TellsText (telling O.Output reply.old reply.new) (numbered_lines (spec.frame_row (files_in (option_map files_bytes files.entry))) 0 frames.now) }
+    ensures { PrintsText (printing O.Output reply.old reply.new) (numbered_lines (spec.frame_row (files_in (option_map files_bytes files.entry)) (map (option_map source_view) lines.now)) 0 frames.now) }
 {
     for (row, frame) in frames.iter().enumerate() {
-        tell_row(reply, files, row, frame);
+        print_row(reply, files, lines, row, frame);
     }
 }
 
-fn tell_row<O: Output>(
+fn print_row<O: Output>(
     reply: &mut Reply<'_, O>,
     files: Option<Files<'_>>,
+    lines: &[Option<SourceLine>],
     row: usize,
     frame: &FrameAnswer<'_>,
 )
-    ensures { TellsText (telling O.Output reply.old reply.new) (spec.frame_row (files_in (option_map files_bytes files.entry)) row frame.now) }
+    ensures { PrintsText (printing O.Output reply.old reply.new) (spec.frame_row (files_in (option_map files_bytes files.entry)) (map (option_map source_view) lines.now) row frame.now) }
 {
-    tell_label(reply, b"frames    ", row);
-    tell_left(reply, 2, print_decimal(row as u128).as_slice());
-    tell_left(
+    print_label(reply, b"frames    ", row);
+    print_left(reply, 2, print_decimal(row as u128).as_slice());
+    print_left(
         reply,
         14,
         print_hexadecimal(u128::from(frame.pc)).as_slice(),
     );
-    tell_where(reply, frame, frame_file(files, frame));
-    reply.tell(b"\n");
+    print_where(reply, frame, frame_file(files, frame));
+    print_source(reply, line_of(lines, row));
+    reply.print(b"\n");
+}
+
+// Prints the source line of a frame, if it is known.
+fn print_source<O: Output>(reply: &mut Reply<'_, O>, line: Option<&SourceLine>)
+    ensures { PrintsText (printing O.Output reply.old reply.new) (spec.source_text (option_map (λ line. source_view line.now) line.entry)) }
+{
+    if let Some(line) = line {
+        reply.print(b"  ");
+        print_name(reply, &line.file);
+        reply.print(b":");
+        reply.print_decimal(u128::from(line.line));
+    }
 }
 
 // Prints the place of a frame: that a signal handler returns there, or a place in a function or in its file.
-pub(crate) fn tell_place<O: Output>(
+pub(crate) fn print_place<O: Output>(
     reply: &mut Reply<'_, O>,
     frame: &FrameAnswer<'_>,
     file: Option<FileMap<'_>>,
 )
-    ensures { TellsText (telling O.Output reply.old reply.new) (spec.place_text frame.now (option_map file_view file.entry)) }
+    ensures { PrintsText (printing O.Output reply.old reply.new) (spec.place_text frame.now (option_map file_view file.entry)) }
 {
     if frame.signal {
-        reply.tell(b"signal");
+        reply.print(b"signal");
     } else {
-        tell_function(reply, frame.function, file, frame.pc);
+        print_function(reply, frame.function, file, frame.pc);
     }
 }
 
-fn tell_function<O: Output>(
+fn print_function<O: Output>(
     reply: &mut Reply<'_, O>,
     function: Option<Location<'_>>,
     file: Option<FileMap<'_>>,
     pc: u64,
 )
-    ensures { TellsText (telling O.Output reply.old reply.new) (spec.function_text function.entry (option_map file_view file.entry) pc) }
+    ensures { PrintsText (printing O.Output reply.old reply.new) (spec.function_text function.entry (option_map file_view file.entry) pc) }
 {
     match function {
         Some(place) => {
-            tell_name(reply, place.name);
-            reply.tell(b"+");
-            reply.tell_hexadecimal(place.distance);
+            print_name(reply, place.name);
+            reply.print(b"+");
+            reply.print_hexadecimal(place.distance);
         }
-        None => tell_unnamed(reply, file, pc),
+        None => print_unnamed(reply, file, pc),
     }
 }
 
-fn tell_unnamed<O: Output>(reply: &mut Reply<'_, O>, file: Option<FileMap<'_>>, pc: u64)
-    ensures { TellsText (telling O.Output reply.old reply.new) (spec.unnamed_text (option_map file_view file.entry) pc) }
+fn print_unnamed<O: Output>(reply: &mut Reply<'_, O>, file: Option<FileMap<'_>>, pc: u64)
+    ensures { PrintsText (printing O.Output reply.old reply.new) (spec.unnamed_text (option_map file_view file.entry) pc) }
 {
     match file {
-        Some(map) => tell_name(reply, &file_place(&map, pc).text),
-        None => reply.tell(b"?"),
+        Some(map) => print_name(reply, &file_place(&map, pc).text),
+        None => reply.print(b"?"),
     }
 }
 
@@ -141,18 +158,18 @@ pub fn file_place(map: &FileMap<'_>, pc: u64) -> Word
 }
 
 // Prints the place of a frame, and its file, if that is known.
-fn tell_where<O: Output>(
+fn print_where<O: Output>(
     reply: &mut Reply<'_, O>,
     frame: &FrameAnswer<'_>,
     file: Option<FileMap<'_>>,
 )
-    ensures { TellsText (telling O.Output reply.old reply.new) (spec.where_text frame.now (option_map file_view file.entry)) }
+    ensures { PrintsText (printing O.Output reply.old reply.new) (spec.where_text frame.now (option_map file_view file.entry)) }
 {
-    tell_place(reply, frame, file);
+    print_place(reply, frame, file);
     if let Some(map) = file {
-        tell_spaces(reply, room_of(frame, &map));
-        reply.tell(b"  ");
-        tell_name(reply, map.name);
+        print_spaces(reply, room_of(frame, &map));
+        reply.print(b"  ");
+        print_name(reply, map.name);
     }
 }
 
@@ -170,21 +187,21 @@ fn room_of(frame: &FrameAnswer<'_>, file: &FileMap<'_>) -> usize
 }
 
 // Prints how many frames are not shown, if any are.
-fn tell_more<O: Output>(reply: &mut Reply<'_, O>, count: usize)
-    ensures { TellsText (telling O.Output reply.old reply.new) (spec.more_text count) }
+fn print_more<O: Output>(reply: &mut Reply<'_, O>, count: usize)
+    ensures { PrintsText (printing O.Output reply.old reply.new) (spec.more_text count) }
 {
     if count > MOST {
-        tell_rest(reply, count - MOST);
+        print_rest(reply, count - MOST);
     }
 }
 
-fn tell_rest<O: Output>(reply: &mut Reply<'_, O>, count: usize)
-    ensures { TellsText (telling O.Output reply.old reply.new) (spec.rest_text count) }
+fn print_rest<O: Output>(reply: &mut Reply<'_, O>, count: usize)
+    ensures { PrintsText (printing O.Output reply.old reply.new) (spec.rest_text count) }
 {
-    reply.tell(MARGIN);
-    reply.tell(b"and ");
-    reply.tell_decimal(count as u128);
-    reply.tell(b" more\n");
+    reply.print(MARGIN);
+    reply.print(b"and ");
+    reply.print_decimal(count as u128);
+    reply.print(b" more\n");
 }
 
 /// The file that is mapped at a frame, if it is known.

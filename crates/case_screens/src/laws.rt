@@ -1,4 +1,4 @@
-//! What people paste is read again.
+//! Pasted text is read again.
 ghost use Rattle.std.specs.Prelude.{◌≡◌, ◌<◌, ℕ, List, Some, length, All};
 ghost use Rattle.script_words.specs.Printing.{shown};
 ghost use Rattle.script_words.specs.Text.{text_of};

@@ -8,8 +8,9 @@ use crate::rows::{number_value, put_text, string_value};
 use address_space::Attached;
 use build_replies::{BuildAnswer, verdict};
 use core_notes::{FileMap, Files};
-use frame_replies::{FrameAnswer, FramesAnswer, stop_fault, stop_name};
+use frame_replies::{FrameAnswer, FramesAnswer, line_of, stop_fault, stop_name};
 use journal_layout::Entry;
+use line_replies::SourceLine;
 use memory_replies::Location;
 use script_words::{print_hex_row, print_hexadecimal};
 use serde_json::{Map, Value, put};
@@ -29,8 +30,10 @@ pub(crate) fn put_frames(
     let mut values = Vec::new(alloc);
     for frame in &answer.frames {
         let mut map = Map::new(alloc);
-        put_frame(alloc, &mut map, values.len(), frame)?;
+        let row = values.len();
+        put_frame(alloc, &mut map, row, frame)?;
         put_frame_file(alloc, &mut map, frame_file(files, frame), frame.pc)?;
+        put_source(alloc, &mut map, line_of(&answer.lines, row))?;
         values.push(Value::Object(map))?;
     }
     put(map, alloc, "frames", Value::Array(values))?;
@@ -74,6 +77,24 @@ fn put_frame_file(
         None => {
             put_text(alloc, map, "file", b"")?;
             put(map, alloc, "offset", Value::Null)
+        }
+    }
+}
+
+// Puts the source line of a frame: the file, and the number of the line.
+fn put_source(
+    alloc: Global,
+    map: &mut Map<String, Value>,
+    source: Option<&SourceLine>,
+) -> Result<(), AllocError> {
+    match source {
+        Some(source) => {
+            put_text(alloc, map, "source", &source.file)?;
+            put(map, alloc, "line", Value::from(source.line))
+        }
+        None => {
+            put(map, alloc, "source", Value::Null)?;
+            put(map, alloc, "line", Value::Null)
         }
     }
 }

@@ -1,9 +1,9 @@
-// What an image says as JSON.
+// The facts of an image as JSON.
 use crate::codes::{code_of_signal, sent_code};
 use crate::reason::{Reason, elf_reason};
 use crate::rows::{put_text, refusal_value, string_value};
 use crate::told_notes::{pc_of, process_of, signal_of};
-use core_notes::SigInfo;
+use core_notes::{PsInfo, SigInfo};
 use elf_view::{ElfFault, Header};
 use image_replies::{CoreFault, CoreImage};
 use script_words::{print_decimal, print_hexadecimal};
@@ -21,25 +21,29 @@ pub(crate) fn process_value(
         Err(reason) => return reason_value(alloc, &reason),
     };
     let mut map = Map::new(alloc);
-    put(&mut map, alloc, "pid", Value::from(process.pr_pid()))?;
-    put(&mut map, alloc, "ppid", Value::from(process.pr_ppid()))?;
-    put(&mut map, alloc, "pgrp", Value::from(process.pr_pgrp()))?;
-    put(&mut map, alloc, "sid", Value::from(process.pr_sid()))?;
-    put(&mut map, alloc, "uid", Value::from(process.pr_uid()))?;
-    put(&mut map, alloc, "gid", Value::from(process.pr_gid()))?;
-    put(&mut map, alloc, "state", Value::from(process.pr_state()))?;
-    put_text(alloc, &mut map, "sname", &[process.pr_sname()])?;
-    put(&mut map, alloc, "zomb", Value::from(process.pr_zomb()))?;
-    put(&mut map, alloc, "nice", Value::from(process.pr_nice()))?;
-    put(
-        &mut map,
-        alloc,
-        "flag",
-        hex_value(alloc, process.pr_flag())?,
-    )?;
-    put_text(alloc, &mut map, "name", process.pr_fname())?;
-    put_text(alloc, &mut map, "args", process.pr_psargs())?;
+    put_process(alloc, &mut map, &process)?;
     Ok(Value::Object(map))
+}
+
+// Puts the numbers and the names of a process into an object.
+fn put_process(
+    alloc: Global,
+    map: &mut Map<String, Value>,
+    process: &PsInfo<'_>,
+) -> Result<(), AllocError> {
+    put(map, alloc, "pid", Value::from(process.pr_pid()))?;
+    put(map, alloc, "ppid", Value::from(process.pr_ppid()))?;
+    put(map, alloc, "pgrp", Value::from(process.pr_pgrp()))?;
+    put(map, alloc, "sid", Value::from(process.pr_sid()))?;
+    put(map, alloc, "uid", Value::from(process.pr_uid()))?;
+    put(map, alloc, "gid", Value::from(process.pr_gid()))?;
+    put(map, alloc, "state", Value::from(process.pr_state()))?;
+    put_text(alloc, map, "sname", &[process.pr_sname()])?;
+    put(map, alloc, "zomb", Value::from(process.pr_zomb()))?;
+    put(map, alloc, "nice", Value::from(process.pr_nice()))?;
+    put(map, alloc, "flag", hex_value(alloc, process.pr_flag())?)?;
+    put_text(alloc, map, "name", process.pr_fname())?;
+    put_text(alloc, map, "args", process.pr_psargs())
 }
 
 // The signal, with the name of its code, or why it is not shown.
@@ -52,22 +56,32 @@ pub(crate) fn cause_value(
         Err(reason) => return reason_value(alloc, &reason),
     };
     let mut map = Map::new(alloc);
-    put(&mut map, alloc, "signo", Value::from(met.si_signo()))?;
+    put_cause(alloc, &mut map, &met)?;
+    Ok(Value::Object(map))
+}
+
+// Puts the signal and its code into an object, and the address or the sender, if they are there.
+fn put_cause(
+    alloc: Global,
+    map: &mut Map<String, Value>,
+    met: &SigInfo<'_>,
+) -> Result<(), AllocError> {
+    put(map, alloc, "signo", Value::from(met.si_signo()))?;
     let name = signal_name(met.si_signo());
-    put(&mut map, alloc, "name", name_value(alloc, name)?)?;
-    put(&mut map, alloc, "errno", Value::from(met.si_errno()))?;
-    put(&mut map, alloc, "code", Value::from(met.si_code()))?;
-    put(&mut map, alloc, "code_name", code_value(alloc, &met)?)?;
+    put(map, alloc, "name", name_value(alloc, name)?)?;
+    put(map, alloc, "errno", Value::from(met.si_errno()))?;
+    put(map, alloc, "code", Value::from(met.si_code()))?;
+    put(map, alloc, "code_name", code_value(alloc, met)?)?;
     if let Some(address) = met.si_addr() {
-        put(&mut map, alloc, "addr", hex_value(alloc, address)?)?;
+        put(map, alloc, "addr", hex_value(alloc, address)?)?;
     }
     if let Some(pid) = met.si_pid() {
-        put(&mut map, alloc, "pid", Value::from(pid))?;
+        put(map, alloc, "pid", Value::from(pid))?;
     }
     if let Some(uid) = met.si_uid() {
-        put(&mut map, alloc, "uid", Value::from(uid))?;
+        put(map, alloc, "uid", Value::from(uid))?;
     }
-    Ok(Value::Object(map))
+    Ok(())
 }
 
 fn name_value(alloc: Global, name: Option<&str>) -> Result<Value, AllocError> {
@@ -87,7 +101,7 @@ fn code_value(alloc: Global, met: &SigInfo<'_>) -> Result<Value, AllocError> {
     }
 }
 
-// Puts a thread's number among the threads, and what its state says.
+// Puts a thread's number among the threads, and the facts of its state.
 pub(crate) fn put_thread(
     alloc: Global,
     map: &mut Map<String, Value>,

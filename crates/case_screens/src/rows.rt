@@ -10,7 +10,7 @@ use serde_json::{Map, Value, put};
 use std::alloc::{AllocError, Global};
 use std::str;
 
-// The first number that a JSON number may not be told as.
+// The first number that may not be printed as a JSON number.
 const TOO_LARGE: u64 = 9_007_199_254_740_992;
 
 /// The rows of a reply as a JSON array of objects, a field for each word, by the forms that they have.
@@ -147,7 +147,7 @@ fn is_none(kind: FieldKind, word: &[u8]) -> bool {
     }
 }
 
-// The name of a type of the auxiliary vector, also if a script has none; or its number.
+// The name of a type of the auxiliary vector, also if a script has no name for it; or its number.
 fn auxv_value(alloc: Global, word: &[u8]) -> Result<Value, AllocError> {
     match auxv_name(word) {
         Some(name) => string_value(alloc, name.as_bytes()),

@@ -23,7 +23,7 @@ pub(crate) struct Field<'a> {
     pub(crate) kind: FieldKind,
 }
 
-// The field that a word of a form is; none if it is a word that the row has as it is.
+// The field that a word of a form is; `None` if it is a word that the row has as it is.
 pub(crate) fn field_of(word: &str) -> Option<Field<'_>> {
     let inner = word.strip_prefix("<")?.strip_suffix(">")?;
     Some(match inner.split_once(':') {

@@ -2,82 +2,82 @@
 ghost use Rattle.std.specs.Prelude.{◌≡◌, ◌+◌, ◌-◌, ◌<◌, ◌≤◌, length};
 ghost use Rattle.std.specs.List.{flat_map};
 ghost use Rattle.case_tables.specs.Table.{left_text};
-ghost use Rattle.script_streams.specs.Replies.{TellsText, telling};
+ghost use Rattle.script_streams.specs.Replies.{PrintsText, printing};
 ghost use Rattle.case_screens.specs.Reasons.{named};
 ghost use Rattle.case_screens.specs.ReasonWords.{reason_view};
 ghost use Rattle.case_screens.specs.Texts.{is_of_another_machine, label_at, more_words, name_text, plain_byte, plain_text, refusal_text, refused_line, rest_after, rest_line, without_space};
 
 use crate::reason::Reason;
-use case_tables::{shown_length, tell_spaces};
+use case_tables::{print_spaces, shown_length};
 use script_streams::{Output, Reply};
 use script_words::print_byte;
 
-// What stands before a line that continues the one above it.
+// The text before a line that continues the one above it.
 pub(crate) const MARGIN: &[u8] = b"          ";
 
 // How many bytes of a name are shown at most.
 const NAME_BYTES: usize = 256;
 
 // Prints a line's label at the first of its rows, and as many spaces at the others.
-pub(crate) fn tell_label<O: Output>(reply: &mut Reply<'_, O>, label: &[u8], row: usize)
-    ensures { TellsText (telling O.Output reply.old reply.new) (label_at label.now row) }
+pub(crate) fn print_label<O: Output>(reply: &mut Reply<'_, O>, label: &[u8], row: usize)
+    ensures { PrintsText (printing O.Output reply.old reply.new) (label_at label.now row) }
 {
     if row == 0 {
-        reply.tell(label);
+        reply.print(label);
     } else {
-        reply.tell(MARGIN);
+        reply.print(MARGIN);
     }
 }
 
 // Prints a text at the left of a column, and two spaces.
-pub(crate) fn tell_left<O: Output>(reply: &mut Reply<'_, O>, width: usize, text: &[u8])
-    ensures { TellsText (telling O.Output reply.old reply.new) (left_text width text.now) }
+pub(crate) fn print_left<O: Output>(reply: &mut Reply<'_, O>, width: usize, text: &[u8])
+    ensures { PrintsText (printing O.Output reply.old reply.new) (left_text width text.now) }
 {
-    reply.tell(text);
-    tell_spaces(reply, width.saturating_sub(text.len()));
-    reply.tell(b"  ");
+    reply.print(text);
+    print_spaces(reply, width.saturating_sub(text.len()));
+    reply.print(b"  ");
 }
 
 // Prints a name as a script prints it: its first bytes, and how many more it has.
-pub(crate) fn tell_name<O: Output>(reply: &mut Reply<'_, O>, name: &[u8])
-    ensures { TellsText (telling O.Output reply.old reply.new) (name_text name.now) }
+pub(crate) fn print_name<O: Output>(reply: &mut Reply<'_, O>, name: &[u8])
+    ensures { PrintsText (printing O.Output reply.old reply.new) (name_text name.now) }
 {
     if name.len() > NAME_BYTES {
-        reply.tell_text(&name[..NAME_BYTES]);
-        tell_more(reply, name.len() - NAME_BYTES);
+        reply.print_text(&name[..NAME_BYTES]);
+        print_more(reply, name.len() - NAME_BYTES);
     } else {
-        reply.tell_text(name);
+        reply.print_text(name);
     }
 }
 
-fn tell_more<O: Output>(reply: &mut Reply<'_, O>, count: usize)
-    ensures { TellsText (telling O.Output reply.old reply.new) (more_words count) }
+fn print_more<O: Output>(reply: &mut Reply<'_, O>, count: usize)
+    ensures { PrintsText (printing O.Output reply.old reply.new) (more_words count) }
 {
-    reply.tell(b".. and ");
-    reply.tell_decimal(count as u128);
-    reply.tell(b" more");
+    reply.print(b".. and ");
+    reply.print_decimal(count as u128);
+    reply.print(b" more");
 }
 
 // Prints how many more there are than that many, if there are more.
-pub(crate) fn tell_rest_after<O: Output>(
+pub(crate) fn print_rest_after<O: Output>(
     reply: &mut Reply<'_, O>,
     label: &[u8],
     most: usize,
     count: usize,
 )
-    ensures { TellsText (telling O.Output reply.old reply.new) (rest_after label.now most count) }
+    ensures { PrintsText (printing O.Output reply.old reply.new) (rest_after label.now most count) }
 {
     if count > most {
-        tell_rest(reply, label, count - most);
+        print_rest(reply, label, count - most);
     }
 }
 
-fn tell_rest<O: Output>(reply: &mut Reply<'_, O>, label: &[u8], count: usize)
-    ensures { TellsText (telling O.Output reply.old reply.new) (rest_line label.now count) }
+fn print_rest<O: Output>(reply: &mut Reply<'_, O>, label: &[u8], count: usize)
+    ensures { PrintsText (printing O.Output reply.old reply.new) (rest_line label.now count) }
 {
-    reply.tell(label);
-    tell_more(reply, count);
-    reply.tell(b"\n");
+    reply.print(label);
+    print_more(reply, count);
+    reply.print(b"\n");
 }
 
 // How many spaces stand in a column of that width after a name, and so many bytes more.
@@ -105,51 +105,51 @@ fn without_space(text: &[u8]) -> &[u8]
 }
 
 // Prints a text for people: its spaces are spaces.
-pub(crate) fn tell_plain<O: Output>(reply: &mut Reply<'_, O>, text: &[u8])
-    ensures { TellsText (telling O.Output reply.old reply.new) (plain_text text.now) }
+pub(crate) fn print_plain<O: Output>(reply: &mut Reply<'_, O>, text: &[u8])
+    ensures { PrintsText (printing O.Output reply.old reply.new) (plain_text text.now) }
 {
     if text.is_empty() {
-        reply.tell(b"-");
+        reply.print(b"-");
     } else {
-        tell_plain_bytes(reply, without_space(text));
+        print_plain_bytes(reply, without_space(text));
     }
 }
 
-fn tell_plain_bytes<O: Output>(reply: &mut Reply<'_, O>, text: &[u8])
-    ensures { TellsText (telling O.Output reply.old reply.new) (flat_map plain_byte text.now) }
+fn print_plain_bytes<O: Output>(reply: &mut Reply<'_, O>, text: &[u8])
+    ensures { PrintsText (printing O.Output reply.old reply.new) (flat_map plain_byte text.now) }
 {
     for byte in text {
-        tell_plain_byte(reply, *byte);
+        print_plain_byte(reply, *byte);
     }
 }
 
-fn tell_plain_byte<O: Output>(reply: &mut Reply<'_, O>, byte: u8)
-    ensures { TellsText (telling O.Output reply.old reply.new) (plain_byte byte) }
+fn print_plain_byte<O: Output>(reply: &mut Reply<'_, O>, byte: u8)
+    ensures { PrintsText (printing O.Output reply.old reply.new) (plain_byte byte) }
 {
     if byte == b' ' {
-        reply.tell(b" ");
+        reply.print(b" ");
     } else {
-        reply.tell(print_byte(byte).as_slice());
+        reply.print(print_byte(byte).as_slice());
     }
 }
 
 /// Prints why something is not shown.
-pub fn tell_refusal<O: Output>(reply: &mut Reply<'_, O>, reason: &Reason<'_>)
-    ensures { TellsText (telling O.Output reply.old reply.new) (refusal_text (reason_view reason.now)) }
+pub fn print_refusal<O: Output>(reply: &mut Reply<'_, O>, reason: &Reason<'_>)
+    ensures { PrintsText (printing O.Output reply.old reply.new) (refusal_text (reason_view reason.now)) }
 {
     let name = reason.name;
     if name == b"Missing".as_slice() {
-        reply.tell(b"not in the core");
+        reply.print(b"not in the core");
     } else if name == b"NoThread".as_slice() {
-        reply.tell(b"the core has no thread");
+        reply.print(b"the core has no thread");
     } else if name == b"Magic".as_slice() {
-        reply.tell(b"no ELF file");
+        reply.print(b"no ELF file");
     } else if is_of_another_machine(name) {
-        reply.tell(b"of another machine: ");
-        tell_named(reply, reason);
+        reply.print(b"of another machine: ");
+        print_named(reply, reason);
     } else {
-        reply.tell(b"damaged: ");
-        tell_named(reply, reason);
+        reply.print(b"damaged: ");
+        print_named(reply, reason);
     }
 }
 
@@ -162,21 +162,21 @@ fn is_of_another_machine(name: &[u8]) -> bool
 }
 
 /// Prints a reason as a script does.
-pub fn tell_named<O: Output>(reply: &mut Reply<'_, O>, reason: &Reason<'_>)
-    ensures { TellsText (telling O.Output reply.old reply.new) (named reason.now.name.now reason.now.index) }
+pub fn print_named<O: Output>(reply: &mut Reply<'_, O>, reason: &Reason<'_>)
+    ensures { PrintsText (printing O.Output reply.old reply.new) (named reason.now.name.now reason.now.index) }
 {
-    reply.tell(reason.name);
+    reply.print(reason.name);
     if let Some(index) = reason.index {
-        reply.tell(b" ");
-        reply.tell_decimal(u128::from(index));
+        reply.print(b" ");
+        reply.print_decimal(u128::from(index));
     }
 }
 
 // Prints a line that says why something is not shown.
-pub(crate) fn tell_refused<O: Output>(reply: &mut Reply<'_, O>, label: &[u8], reason: &Reason<'_>)
-    ensures { TellsText (telling O.Output reply.old reply.new) (refused_line label.now (reason_view reason.now)) }
+pub(crate) fn print_refused<O: Output>(reply: &mut Reply<'_, O>, label: &[u8], reason: &Reason<'_>)
+    ensures { PrintsText (printing O.Output reply.old reply.new) (refused_line label.now (reason_view reason.now)) }
 {
-    reply.tell(label);
-    tell_refusal(reply, reason);
-    reply.tell(b"\n");
+    reply.print(label);
+    print_refusal(reply, reason);
+    reply.print(b"\n");
 }

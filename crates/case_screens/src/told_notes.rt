@@ -58,7 +58,7 @@ pub fn thread_count(core: &CoreImage<'_>) -> u64
     count
 }
 
-// Where execution of a thread was.
+// The address at which execution of a thread was.
 pub(crate) fn pc_of(thread: &Thread<'_>) -> u64
     ensures { result ≡ pr_reg (thread_bytes thread.now) 0 }
 {

@@ -5,7 +5,7 @@ use Rattle.intake.specs.Parts.{Parts}
 use Rattle.windowed_search.specs.Places.{places}
 use Rattle.case_queries.specs.Fronts.{ReadsFront}
 
--- The first bytes of the image of a case are read, and it is known whether these have the sought bytes. If they have not, they are all of its
+-- The first bytes of the image of a case are read, and it is known whether these have the wanted bytes. If they have not, they are all of its
 -- bytes.
 pub record SeesWhether {D : Type 0} (g : disk.Ghosts D) (old : Parts D) (seq size : ℕ) (sought : List ℕ) (has : Bool) (new : Parts D) : Type 0 where
   pub front : List ℕ

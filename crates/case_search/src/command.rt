@@ -14,7 +14,7 @@ use unlocked_reading::{AskFault, Places, Reads, find_cases};
 /// The request that the words of `search` make.
 #[derive(Clone, Copy)]
 pub struct SearchWords<'a> {
-    /// The text that is sought, by its bytes.
+    /// The text to search for, by its bytes.
     pub text: &'a str,
     /// Which cases are searched, and how those that have the text are printed.
     pub list: ListWords<'a>,

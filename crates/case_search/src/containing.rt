@@ -40,7 +40,7 @@ fn read_piece<D: Disk>(
     }
 }
 
-// Reads the next bytes of a case's image, and searches them: the places of the sought bytes that end in them are added.
+// Reads the next bytes of a case's image, and searches them: the places of the wanted bytes that end in them are added.
 fn search_piece<D: Disk>(
     alloc: Global,
     seq: u32,

@@ -1,4 +1,4 @@
--- What a table shows of a case.
+-- The cells of a table for a case.
 use Rattle.std.specs.Prelude.{ℕ, ◌==◌, if◌then◌else◌, List, ◌++◌, Option, Some, None, codes, decimal}
 use Rattle.journal_layout.specs.Case.{Case}
 use Rattle.script_words.specs.Printing.{shown}
@@ -16,7 +16,7 @@ abbrev pub named_signal : Option (List ℕ) → ℕ → List ℕ
 named_signal (Some name) n = codes "SIG" ++ name
 named_signal None n = known_number n
 
--- a signal by its name, or by its number; `-` where there was none
+-- a signal by its name, or by its number; `-` if there was no signal
 abbrev pub signal_text : ℕ → List ℕ
 signal_text n = named_signal (numbered_name n) n
 
@@ -31,7 +31,7 @@ cell Kept c = if c.pinned then codes "pinned" else codes "-"
 cell Name c = shown c.origin.name
 cell Label c = shown c.label
 
--- what a column has at its head
+-- the heading of a column
 abbrev pub heading : Column → List ℕ
 heading Number = codes "CASE"
 heading Time = codes "TIME"

@@ -1,5 +1,5 @@
--- What the values of `list`'s filters say: a signal, and a time.
-use Rattle.std.specs.Prelude.{◌≡◌, ◌≢◌, ◌⊎◌, ℕ, ◌*◌, ◌-◌, ◌^◌, ◌<◌, ◌≤◌, ◌==◌, List, [], ◌∷◌, ◌++◌, Option, None, Some, codes, if◌then◌else◌}
+-- The meaning of the values of `list`'s filters: a signal, and a time.
+use Rattle.std.specs.Prelude.{◌≡◌, ◌≢◌, ◌⊎◌, ℕ, ◌*◌, ◌-◌, ◌%◌, ◌^◌, ◌<◌, ◌≤◌, ◌==◌, List, [], ◌∷◌, ◌++◌, Option, None, Some, codes, if◌then◌else◌}
 use Rattle.std.specs.Option.{option_map}
 use Rattle.script_words.specs.Number.{number_of}
 use Rattle.thread_regs.specs.SignalNames.{numbered_name}
@@ -13,7 +13,7 @@ abbrev pub IsSignal : List ℕ → List ℕ → Option ℕ → Type 0
 IsSignal name text (Some n) = (numbered_name n ≡ Some name) ⊎ (IsNoName name × (number_of text ≡ Some n) × (n < 2 ^ 32))
 IsSignal name text None = IsNoName name × ((n : ℕ) → number_of text ≡ Some n → 2 ^ 32 ≤ n)
 
--- The same where the name may have SIG before it.
+-- The same if the name may have SIG before it.
 pub record SaysSignal (text : List ℕ) (r : Option ℕ) : Type 0 where
   pub prefixed : (name : List ℕ) → text ≡ codes "SIG" ++ name → IsSignal name text r
   pub plain : ((name : List ℕ) → text ≢ codes "SIG" ++ name) → IsSignal text text r
@@ -26,8 +26,15 @@ seconds_in unit =
     else if unit == 104 then Some 3600
     else if unit == 100 then Some 86400 else None
 
--- A time in seconds: what follows `@`, as it stands; or so many units before now, at the earliest the epoch. What a calendar says is left open.
+-- when the day of a time began, in UTC
+abbrev pub day_start : ℕ → ℕ
+day_start t = t - t % 86400
+
+-- A time in seconds: the number after `@`, as it stands; the start of this day or of the one before; or so many units before now. The earliest
+-- is the epoch. The meaning of a calendar date is left open.
 pub record SaysTime (now : Option ℕ) (text : List ℕ) (r : Option ℕ) : Type 0 where
   pub at : (seconds : List ℕ) → text ≡ codes "@" ++ seconds → r ≡ number_of seconds
   pub ago : (count : List ℕ) (unit n k : ℕ) → text ≡ count ++ unit ∷ [] → seconds_in unit ≡ Some k → number_of count ≡ Some n → n * k < 2 ^ 64
       → r ≡ option_map (λ (t : ℕ). t - n * k) now
+  pub today : text ≡ codes "today" → r ≡ option_map day_start now
+  pub yesterday : text ≡ codes "yesterday" → r ≡ option_map (λ (t : ℕ). day_start t - 86400) now

@@ -29,13 +29,13 @@ printed_char c = if is_hidden c then code_escape c else encode_utf8 c
 unfoldable pub printed_json : List ℕ → List ℕ
 printed_json text = flat_map printed_char (chars text)
 
--- what is printed reads back as the value, and its hidden characters are escaped
+-- the printed text reads back as the value, and its hidden characters are escaped
 pub record Prints (d : Data) (printed : List ℕ) : Type 0 where
   pub text : List ℕ
   pub reads : read printed ≡ Some d
   pub escaped : printed ≡ printed_json text
 
--- What is printed of a value: the text that `serde_json` writes, which is known if the value has no float, with its hidden characters
+-- The printed text of a value: the text that `serde_json` writes, which is known if the value has no float, with its hidden characters
 -- escaped. It reads back.
 pub record IsPrinted (d : Data) (printed : List ℕ) : Type 0 where
   pub text : List ℕ

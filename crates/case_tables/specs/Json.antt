@@ -1,4 +1,4 @@
--- What JSON says of a case.
+-- The JSON object of a case.
 use Rattle.std.specs.Prelude.{ℕ, ◌==◌, ◌^◌, ◌&&◌, not, nat_lt, Bool, true, false, List, [], ◌∷◌, ◌++◌, map, Option, Some, None, if◌then◌else◌, codes, decimal}
 use Rattle.std.specs.List.{list_any}
 use Rattle.std.specs.Str.{is_utf8}
@@ -27,7 +27,7 @@ abbrev pub named_json : Option (List ℕ) → ℕ → Data
 named_json (Some name) n = string (codes "SIG" ++ name)
 named_json None n = known_json n
 
--- a signal by its name, or by its number; null where there was none
+-- a signal by its name, or by its number; null if there was no signal
 abbrev pub signal_json : ℕ → Data
 signal_json n = named_json (numbered_name n) n
 
@@ -62,7 +62,7 @@ origin_json c = object (member (codes "host") (part_json (is_escaped c) (host_in
     (member (codes "program") (part_json (is_escaped c) (program_in c))
     (member (codes "user") (found_json (user_in c)) no_members)))
 
--- an object with what is known of a case, its members in the order of their names
+-- an object with the known fields of a case, its members in the order of their names
 abbrev pub case_json : Case → Data
 case_json c = object (member (codes "case") (number (unsigned c.seq))
     (member (codes "escaped") (boolean (is_escaped c))

@@ -1,4 +1,4 @@
--- What the name of a core says of it: `core.USER.HOST.PROGRAM.PID.TIME`, as the handler's template makes it.
+-- The fields in the name of a core: `core.USER.HOST.PROGRAM.PID.TIME`, as the handler's template makes it.
 use Rattle.std.specs.Prelude.{ℕ, ◌+◌, ◌==◌, ◌^◌, ◌&&◌, Bool, false, not, nat_eq, nat_lt, List, [], ◌∷◌, length, drop, Option, None, Some, if◌then◌else◌}
 use Rattle.std.specs.List.{starts_with}
 use Rattle.fair_share.specs.Owners.{program_of, user_of}

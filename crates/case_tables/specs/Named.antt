@@ -24,7 +24,7 @@ later until (Some d) c = if is_core c && nat_le (credible until d.origin.time) (
 abbrev pub latest_core : ℕ → List Case → Option Case
 latest_core until cases = fold (later until) None cases
 
--- the core of the greatest number for `last`, that of the latest time for `latest`, and else the case of this name
+-- the core with the highest number for `last`, the core with the latest time for `latest`, and else the case of this name
 abbrev pub named_case : ℕ → List ℕ → List Case → Option Case
 named_case until word cases =
     if bytes_eq word (codes "last") then find is_core (reverse cases)

@@ -5,7 +5,7 @@ use Rattle.std.specs.Prelude.{ℕ, ◌*◌, ◌/◌, ◌%◌, nat_lt, if◌then�
 abbrev pub in_units : ℕ → ℕ → List ℕ
 in_units unit n = decimal (n / unit) ++ (codes "." ++ decimal (n % unit * 10 / unit))
 
--- bytes in the greatest unit of which there is one: B, KiB, MiB or GiB
+-- bytes in the largest unit of which there is at least one: B, KiB, MiB or GiB
 abbrev pub size_text : ℕ → List ℕ
 size_text n =
     if nat_lt n 1_024 then decimal n ++ codes " B"

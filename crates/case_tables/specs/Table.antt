@@ -7,7 +7,7 @@ use Rattle.case_tables.specs.declared.columns.Column.TheVariants.{Number, Time, 
 use Rattle.case_tables.specs.declared.table.Widths.{Widths}
 use Rattle.case_tables.specs.Cells.{cell, heading}
 
--- the greatest of these numbers, or 0
+-- the highest of these numbers, or 0
 abbrev pub greatest : List ℕ → ℕ
 greatest [] = 0
 greatest (n ∷ ns) = max n (greatest ns)

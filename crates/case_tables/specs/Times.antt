@@ -28,7 +28,7 @@ clock_text n = two_digits (n / 3600) ++ (codes ":" ++ (two_digits (n / 60 % 60) 
 abbrev pub moment_text : Day → ℕ → List ℕ
 moment_text d n = date_text d ++ (codes " " ++ (clock_text n ++ codes "Z"))
 
--- its moment, or where the calendar has no such day `@` and the seconds
+-- its moment, or `@` and the seconds if the calendar has no such day
 abbrev pub dated_text : Option Day → ℕ → List ℕ
 dated_text (Some d) time = moment_text d (time % 86_400)
 dated_text None time = codes "@" ++ decimal time

@@ -1,13 +1,13 @@
 // The columns of a table of cases.
 ghost use Rattle.std.specs.Prelude.{◌≡◌, length, codes, if◌then◌else◌};
 ghost use Rattle.journal_layout.specs.Case.{case_of};
-ghost use Rattle.script_streams.specs.Replies.{TellsText, telling};
+ghost use Rattle.script_streams.specs.Replies.{PrintsText, printing};
 ghost use Rattle.case_tables.specs.Cells.{cell, heading, known_number};
 
-use crate::signals::{signal_length, tell_signal};
-use crate::sizes::{size_length, tell_size};
+use crate::signals::{print_signal, signal_length};
+use crate::sizes::{print_size, size_length};
 use crate::texts::shown_length;
-use crate::times::{tell_time, time_length};
+use crate::times::{print_time, time_length};
 use journal_layout::Entry;
 use script_streams::{Output, Reply};
 use script_words::print_decimal;
@@ -26,7 +26,7 @@ pub(crate) enum Column {
 }
 
 impl Column {
-    // What it has at its head.
+    // The text at its head.
     pub(crate) fn heading(self) -> &'static [u8]
         ensures { result.now ≡ heading self }
     {
@@ -43,23 +43,23 @@ impl Column {
     }
 }
 
-// Tells how a column shows a case.
-pub(crate) fn tell_cell<O: Output>(reply: &mut Reply<'_, O>, column: Column, case: &Entry)
-    ensures { TellsText (telling O.Output reply.old reply.new) (cell column (case_of case.now)) }
+// Prints the cell of a column for a case.
+pub(crate) fn print_cell<O: Output>(reply: &mut Reply<'_, O>, column: Column, case: &Entry)
+    ensures { PrintsText (printing O.Output reply.old reply.new) (cell column (case_of case.now)) }
 {
     match column {
-        Column::Number => reply.tell_decimal(u128::from(case.seq)),
-        Column::Time => tell_time(reply, case.time),
-        Column::Pid => tell_known(reply, case.pid),
-        Column::Signal => tell_signal(reply, case.signal),
-        Column::Size => tell_size(reply, case.length),
-        Column::Kept => reply.tell(kept_word(case.pinned)),
-        Column::Name => reply.tell_text(case.name.as_slice()),
-        Column::Label => reply.tell_text(case.label.as_slice()),
+        Column::Number => reply.print_decimal(u128::from(case.seq)),
+        Column::Time => print_time(reply, case.time),
+        Column::Pid => print_known(reply, case.pid),
+        Column::Signal => print_signal(reply, case.signal),
+        Column::Size => print_size(reply, case.length),
+        Column::Kept => reply.print(kept_word(case.pinned)),
+        Column::Name => reply.print_text(case.name.as_slice()),
+        Column::Label => reply.print_text(case.label.as_slice()),
     }
 }
 
-// How many bytes `tell_cell` tells.
+// How many bytes `print_cell` prints.
 pub(crate) fn cell_length(column: Column, case: &Entry) -> usize
     ensures { result ≡ length (cell column (case_of case.now)) }
 {
@@ -75,18 +75,18 @@ pub(crate) fn cell_length(column: Column, case: &Entry) -> usize
     }
 }
 
-// Tells a number that is known, or `-`.
-pub(crate) fn tell_known<O: Output>(reply: &mut Reply<'_, O>, number: u32)
-    ensures { TellsText (telling O.Output reply.old reply.new) (known_number number) }
+// Prints a number if it is known, else `-`.
+pub(crate) fn print_known<O: Output>(reply: &mut Reply<'_, O>, number: u32)
+    ensures { PrintsText (printing O.Output reply.old reply.new) (known_number number) }
 {
     if number == 0 {
-        reply.tell(b"-");
+        reply.print(b"-");
     } else {
-        reply.tell_decimal(u128::from(number));
+        reply.print_decimal(u128::from(number));
     }
 }
 
-// How many bytes `tell_known` tells.
+// How many bytes `print_known` prints.
 pub(crate) fn known_length(number: u32) -> usize
     ensures { result ≡ length (known_number number) }
 {

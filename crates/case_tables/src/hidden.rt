@@ -8,8 +8,8 @@ use script_words::print_hex_row;
 use serde_json::Value;
 use std::alloc::{AllocError, Global};
 
-/// A value as JSON, as it is printed: what `serde_json` writes, with `\uXXXX` in place of each character that a terminal acts on or does
-/// not show. Such a character stands only in a string, so the same texts are read.
+/// The printed JSON of a value: the text that `serde_json` writes, with `\uXXXX` instead of each character that a terminal acts on or
+/// does not show. Such a character occurs only in a string, so the same texts are read.
 ///
 /// # Errors
 ///

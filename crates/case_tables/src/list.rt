@@ -2,7 +2,7 @@
 ghost use Rattle.std.specs.Prelude.{◌≡◌, ◌==◌, IfOk, List, length, map, not, string_bytes};
 ghost use Rattle.std.specs.List.{flat_map};
 ghost use Rattle.journal_layout.specs.Case.{Case, case_of};
-ghost use Rattle.script_streams.specs.Replies.{TellsText, telling};
+ghost use Rattle.script_streams.specs.Replies.{PrintsText, printing};
 ghost use Rattle.case_tables.specs.Hidden.{Prints};
 ghost use Rattle.case_tables.specs.Json.{cases_json};
 ghost use Rattle.case_tables.specs.Lines.{case_line};
@@ -10,51 +10,51 @@ ghost use Rattle.case_tables.specs.Order.{IsShown};
 ghost use Rattle.case_tables.specs.Table.{list_table};
 ghost use Rattle.case_tables.specs.Wanted.{chosen};
 
-use crate::lines::tell_case_lines;
+use crate::lines::print_case_lines;
 use crate::objects::json_of;
-use crate::table::tell_table;
+use crate::table::print_table;
 use crate::wanted::{Wanted, shown_of};
 use journal_layout::Entry;
 use script_streams::{Output, Reply};
 use std::alloc::{AllocError, Global};
 
-/// Tells the cases that are wanted as a table. Says whether there are any.
+/// Prints the cases that are wanted as a table. Returns whether there are any.
 ///
 /// # Errors
 ///
-/// There is no memory: nothing is told.
-pub fn tell_list<O: Output>(
+/// There is no memory: nothing is printed.
+pub fn print_list<O: Output>(
     alloc: Global,
     reply: &mut Reply<'_, O>,
     cases: &[Entry],
     wanted: &Wanted<'_>,
 ) -> Result<bool, AllocError>
     ensures is_table { IfOk result (λ some. (shown : List Case) × IsShown wanted.now.order (chosen wanted.now (map case_of cases.now)) shown
-        × TellsText (telling O.Output reply.old reply.new) (list_table shown)) }
+        × PrintsText (printing O.Output reply.old reply.new) (list_table shown)) }
     ensures some { IfOk result (λ some. some ≡ not (length (chosen wanted.now (map case_of cases.now)) == 0)) }
 {
     let shown = shown_of(alloc, cases, wanted)?;
-    tell_table(reply, &shown);
+    print_table(reply, &shown);
     Ok(!shown.is_empty())
 }
 
-/// Tells a line of JSON for each case that is wanted: its object, and nothing else. Says whether there are any.
+/// Prints a line of JSON for each case that is wanted: its object, and nothing else. Returns whether there are any.
 ///
 /// # Errors
 ///
-/// There is no memory: the lines of some cases may be told.
-pub fn tell_list_lines<O: Output>(
+/// There is no memory: the lines of some cases may be printed.
+pub fn print_list_lines<O: Output>(
     alloc: Global,
     reply: &mut Reply<'_, O>,
     cases: &[Entry],
     wanted: &Wanted<'_>,
 ) -> Result<bool, AllocError>
     ensures are_lines { IfOk result (λ some. (shown : List Case) × IsShown wanted.now.order (chosen wanted.now (map case_of cases.now)) shown
-        × TellsText (telling O.Output reply.old reply.new) (flat_map case_line shown)) }
+        × PrintsText (printing O.Output reply.old reply.new) (flat_map case_line shown)) }
     ensures some { IfOk result (λ some. some ≡ not (length (chosen wanted.now (map case_of cases.now)) == 0)) }
 {
     let shown = shown_of(alloc, cases, wanted)?;
-    tell_case_lines(alloc, reply, &shown)?;
+    print_case_lines(alloc, reply, &shown)?;
     Ok(!shown.is_empty())
 }
 

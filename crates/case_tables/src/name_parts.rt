@@ -1,4 +1,4 @@
-// What the name of a core says of it: `core.USER.HOST.PROGRAM.PID.TIME`, as the handler's template makes it.
+// The fields in the name of a core: `core.USER.HOST.PROGRAM.PID.TIME`, as the handler's template makes it.
 ghost use Rattle.std.specs.Prelude.{◌≡◌};
 ghost use Rattle.journal_layout.specs.Case.{case_of};
 ghost use Rattle.case_tables.specs.NameParts as spec;

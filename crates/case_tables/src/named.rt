@@ -8,9 +8,9 @@ use journal_layout::{Entry, Kind};
 // The first second of the year 2000. A core from before it was made by a machine whose clock was not set.
 const FIRST_TIME: u64 = 946_684_800;
 
-/// The number of the case that a word names, of cases in the order of their numbers. `last` is the core with the greatest number. `latest` is
-/// the core with the latest time, of those with that time the one with the greatest number; a time before the year 2000, or after `until`,
-/// in seconds since the epoch, counts as 0. Any other word is the name of a case.
+/// The number of the case that a word names, of cases in the order of their numbers. `last` is the core with the highest number. `latest` is
+/// the core with the latest time, of those with that time the one with the highest number; a time before the year 2000, or after `until`, in
+/// seconds since the epoch, counts as 0. Any other word is the name of a case.
 pub fn number_named(cases: &[Entry], word: &[u8], until: u64) -> Option<u32>
     ensures is_named { result ≡ named_number until word.now (map case_of cases.now) }
 {

@@ -17,7 +17,7 @@ use serde_json::{Value, json};
 use std::alloc::{AllocError, Global};
 use std::str;
 
-// The first number that a JSON number may not be told as: many readers of JSON round it.
+// The first number that is too large for a JSON number: many readers of JSON round it.
 const FIRST_LARGE: u64 = 1 << 53;
 
 /// A JSON array of an object for each case, as it is printed.
@@ -43,8 +43,8 @@ fn push_case(alloc: Global, values: &mut Vec<Value>, case: &Entry) -> Result<(),
     Ok(())
 }
 
-/// An object with what is known of a case. If the name or the label is no UTF-8 or has a NUL, both are printed as a script prints them, and
-/// `escaped` says so.
+/// An object with the known fields of a case. If the name or the label is no UTF-8
+/// or has a NUL, both have the form that a script prints, and `escaped` says so.
 ///
 /// # Errors
 ///

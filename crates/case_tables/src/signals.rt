@@ -1,13 +1,13 @@
 // Signals by their names.
 ghost use Rattle.std.specs.Prelude.{◌≡◌, ◌^◌, ◌<◌, ◌≤◌, ℕ, true, false, None, Some, IfSome, length};
 ghost use Rattle.std.specs.Option.{option_copied};
-ghost use Rattle.script_streams.specs.Replies.{TellsText, telling};
+ghost use Rattle.script_streams.specs.Replies.{PrintsText, printing};
 ghost use Rattle.thread_regs.specs.SignalNames.{numbered_name};
 ghost use Rattle.case_tables.specs.Cells.{signal_text};
 ghost use Rattle.case_tables.specs.Filters.{IsNoName, SaysSignal};
 ghost use Rattle.script_words.specs.Number.{number_of};
 
-use crate::columns::{known_length, tell_known};
+use crate::columns::{known_length, print_known};
 use script_streams::{Output, Reply};
 use script_words::parse_number;
 use thread_regs::signal_name;
@@ -25,20 +25,20 @@ pub(crate) fn name_of(signal: u32) -> Option<&'static str>
     signal_name(signal as i32)
 }
 
-/// Tells a signal by its name, or by its number; or `-` for 0.
-pub fn tell_signal<O: Output>(reply: &mut Reply<'_, O>, signal: u32)
-    ensures { TellsText (telling O.Output reply.old reply.new) (signal_text signal) }
+/// Prints a signal by its name, or by its number; or `-` for 0.
+pub fn print_signal<O: Output>(reply: &mut Reply<'_, O>, signal: u32)
+    ensures { PrintsText (printing O.Output reply.old reply.new) (signal_text signal) }
 {
     match name_of(signal) {
         Some(name) => {
-            reply.tell(b"SIG");
-            reply.tell(name.as_bytes());
+            reply.print(b"SIG");
+            reply.print(name.as_bytes());
         }
-        None => tell_known(reply, signal),
+        None => print_known(reply, signal),
     }
 }
 
-// How many bytes `tell_signal` tells.
+// How many bytes `print_signal` prints.
 pub(crate) fn signal_length(signal: u32) -> usize
     ensures { result ≡ length (signal_text signal) }
 {

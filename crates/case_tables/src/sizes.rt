@@ -1,6 +1,6 @@
 // Sizes in words.
 ghost use Rattle.std.specs.Prelude.{◌≡◌, ◌<◌, ◌≤◌, length};
-ghost use Rattle.script_streams.specs.Replies.{TellsText, telling};
+ghost use Rattle.script_streams.specs.Replies.{PrintsText, printing};
 ghost use Rattle.case_tables.specs.Sizes.{in_units, size_text};
 
 use script_streams::{Output, Reply};
@@ -12,37 +12,37 @@ const MIB: u64 = 1_048_576;
 
 const GIB: u64 = 1_073_741_824;
 
-/// Tells a size in bytes, or in the greatest unit of which there is one.
-pub fn tell_size<O: Output>(reply: &mut Reply<'_, O>, size: u64)
-    ensures { TellsText (telling O.Output reply.old reply.new) (size_text size) }
+/// Prints a size in bytes, or in the largest unit of which there is at least one.
+pub fn print_size<O: Output>(reply: &mut Reply<'_, O>, size: u64)
+    ensures { PrintsText (printing O.Output reply.old reply.new) (size_text size) }
 {
     if size < KIB {
-        reply.tell_decimal(u128::from(size));
-        reply.tell(b" B");
+        reply.print_decimal(u128::from(size));
+        reply.print(b" B");
     } else if size < MIB {
-        tell_units(reply, KIB, size);
-        reply.tell(b" KiB");
+        print_units(reply, KIB, size);
+        reply.print(b" KiB");
     } else if size < GIB {
-        tell_units(reply, MIB, size);
-        reply.tell(b" MiB");
+        print_units(reply, MIB, size);
+        reply.print(b" MiB");
     } else {
-        tell_units(reply, GIB, size);
-        reply.tell(b" GiB");
+        print_units(reply, GIB, size);
+        reply.print(b" GiB");
     }
 }
 
-// Tells a size in units, with one decimal, cut.
-fn tell_units<O: Output>(reply: &mut Reply<'_, O>, unit: u64, size: u64)
+// Prints a size in units, with one decimal, rounded down.
+fn print_units<O: Output>(reply: &mut Reply<'_, O>, unit: u64, size: u64)
     requires some { 0 < unit }
     requires fits { unit ≤ 1_073_741_824 }
-    ensures { TellsText (telling O.Output reply.old reply.new) (in_units unit size) }
+    ensures { PrintsText (printing O.Output reply.old reply.new) (in_units unit size) }
 {
-    reply.tell_decimal(u128::from(size / unit));
-    reply.tell(b".");
-    reply.tell_decimal(u128::from(size % unit * 10 / unit));
+    reply.print_decimal(u128::from(size / unit));
+    reply.print(b".");
+    reply.print_decimal(u128::from(size % unit * 10 / unit));
 }
 
-// How many bytes `tell_size` tells.
+// How many bytes `print_size` prints.
 pub(crate) fn size_length(size: u64) -> usize
     ensures { result ≡ length (size_text size) }
 {
@@ -57,7 +57,7 @@ pub(crate) fn size_length(size: u64) -> usize
     }
 }
 
-// How many bytes `tell_units` tells.
+// How many bytes `print_units` prints.
 fn units_length(unit: u64, size: u64) -> usize
     requires some { 0 < unit }
     requires fits { unit ≤ 1_073_741_824 }

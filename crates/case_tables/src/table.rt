@@ -2,11 +2,11 @@
 ghost use Rattle.std.specs.Prelude.{◌≡◌, map};
 ghost use Rattle.std.specs.List.{flat_map};
 ghost use Rattle.journal_layout.specs.Case.{case_of};
-ghost use Rattle.script_streams.specs.Replies.{TellsText, telling};
+ghost use Rattle.script_streams.specs.Replies.{PrintsText, printing};
 ghost use Rattle.case_tables.specs.Cells.{cell, heading};
 ghost use Rattle.case_tables.specs.Table.{width, widths_of, spaces, left_text, right_text, row_text, case_row, list_table};
 
-use crate::columns::{Column, cell_length, tell_cell};
+use crate::columns::{Column, cell_length, print_cell};
 use journal_layout::Entry;
 use script_streams::{Output, Reply};
 
@@ -23,12 +23,12 @@ pub(crate) struct Widths {
 }
 
 /// Prints a table of cases: its heads, and a row for each case. Each column is as wide as it needs to be.
-pub fn tell_table<O: Output>(reply: &mut Reply<'_, O>, cases: &[&Entry])
-    ensures is_table { TellsText (telling O.Output reply.old reply.new) (list_table (map (λ e. case_of e.now) cases.now)) }
+pub fn print_table<O: Output>(reply: &mut Reply<'_, O>, cases: &[&Entry])
+    ensures is_table { PrintsText (printing O.Output reply.old reply.new) (list_table (map (λ e. case_of e.now) cases.now)) }
 {
     let widths = widths_of(cases);
-    tell_heads(reply, widths);
-    tell_rows(reply, widths, cases);
+    print_heads(reply, widths);
+    print_rows(reply, widths, cases);
 }
 
 fn widths_of(cases: &[&Entry]) -> Widths
@@ -56,84 +56,84 @@ fn width(column: Column, cases: &[&Entry]) -> usize
     width
 }
 
-// Tells a row for each case.
-fn tell_rows<O: Output>(reply: &mut Reply<'_, O>, widths: Widths, cases: &[&Entry])
-    ensures { TellsText (telling O.Output reply.old reply.new) (flat_map (case_row widths) (map (λ e. case_of e.now) cases.now)) }
+// Prints a row for each case.
+fn print_rows<O: Output>(reply: &mut Reply<'_, O>, widths: Widths, cases: &[&Entry])
+    ensures { PrintsText (printing O.Output reply.old reply.new) (flat_map (case_row widths) (map (λ e. case_of e.now) cases.now)) }
 {
     for case in cases {
-        tell_row(reply, widths, case);
+        print_row(reply, widths, case);
     }
 }
 
-fn tell_row<O: Output>(reply: &mut Reply<'_, O>, widths: Widths, case: &Entry)
-    ensures { TellsText (telling O.Output reply.old reply.new) (case_row widths (case_of case.now)) }
+fn print_row<O: Output>(reply: &mut Reply<'_, O>, widths: Widths, case: &Entry)
+    ensures { PrintsText (printing O.Output reply.old reply.new) (case_row widths (case_of case.now)) }
 {
-    tell_right(reply, widths.number, Column::Number, case);
-    tell_left(reply, widths.time, Column::Time, case);
-    tell_left(reply, widths.pid, Column::Pid, case);
-    tell_left(reply, widths.signal, Column::Signal, case);
-    tell_left(reply, widths.size, Column::Size, case);
-    tell_left(reply, widths.kept, Column::Kept, case);
-    tell_left(reply, widths.name, Column::Name, case);
-    tell_cell(reply, Column::Label, case);
-    reply.tell(b"\n");
+    print_right(reply, widths.number, Column::Number, case);
+    print_left(reply, widths.time, Column::Time, case);
+    print_left(reply, widths.pid, Column::Pid, case);
+    print_left(reply, widths.signal, Column::Signal, case);
+    print_left(reply, widths.size, Column::Size, case);
+    print_left(reply, widths.kept, Column::Kept, case);
+    print_left(reply, widths.name, Column::Name, case);
+    print_cell(reply, Column::Label, case);
+    reply.print(b"\n");
 }
 
-fn tell_left<O: Output>(reply: &mut Reply<'_, O>, width: usize, column: Column, case: &Entry)
-    ensures { TellsText (telling O.Output reply.old reply.new) (left_text width (cell column (case_of case.now))) }
-{
-    let left = width.saturating_sub(cell_length(column, case));
-    tell_cell(reply, column, case);
-    tell_spaces(reply, left);
-    reply.tell(b"  ");
-}
-
-fn tell_right<O: Output>(reply: &mut Reply<'_, O>, width: usize, column: Column, case: &Entry)
-    ensures { TellsText (telling O.Output reply.old reply.new) (right_text width (cell column (case_of case.now))) }
+fn print_left<O: Output>(reply: &mut Reply<'_, O>, width: usize, column: Column, case: &Entry)
+    ensures { PrintsText (printing O.Output reply.old reply.new) (left_text width (cell column (case_of case.now))) }
 {
     let left = width.saturating_sub(cell_length(column, case));
-    tell_spaces(reply, left);
-    tell_cell(reply, column, case);
-    reply.tell(b"  ");
+    print_cell(reply, column, case);
+    print_spaces(reply, left);
+    reply.print(b"  ");
 }
 
-/// Tells this many spaces.
-pub fn tell_spaces<O: Output>(reply: &mut Reply<'_, O>, count: usize)
-    ensures { TellsText (telling O.Output reply.old reply.new) (spaces count) }
+fn print_right<O: Output>(reply: &mut Reply<'_, O>, width: usize, column: Column, case: &Entry)
+    ensures { PrintsText (printing O.Output reply.old reply.new) (right_text width (cell column (case_of case.now))) }
+{
+    let left = width.saturating_sub(cell_length(column, case));
+    print_spaces(reply, left);
+    print_cell(reply, column, case);
+    reply.print(b"  ");
+}
+
+/// Prints this many spaces.
+pub fn print_spaces<O: Output>(reply: &mut Reply<'_, O>, count: usize)
+    ensures { PrintsText (printing O.Output reply.old reply.new) (spaces count) }
 {
     for _ in 0..count {
-        reply.tell(b" ");
+        reply.print(b" ");
     }
 }
 
-fn tell_heads<O: Output>(reply: &mut Reply<'_, O>, widths: Widths)
-    ensures { TellsText (telling O.Output reply.old reply.new) (row_text widths heading) }
+fn print_heads<O: Output>(reply: &mut Reply<'_, O>, widths: Widths)
+    ensures { PrintsText (printing O.Output reply.old reply.new) (row_text widths heading) }
 {
-    tell_right_head(reply, widths.number, Column::Number);
-    tell_left_head(reply, widths.time, Column::Time);
-    tell_left_head(reply, widths.pid, Column::Pid);
-    tell_left_head(reply, widths.signal, Column::Signal);
-    tell_left_head(reply, widths.size, Column::Size);
-    tell_left_head(reply, widths.kept, Column::Kept);
-    tell_left_head(reply, widths.name, Column::Name);
-    reply.tell(Column::Label.heading());
-    reply.tell(b"\n");
+    print_right_head(reply, widths.number, Column::Number);
+    print_left_head(reply, widths.time, Column::Time);
+    print_left_head(reply, widths.pid, Column::Pid);
+    print_left_head(reply, widths.signal, Column::Signal);
+    print_left_head(reply, widths.size, Column::Size);
+    print_left_head(reply, widths.kept, Column::Kept);
+    print_left_head(reply, widths.name, Column::Name);
+    reply.print(Column::Label.heading());
+    reply.print(b"\n");
 }
 
-fn tell_left_head<O: Output>(reply: &mut Reply<'_, O>, width: usize, column: Column)
-    ensures { TellsText (telling O.Output reply.old reply.new) (left_text width (heading column)) }
+fn print_left_head<O: Output>(reply: &mut Reply<'_, O>, width: usize, column: Column)
+    ensures { PrintsText (printing O.Output reply.old reply.new) (left_text width (heading column)) }
 {
     let head = column.heading();
-    reply.tell(head);
-    tell_spaces(reply, width.saturating_sub(head.len()));
-    reply.tell(b"  ");
+    reply.print(head);
+    print_spaces(reply, width.saturating_sub(head.len()));
+    reply.print(b"  ");
 }
 
-fn tell_right_head<O: Output>(reply: &mut Reply<'_, O>, width: usize, column: Column)
-    ensures { TellsText (telling O.Output reply.old reply.new) (right_text width (heading column)) }
+fn print_right_head<O: Output>(reply: &mut Reply<'_, O>, width: usize, column: Column)
+    ensures { PrintsText (printing O.Output reply.old reply.new) (right_text width (heading column)) }
 {
     let head = column.heading();
-    tell_spaces(reply, width.saturating_sub(head.len()));
-    reply.tell(head);
-    reply.tell(b"  ");
+    print_spaces(reply, width.saturating_sub(head.len()));
+    reply.print(head);
+    reply.print(b"  ");
 }

@@ -1,6 +1,6 @@
 // Times in words.
 ghost use Rattle.std.specs.Prelude.{◌≡◌, ◌<◌, ◌≤◌, length};
-ghost use Rattle.script_streams.specs.Replies.{TellsText, telling};
+ghost use Rattle.script_streams.specs.Replies.{PrintsText, printing};
 ghost use Rattle.case_tables.specs.Times.{two_digits, date_text, day_text, clock_text, moment_text, time_text};
 
 use crate::days::{Day, day_of};
@@ -10,74 +10,74 @@ use script_words::print_decimal;
 // The seconds of a day.
 const DAY: u64 = 86_400;
 
-/// Tells a time in UTC; or `-` for 0; or `@` and the seconds after the year 9999.
-pub fn tell_time<O: Output>(reply: &mut Reply<'_, O>, time: u64)
-    ensures { TellsText (telling O.Output reply.old reply.new) (time_text time) }
+/// Prints a time in UTC; or `-` for 0; or `@` and the seconds after the year 9999.
+pub fn print_time<O: Output>(reply: &mut Reply<'_, O>, time: u64)
+    ensures { PrintsText (printing O.Output reply.old reply.new) (time_text time) }
 {
     if time == 0 {
-        reply.tell(b"-");
+        reply.print(b"-");
         return;
     }
     match day_of(time / DAY) {
-        Some(day) => tell_moment(reply, day, time % DAY),
+        Some(day) => print_moment(reply, day, time % DAY),
         None => {
-            reply.tell(b"@");
-            reply.tell_decimal(u128::from(time));
+            reply.print(b"@");
+            reply.print_decimal(u128::from(time));
         }
     }
 }
 
 /// Prints the day that is so many days after 1970-01-01; or `-` after the year 9999.
-pub fn tell_day<O: Output>(reply: &mut Reply<'_, O>, number: u64)
-    ensures { TellsText (telling O.Output reply.old reply.new) (day_text number) }
+pub fn print_day<O: Output>(reply: &mut Reply<'_, O>, number: u64)
+    ensures { PrintsText (printing O.Output reply.old reply.new) (day_text number) }
 {
     match day_of(number) {
-        Some(day) => tell_date(reply, day),
-        None => reply.tell(b"-"),
+        Some(day) => print_date(reply, day),
+        None => reply.print(b"-"),
     }
 }
 
-// Tells a day and a time of the day.
-fn tell_moment<O: Output>(reply: &mut Reply<'_, O>, day: Day, seconds: u64)
-    ensures { TellsText (telling O.Output reply.old reply.new) (moment_text day seconds) }
+// Prints a day and a time of the day.
+fn print_moment<O: Output>(reply: &mut Reply<'_, O>, day: Day, seconds: u64)
+    ensures { PrintsText (printing O.Output reply.old reply.new) (moment_text day seconds) }
 {
-    tell_date(reply, day);
-    reply.tell(b" ");
-    tell_clock(reply, seconds);
-    reply.tell(b"Z");
+    print_date(reply, day);
+    reply.print(b" ");
+    print_clock(reply, seconds);
+    reply.print(b"Z");
 }
 
-fn tell_date<O: Output>(reply: &mut Reply<'_, O>, day: Day)
-    ensures { TellsText (telling O.Output reply.old reply.new) (date_text day) }
+fn print_date<O: Output>(reply: &mut Reply<'_, O>, day: Day)
+    ensures { PrintsText (printing O.Output reply.old reply.new) (date_text day) }
 {
-    tell_two(reply, u64::from(day.year) / 100);
-    tell_two(reply, u64::from(day.year) % 100);
-    reply.tell(b"-");
-    tell_two(reply, u64::from(day.month));
-    reply.tell(b"-");
-    tell_two(reply, u64::from(day.day));
+    print_two(reply, u64::from(day.year) / 100);
+    print_two(reply, u64::from(day.year) % 100);
+    reply.print(b"-");
+    print_two(reply, u64::from(day.month));
+    reply.print(b"-");
+    print_two(reply, u64::from(day.day));
 }
 
-fn tell_clock<O: Output>(reply: &mut Reply<'_, O>, seconds: u64)
-    ensures { TellsText (telling O.Output reply.old reply.new) (clock_text seconds) }
+fn print_clock<O: Output>(reply: &mut Reply<'_, O>, seconds: u64)
+    ensures { PrintsText (printing O.Output reply.old reply.new) (clock_text seconds) }
 {
-    tell_two(reply, seconds / 3600);
-    reply.tell(b":");
-    tell_two(reply, seconds / 60 % 60);
-    reply.tell(b":");
-    tell_two(reply, seconds % 60);
+    print_two(reply, seconds / 3600);
+    reply.print(b":");
+    print_two(reply, seconds / 60 % 60);
+    reply.print(b":");
+    print_two(reply, seconds % 60);
 }
 
-// Tells the last two digits of a number.
-fn tell_two<O: Output>(reply: &mut Reply<'_, O>, number: u64)
-    ensures { TellsText (telling O.Output reply.old reply.new) (two_digits number) }
+// Prints the last two digits of a number.
+fn print_two<O: Output>(reply: &mut Reply<'_, O>, number: u64)
+    ensures { PrintsText (printing O.Output reply.old reply.new) (two_digits number) }
 {
     let tens = b'0' + (number / 10 % 10) as u8;
     let ones = b'0' + (number % 10) as u8;
-    reply.tell(&[tens, ones]);
+    reply.print(&[tens, ones]);
 }
 
-// How many bytes `tell_time` tells.
+// How many bytes `print_time` prints.
 pub(crate) fn time_length(time: u64) -> usize
     ensures { result ≡ length (time_text time) }
 {

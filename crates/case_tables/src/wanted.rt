@@ -11,7 +11,7 @@ use journal_layout::{Entry, Kind};
 use memchr::memmem;
 use std::alloc::{AllocError, Global};
 
-/// What is wanted of cases. What is absent is not asked; all else has to hold.
+/// The conditions that wanted cases meet. An absent condition is not checked; all others must hold.
 #[derive(Clone, Copy)]
 pub struct Wanted<'a> {
     pub kind: Option<Kind>,
@@ -33,7 +33,7 @@ pub struct Wanted<'a> {
     pub label: Option<&'a [u8]>,
     /// Only pinned cases.
     pub pinned: bool,
-    /// So many of the greatest numbers of those that are left.
+    /// So many of the highest numbers of those that are left.
     pub last: Option<usize>,
     /// In which order a list shows them.
     pub order: Order,

@@ -1,4 +1,5 @@
--- What is unpacked of a case: the executables by the names of the files that they are used for, and which of them is the program.
+-- The contents that are unpacked of a case: the executables by the names of
+-- the files that they are used for, and the one of them that is the program.
 use Rattle.std.specs.Prelude.{ℕ, ◌+◌, List, [], ◌∷◌, ◌++◌, drop, position, take, Option, None, Some}
 use Rattle.std.specs.List.{flat_map, slice_get}
 use Rattle.std.specs.Option.{option_and_then}
@@ -21,7 +22,7 @@ abbrev pub program_at : List NamedCase → Option (List ℕ) → Option ℕ
 program_at files None = None
 program_at files (Some name) = position (λ (f : NamedCase). bytes_eq f.name.now name) files
 
--- what is at an index, if there is something
+-- the item at an index, if there is one
 abbrev pub at_index : {A : Type 0} → List A → Option ℕ → Option A
 at_index xs index = option_and_then (slice_get xs) index
 

@@ -1,4 +1,4 @@
--- What the code keeps of what is unpacked.
+-- The code's record of the contents that are unpacked.
 use Rattle.std.specs.Prelude.{◌≡◌, is_some, map}
 use Rattle.std.specs.List.{list_any}
 use Rattle.unpacked_places.specs.PlaceViews.{file_said, place_said}
@@ -17,7 +17,7 @@ pub record IsPlaced (u : Unpacking) (p : Placed) : Type 0 where
   pub program : p.program ≡ program_at p.named.items (name_kept u.program)
   pub others : p.others.items ≡ but_index p.places.items p.program
 
--- What a debugger has to know of them.
+-- The facts about them that a debugger needs.
 pub record IsDescribed (p : Placed) (u : Unpacking) (d : Unpacked) : Type 0 where
   pub program : d.program ≡ at_index p.places.items p.program
   pub others : d.others.now ≡ p.others.items

@@ -1,4 +1,4 @@
--- The image of a case, copied from a look at its archive on, and how it is told that it was not.
+-- The image of a case, copied from a look at its archive on, and the report if it was not.
 use Rattle.std.specs.Prelude.{◌≡◌, ℕ, List, Option, Result, Ok, Err}
 use Rattle.archive_files.specs.Asking.{unasked}
 use Rattle.archive_files.specs.declared.failures.FileWord.{FileWord}
@@ -29,7 +29,7 @@ abbrev pub CopiesCase : {S : Type 0} (g : shared.Ghosts S) → disk.Ghosts (Unlo
 CopiesCase g U seq start taken count failures (Ok looked) r = (copied : Result (Unit {0}) UnlockedFault) × CopiesUnlocked g U (shared_of looked) seq start taken count failures copied × (r ≡ copied_as copied)
 CopiesCase g U seq start taken count failures (Err refusal) r = (r ≡ Err (Unseen refusal)) × (taken ≡ start) × (failures ≡ count)
 
--- A case that is gone is told as one that was never there.
+-- A case that is gone is reported like one that was never there.
 abbrev pub IsTold : UnlockedFault → Refusal → Type 0
 IsTold (unlocked.Open f) r = r ≡ Open f
 IsTold (unlocked.Archive f) r = r ≡ Call f

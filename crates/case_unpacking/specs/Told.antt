@@ -1,4 +1,4 @@
--- What is printed of what was unpacked.
+-- The text that is printed about the unpacked files.
 use Rattle.std.specs.Prelude.{ℕ, List, ◌++◌, codes, decimal}
 use Rattle.std.specs.List.{flat_map, zip}
 use Rattle.script_words.specs.Printing.{shown}

@@ -2,7 +2,7 @@
 use crate::contents::Placed;
 use crate::copying::copy_to_file;
 use crate::folder::NewFolder;
-use crate::telling::{gdb_text, lldb_text, note_fault, place_text, tell_unpacked};
+use crate::printing::{gdb_text, lldb_text, note_fault, place_text, print_unpacked};
 use archive_files::{ArchivePath, Collected, Failure, Refusal, take_look};
 use case_info::{DebugFile, UnpackedFile, Unpacking, unpacking_of};
 use case_listing::latest_time;
@@ -13,15 +13,16 @@ use std::rt::Files;
 use std::str;
 use std::time::Clock;
 
-/// Writes a case into a new folder: the image of a core, the executables that are used for its mapped files, their debug files, and the
-/// commands by which GDB and LLDB open them. Of an executable it is that alone. The folder has its name only once all is whole and
-/// durable, and each case was found again: until then it is called DIR.part, and what fails leaves neither. For each executable the
-/// number of its case and its place are printed then. The case is named by its number, by its name, or as `last` or
+/// Writes a case into a new directory: the image of a core, the executables that are used for its mapped files, their debug files, and
+/// the commands by which GDB and LLDB open them. For an executable it writes only that. The directory has its name only once all is
+/// whole and durable, and each case was found again: until then it is called DIR.part, and a failure leaves neither. For each
+/// executable the number of its case and its place are printed then. The case is named by its number, by its name, or as `last` or
 /// `latest`.
 ///
 /// # Errors
 ///
-/// `BadLine`: the folder has no name. `File`: DIR or DIR.part is there, or a file could not be made. The refusals of `take_look` of
+/// `BadLine`: the directory has no name. `File`: DIR or DIR.part is there, or a file could not be made. The refusals of `take_look`
+/// of
 /// `archive_files` and of an opening. `NoCase`: there is no such case, or one was deleted meanwhile. `OutOfMemory` and `Disk`.
 /// `WriteFailed` if the output failed.
 pub fn unpack<R: AllocGlobal + Files<File = File> + Clock, O: Output, W: Onlooker>(
@@ -42,7 +43,7 @@ pub fn unpack<R: AllocGlobal + Files<File = File> + Clock, O: Output, W: Onlooke
     onlooker.end();
     made?;
     note_fault(rt.alloc(), &unpacking, note);
-    Ok(tell_unpacked(
+    Ok(print_unpacked(
         &placed.named,
         &placed.places,
         folder.path().as_bytes(),
@@ -50,7 +51,7 @@ pub fn unpack<R: AllocGlobal + Files<File = File> + Clock, O: Output, W: Onlooke
     )?)
 }
 
-// Makes the folder, and gives it its name.
+// Makes the directory, and gives it its name.
 fn make<R: AllocGlobal + Files<File = File>, W: Onlooker>(
     rt: &R,
     place: ArchivePath<'_>,

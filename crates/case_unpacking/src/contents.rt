@@ -1,4 +1,4 @@
-// What is unpacked of a case, and where.
+// The contents that are unpacked of a case, and their places.
 ghost use Rattle.std.specs.Prelude.{◌≡◌, ◌++◌, IfOk, OnOk, Some, is_some, map};
 ghost use Rattle.std.specs.List.{list_any};
 ghost use Rattle.case_info.specs.Unpacking.{name_kept, unpacked_view};
@@ -38,7 +38,7 @@ impl<'a> Placed<'a> {
         })
     }
 
-    // What a debugger has to know.
+    // The facts that a debugger needs.
     pub(crate) fn described(&'a self, unpacking: &Unpacking) -> Unpacked<'a>
         ensures { IsDescribed self.now unpacking.now result }
     {

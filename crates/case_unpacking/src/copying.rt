@@ -20,7 +20,7 @@ use std::io::ErrorKind;
 use std::rt::Files;
 use unlocked_reading::{AskFault, UnlockedFault, copy_unlocked};
 
-// What people are told of the folder as, and of what it is called until it is whole.
+// The word for the directory in reports, also while it has its name until it is whole.
 pub(crate) const FOLDER: FileWord = FileWord::Folder;
 
 pub(crate) const PART: FileWord = FileWord::FolderPart;
@@ -48,7 +48,7 @@ pub(crate) fn synced(file: &File) -> Result<(), Refusal> {
         .map_err(|_| Refusal::File(FOLDER, FileFault::Sync))
 }
 
-// Copies the image of a case to an output, and shows an onlooker how far it is.
+// Copies the image of a case to an output, and shows an onlooker its progress.
 fn copy_counted<R: AllocGlobal + Files<File = File>, O: Output, W: Onlooker>(
     rt: &R,
     place: ArchivePath<'_>,
@@ -88,7 +88,7 @@ enum Uncopied {
     Copy(UnlockedFault),
 }
 
-// How it is told that an image was not copied. A write of its file failed for that reason, if one failed.
+// The report that an image was not copied. A write of its file failed for that reason, if one failed.
 fn refusal_of(fault: Uncopied, why: Option<ErrorKind>) -> Refusal
     ensures { IsToldOf fault result }
 {

@@ -1,5 +1,5 @@
-// A new folder, which gets its name once all files in it are whole and durable. No clause says what a call of the operating system does:
-// so this file has to be read.
+// A new directory, which gets its name once all files in it are whole and durable. No clause can describe a call of the operating
+// system, so this file must be read with care.
 use crate::copying::{FOLDER, PART, synced, unwritten};
 use archive_files::{FileWord, Refusal};
 use disk_model::FileFault;
@@ -11,19 +11,19 @@ use std::rt::Files;
 use std::{fs, io};
 use whole_files::folder_of;
 
-// The rights of what is made: those of its owner alone.
+// The rights of the files and directories that are made: those of their owner alone.
 const FOLDER_RIGHTS: u32 = 0o700;
 
 const FILE_RIGHTS: u32 = 0o600;
 
-// What was made, in the order in which it was made.
+// The files and directories that were made, in order.
 #[derive(Drop)]
 struct Made {
     path: String,
     is_folder: bool,
 }
 
-// A folder that is called DIR.part until it is whole, and then DIR.
+// A directory that is called DIR.part until it is whole, and then DIR.
 #[derive(Drop)]
 pub(crate) struct NewFolder<'a, R: Files<File = File>> {
     rt: &'a R,
@@ -34,8 +34,8 @@ pub(crate) struct NewFolder<'a, R: Files<File = File>> {
 }
 
 impl<'a, R: AllocGlobal + Files<File = File>> NewFolder<'a, R> {
-    // A folder that is to have this path. Nothing is made yet. What has the path is refused, and so is what has that of DIR.part: a
-    // command was stopped that made it.
+    // A directory that is to have this path. Nothing is made yet. A path that exists is refused, and so is an existing DIR.part,
+    // which a command that was stopped has left.
     pub(crate) fn at(rt: &'a R, path: &'a str) -> Result<NewFolder<'a, R>, Refusal> {
         let path = path.trim_end_matches('/');
         if path.is_empty() {
@@ -58,18 +58,18 @@ impl<'a, R: AllocGlobal + Files<File = File>> NewFolder<'a, R> {
         })
     }
 
-    // The path of the folder.
+    // The path of the directory.
     pub(crate) fn path(&self) -> &'a str {
         self.path
     }
 
-    // Makes the folder itself.
+    // Makes the directory itself.
     pub(crate) fn begin(&mut self) -> Result<(), Refusal> {
         let part = String::from_str(self.alloc, self.part.as_str())?;
         self.make_folder(part)
     }
 
-    // Makes an empty file at a place, and the folders on its path; `None` if it was made before. Nothing that is there is opened.
+    // Makes an empty file at a place, and the directories on its path; `None` if it was made before. No existing file is opened.
     pub(crate) fn make_file(&mut self, place: &str) -> Result<Option<File>, Refusal> {
         let path = self.path_of(place)?;
         if self.has(path.as_str()) {
@@ -104,7 +104,7 @@ impl<'a, R: AllocGlobal + Files<File = File>> NewFolder<'a, R> {
         }
     }
 
-    // Makes all that was made durable, and gives the folder its name. It is removed if that fails.
+    // Makes all that was made durable, and gives the directory its name. It is removed if that fails.
     pub(crate) fn give_name(&mut self) -> Result<(), Refusal> {
         if let Err(refusal) = self.rename() {
             self.remove();
@@ -137,7 +137,7 @@ impl<'a, R: AllocGlobal + Files<File = File>> NewFolder<'a, R> {
         fs::rename(self.rt, self.part.as_str(), self.path).map_err(named)
     }
 
-    // Makes the names in a folder that was made durable.
+    // Makes the names in a directory that was made durable.
     fn sync_made(&self, made: &Made) -> Result<(), Refusal> {
         if !made.is_folder {
             return Ok(());
@@ -159,7 +159,7 @@ impl<'a, R: AllocGlobal + Files<File = File>> NewFolder<'a, R> {
         self.made.iter().any(|made| made.path.as_str() == path)
     }
 
-    // Makes the folders on the path of a place.
+    // Makes the directories on the path of a place.
     fn make_folders(&mut self, place: &str) -> Result<(), Refusal> {
         for end in 0..place.len() {
             if let Some((folder, rest)) = place.split_at_checked(end) {
@@ -169,7 +169,7 @@ impl<'a, R: AllocGlobal + Files<File = File>> NewFolder<'a, R> {
         Ok(())
     }
 
-    // Makes a folder, if it is one and was not made before.
+    // Makes a directory, if it is one and was not made before.
     fn make_if(&mut self, folder: &str, is_folder: bool) -> Result<(), Refusal> {
         if !is_folder {
             return Ok(());
@@ -197,12 +197,12 @@ impl<'a, R: AllocGlobal + Files<File = File>> NewFolder<'a, R> {
     }
 }
 
-// The folder is refused.
+// The directory is refused.
 fn refused(error: io::Error) -> Refusal {
     Refusal::File(FOLDER, FileFault::from(error))
 }
 
-// The folder was not renamed: what has come under its name meanwhile stays, unless that is an empty folder.
+// The directory was not renamed: whatever has come under its name meanwhile stays, unless that is an empty directory.
 fn named(error: io::Error) -> Refusal {
     match error.kind() {
         io::ErrorKind::DirectoryNotEmpty | io::ErrorKind::NotADirectory => {

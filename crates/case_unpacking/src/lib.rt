@@ -1,10 +1,10 @@
-//! `unpack`: a case, its executables and the commands of debuggers, in a new folder.
+//! `unpack`: a case, its executables and the commands of debuggers, in a new directory.
 #![tactic(auto)]
 
 mod command;
 mod contents;
 mod copying;
 mod folder;
-mod telling;
+mod printing;
 
 pub use command::unpack;

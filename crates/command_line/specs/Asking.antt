@@ -38,7 +38,7 @@ use Rattle.command_line.specs.declared.store_words.GivenStore.{GivenStore}
 
 -- ---- Words that several commands have.
 
--- the text of a word that has to be there
+-- the text of a word that must be there
 abbrev pub text_said : Given → List ℕ → List ℕ
 text_said given name = unwrap_or (text_in given name) []
 
@@ -51,7 +51,7 @@ pub record IsShape (given : Given) (shape : Shape) : Type 0 where
 abbrev pub labels_said : Given → Bool
 labels_said given = option_map_or (λ version. version == 2) (number_in given (codes "layout")) false
 
--- what an archive that is made is to be
+-- the wanted form of an archive that is made
 pub record IsNew (given : Given) (wanted : NewArchive) : Type 0 where
   pub shape : IsShape given wanted.shape
   pub labels : wanted.keeps_labels ≡ labels_said given
@@ -85,7 +85,7 @@ pub record AreSettings (given : Given) (settings : SessionWords) : Type 0 where
 abbrev pub naming_by : SessionWords → Bool → Naming
 naming_by settings by_build = record { template = record { bytes = record { items = settings.template.now } }; uses_pid = settings.uses_pid; by_build = by_build }
 
--- what stands under a name is what clap found there
+-- the value under a name is the one that clap found there
 abbrev pub found_under : named.Ghosts Given
 found_under = record {
   stands = λ words name value. value ≡ text_in words name;
@@ -131,7 +131,7 @@ pub record IsLine (given : Given) (line : AskedLine) : Type 0 where
   pub form : line.form ≡ form_said given
   pub by_build : line.by_build ≡ flag_in given (codes "builds")
 
--- ---- What `list` is to show.
+-- ---- The cases that `list` is to show.
 
 -- `--kind`: the kind that it names, if it is there
 abbrev pub IsKind : Option (List ℕ) → Option Kind → Type 0
@@ -172,7 +172,7 @@ pub record IsListed (given : Given) (words : ListWords) : Type 0 where
   pub json : words.is_json ≡ flag_in given (codes "json")
   pub lines : words.by_lines ≡ flag_in given (codes "json-lines")
 
--- ---- What `prune` is to drop.
+-- ---- The cases that `prune` is to drop.
 
 -- The limits of the cores that stay, each as its word says it, and whether the cases are deleted.
 pub record IsPruned (given : Given) (words : PruneWords) : Type 0 where
@@ -251,6 +251,6 @@ IsAskedBy given (asked.Handle words) =
     (given.command.now ≡ codes "handle") × (handle : GivenHandle) × IsGivenToHandle found_under given handle × (handle.words.now ≡ given.words.items) × Handles handle words
 IsAskedBy given other = (archive : ArchivePath) × IsPlace given archive × IsOver given archive other
 
--- What words ask for: those of the command that they give; and whether `--quiet` is there.
+-- The request of words: that of the command that they give; and whether `--quiet` is there.
 abbrev pub AreAsked : List (List ℕ) → Asked × Bool → Type 0
 AreAsked words read = (given : Given) × IsRead words given × IsAskedBy given read.0 × (read.1 ≡ flag_in given (codes "quiet"))

@@ -132,7 +132,7 @@ pub record AsksFor (given : GivenStore) (words : StoreWords) : Type 0 where
   pub fit : words.options.fit ≡ given.fit
   -- and in which order
   pub order : words.options.order ≡ order_of given.fair
-  -- what has more bytes than the limit, or finds no room, is kept up to there
+  -- a stream that has more bytes than the limit, or finds no room, is kept up to there
   pub cut : words.options.cut ≡ (if given.cut then Some given.settings.limit else None)
   -- how many bytes it has
   pub length : number_said (option_copied given.length) ≡ Ok words.options.length
@@ -159,11 +159,11 @@ abbrev pub found_under : Naming → Option (List ℕ) → Result StreamFacts (Li
 found_under naming None found = found
 found_under naming (Some line) found = named_as found (line_stream naming (said line))
 
--- A core's name is given, and another word names the case, or it goes by way of a spool, which keeps no name.
+-- A core's name is given although another word names the case, or although it goes through a spool, which keeps no name.
 abbrev pub is_named_twice : GivenStore → Bool
 is_named_twice given = is_some given.name && (is_some given.exec || is_some given.spool)
 
--- What `store` asks for.
+-- The request of `store`.
 pub record Asks (given : GivenStore) (request : StoreRequest) : Type 0 where
   pub words : StoreWords
   pub asked : AsksFor given words
@@ -263,11 +263,11 @@ abbrev pub id_said : Option (List ℕ) → Result (Option (List ℕ)) Refusal
 id_said None = Ok None
 id_said (Some word) = id_within (needle_of word)
 
--- A word says what FILE is, or that it may be cut, though its build says so.
+-- A word gives the kind of FILE, or that it may be cut, though its build gives that.
 abbrev pub is_said_twice : GivenStore → Bool
 is_said_twice given = is_some given.exec || (is_some given.name || (not (length given.pairs.now == 0) || given.cut))
 
--- What `store --build` asks for: what `store` does without the name of an executable, pairs and a cut.
+-- The request of `store --build`: that of `store` without the name of an executable, pairs and a cut.
 pub record AsksForBuild (given : GivenStore) (build : BuildRequest) : Type 0 where
   pub words : StoreWords
   pub asked : AsksFor given words
@@ -275,7 +275,7 @@ pub record AsksForBuild (given : GivenStore) (build : BuildRequest) : Type 0 whe
   pub options : build.options ≡ words.options
   pub naming : build.naming ≡ named_by given.settings.template.now given.settings.uses_pid
   pub limit : build.limit ≡ given.settings.limit
-  -- the build that it has to be of, and whether it is a debug file, whatever it is
+  -- the build ID that it must have, and whether it is a debug file, whatever it is
   pub id : id_said (option_copied given.id) ≡ Ok (option_map (λ (i : ArrayVec ℕ). i.items) build.id)
   pub is_debug : build.is_debug ≡ given.is_debug
   pub alone : is_said_twice given ≡ false
@@ -284,7 +284,7 @@ pub record AsksForBuild (given : GivenStore) (build : BuildRequest) : Type 0 whe
 abbrev pub IsBuildRefused : GivenStore → Refusal → Type 0
 IsBuildRefused given why = ((why ≡ BadLine) × ((is_said_twice given ≡ true) ⊎ (id_said (option_copied given.id) ≡ Err BadLine))) ⊎ IsRefused given why
 
--- What `store --build` asks for over this archive.
+-- The request of `store --build` over this archive.
 pub record AsksToStoreBuild (given : GivenStore) (archive : ArchivePath) (asked : Asked) : Type 0 where
   pub is_build : given.build ≡ true
   pub file : Bor (List ℕ)
@@ -308,7 +308,7 @@ pub record AsksToStore (given : GivenStore) (archive : ArchivePath) (asked : Ask
   pub spooled : IsSpooled given (spool_said given) spool
   pub same : asked ≡ Store archive file stall request given.log spool
 
--- What `store` asks for: by its build, or as the words say.
+-- The request of `store`: by its build, or by its words.
 abbrev pub AsksOfStore : GivenStore → ArchivePath → Asked → Type 0
 AsksOfStore given archive (Store place file stall request log spool) = AsksToStore given archive (Store place file stall request log spool)
 AsksOfStore given archive (StoreBuild place file build log) = AsksToStoreBuild given archive (StoreBuild place file build log)
@@ -348,7 +348,7 @@ abbrev pub or_else : Option (List ℕ) → Option (List ℕ) → Option (List �
 or_else None other = other
 or_else (Some value) other = Some value
 
--- What states a length: the last pair that states one, or else the option.
+-- The word that states a length: the last pair that states one, or else the option.
 abbrev pub IsStatedBy : Option (List ℕ) → List (Bor (List ℕ)) → Option (List ℕ) → Type 0
 IsStatedBy option [] stated = stated ≡ option
 IsStatedBy option (pair ∷ pairs) stated = (value : Option (List ℕ)) × IsLengthIn pair.now value × IsStatedBy (or_else value option) pairs stated
@@ -390,7 +390,7 @@ pub record IsGivenToHandle {W : Type 0} (g : named.Ghosts W) (words : W) (given 
   pub is_check : g.stated words (codes "check") given.is_check
   pub is_flush : g.stated words (codes "flush") given.is_flush
 
--- What `handle` asks for.
+-- The request of `handle`.
 pub record Handles (given : GivenHandle) (asked : HandleWords) : Type 0 where
   pub config : option_copied asked.config ≡ config_of given.words.now
   pub archive : option_copied asked.archive ≡ option_copied given.archive
@@ -398,9 +398,9 @@ pub record Handles (given : GivenHandle) (asked : HandleWords) : Type 0 where
   pub stated : Option (List ℕ)
   pub states : IsStatedBy (option_copied given.length) (pairs_beside given.words.now) stated
   pub length : asked.length ≡ length_of stated
-  -- what states a length, and is no number
+  -- the word that states a length, and is no number
   pub faulty : option_copied asked.faulty_length ≡ (if is_some asked.length then None else stated)
-  -- for how many seconds the input may give nothing, and what states that and is no number
+  -- for how many seconds the input may give nothing, and the word that states that and is no number
   pub stall : asked.stall ≡ length_of (option_copied given.stall)
   pub faulty_stall : option_copied asked.faulty_stall ≡ (if is_some asked.stall then None else option_copied given.stall)
   -- the core size that the process allows, and its dump mode

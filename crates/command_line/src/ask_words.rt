@@ -19,10 +19,10 @@ use std::alloc::{AllocError, Global};
 // The most bytes of a line of a script.
 const LONGEST_LINE: usize = 1024;
 
-// The words of a line whose rows may be told as JSON.
+// The words of a line whose rows may be printed as JSON.
 const ROWS: &str = "--json LINE, a line that asks an image; corekeep list --json tells the cases";
 
-// The words of a line whose memory may be told as words.
+// The words of a line whose memory may be printed as words.
 const DUMP: &str = "dump N ADDR LEN --words";
 
 // The words of a line that takes a text.
@@ -117,7 +117,7 @@ impl AskedLine<'_> {
     }
 }
 
-// Each of them has to be text.
+// Each of them must be text.
 pub(crate) fn check_all(words: &[&str]) -> Result<(), Refusal>
     ensures refused { IfErr result IsUnspelled }
 {

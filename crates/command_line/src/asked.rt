@@ -83,7 +83,7 @@ pub(crate) enum Asked<'a> {
         archive: ArchivePath<'a>,
         cases: Vec<&'a str>,
     },
-    // A case, its executables and the commands of a debugger, in a new folder.
+    // A case, its executables and the commands of a debugger, in a new directory.
     Unpack {
         archive: ArchivePath<'a>,
         case: &'a str,
@@ -125,12 +125,12 @@ pub(crate) enum Asked<'a> {
         archive: ArchivePath<'a>,
         wanted: GroupsWords<'a>,
     },
-    // A page of cases, or of the archive if there are none.
+    // A page of cases, or of the archive if no cases are named.
     Report {
         archive: ArchivePath<'a>,
         cases: Vec<&'a str>,
     },
-    // What one line of a script asks, and its reply. Without a question its second word names a case.
+    // The question of one line of a script, and its reply. Without a question its second word names a case.
     Ask {
         archive: ArchivePath<'a>,
         line: AskedLine<'a>,
@@ -172,7 +172,7 @@ pub(crate) enum Asked<'a> {
 }
 
 impl<'a> Asked<'a> {
-    // The path of the file, or of the folder, that is made, if one is.
+    // The path of the file or the directory that is made, if one is.
     pub(crate) fn made(&self) -> Option<&'a str> {
         match self {
             Asked::Format { archive, .. } => Some(*archive),
@@ -389,7 +389,7 @@ fn keeps_labels(given: &Given<'_>) -> bool
     }
 }
 
-// The text of a word that has to be there.
+// The text of a word that must be there.
 fn text_of<'a>(given: &Given<'a>, name: &str) -> Result<&'a str, Refusal>
     ensures same { IfOk result (λ text. text.now ≡ asking.text_said given.now name.now) }
     ensures refused { IfErr result IsUnspelled }
@@ -408,7 +408,7 @@ pub(crate) fn text_if<'a>(given: &Given<'a>, name: &str) -> Result<Option<&'a st
     }
 }
 
-// The words that may be there several times, each of which has to be text.
+// The words that may be there several times, each of which must be text.
 fn cases_of<'a>(alloc: Global, given: &Given<'a>) -> Result<Vec<&'a str>, Refusal>
     ensures same { IfOk result (λ cases. map (λ case. case.now) cases.items ≡ words_in given.now) }
     ensures refused { IfErr result IsUnspelled }
@@ -420,7 +420,7 @@ fn cases_of<'a>(alloc: Global, given: &Given<'a>) -> Result<Vec<&'a str>, Refusa
     }
 }
 
-// A word that has to be text.
+// A word that must be text.
 pub(crate) fn checked<'a>(word: &'a str) -> Result<&'a str, Refusal>
     ensures same { IfOk result (λ text. text.now ≡ word.entry.now) }
     ensures refused { IfErr result IsUnspelled }

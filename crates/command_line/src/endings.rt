@@ -1,16 +1,16 @@
 // Why the program ends with a status other than 0, and how it says so.
 ghost use Rattle.std.specs.Prelude.{◌≡◌, ◌≤◌};
 
-use archive_files::{Failure, Refusal, reason_of, tell_failure};
+use archive_files::{Failure, Refusal, print_failure, reason_of};
 use command_words::{
-    Context, Unread, meaning_when, tell_how_it_is_asked, tell_meaning, tell_no_line,
+    Context, Unread, meaning_when, print_how_it_is_asked, print_meaning, print_no_line,
 };
 use diagnostics::Trouble;
 use line_help::LineHelp;
 use script_streams::{Output, Reply, write_whole};
 use std::alloc::{AllocError, Global};
 
-// Why the program did not do what its words ask for.
+// Why the program did not carry out the command.
 #[derive(Drop)]
 pub(crate) enum Ending {
     // The words ask for this help.
@@ -64,9 +64,9 @@ pub(crate) struct Clues<'a> {
     pub(crate) trouble: Option<Trouble>,
 }
 
-// Says why the program ends so, and answers its status. The meaning of a reason is shown to people. Help is no failure: it goes to the
+// Prints why the program ends, and returns its status. The meaning of a reason is shown to people. Help is no failure: it goes to the
 // output, and the status is 0.
-pub(crate) fn tell_ending<O: Output, E: Output>(
+pub(crate) fn print_ending<O: Output, E: Output>(
     alloc: Global,
     ending: &Ending,
     clues: Clues<'_>,
@@ -84,29 +84,29 @@ pub(crate) fn tell_ending<O: Output, E: Output>(
         Ending::Wrong(text) => {
             let _ = write_whole(errors, text.as_bytes());
             if let Some(line) = clues.line {
-                tell_how_it_is_asked(line, errors);
+                print_how_it_is_asked(line, errors);
             }
             2
         }
         Ending::Failed(failure) => {
-            tell_why(alloc, failure, clues, errors);
-            tell_failure(alloc, failure, output, errors)
+            print_why(alloc, failure, clues, errors);
+            print_failure(alloc, failure, output, errors)
         }
     }
 }
 
 // Explains the reason of a refusal to people.
-fn tell_why<E: Output>(alloc: Global, failure: &Failure, clues: Clues<'_>, errors: &mut E) {
+fn print_why<E: Output>(alloc: Global, failure: &Failure, clues: Clues<'_>, errors: &mut E) {
     match failure {
-        Failure::Refused(Refusal::NoLine(usage)) => tell_no_line(usage, clues.words, errors),
+        Failure::Refused(Refusal::NoLine(usage)) => print_no_line(usage, clues.words, errors),
         Failure::Refused(refusal) | Failure::Aside(refusal) => {
             if !is_told(*refusal) {
-                tell_words_of(reason_of(alloc, *refusal).text(), clues, errors);
+                print_words_of(reason_of(alloc, *refusal).text(), clues, errors);
             }
         }
         Failure::Told => {
             if let Some(reason) = reason_in(clues.last_line) {
-                tell_words_of(reason, clues, errors);
+                print_words_of(reason, clues, errors);
             }
         }
         _ => {}
@@ -123,7 +123,7 @@ fn reason_in(line: &[u8]) -> Option<&[u8]> {
     }
 }
 
-// `tell_failure` explains these to people itself.
+// Whether `print_failure` explains this refusal to people itself.
 fn is_told(refusal: Refusal) -> bool {
     matches!(
         refusal,
@@ -136,13 +136,13 @@ fn is_told(refusal: Refusal) -> bool {
 }
 
 // Explains a reason, if there are words for it.
-fn tell_words_of<E: Output>(reason: &[u8], clues: Clues<'_>, errors: &mut E) {
+fn print_words_of<E: Output>(reason: &[u8], clues: Clues<'_>, errors: &mut E) {
     if meaning_when(clues.context, reason).is_empty() {
         return;
     }
     let mut reply = Reply::new(errors);
-    reply.tell(b"corekeep: ");
-    tell_meaning(&mut reply, clues.context, reason, clues.trouble);
-    reply.tell(b"\n");
+    reply.print(b"corekeep: ");
+    print_meaning(&mut reply, clues.context, reason, clues.trouble);
+    reply.print(b"\n");
     let _ = reply.finish();
 }

@@ -99,7 +99,7 @@ fn has_equals(word: &str) -> bool
     word.split_once('=').is_some()
 }
 
-// What states the length of a core: the last pair of that name, or else the option.
+// The word that states the length of a core: the last pair of that name, or else the option.
 fn stated_length<'a>(option: Option<&'a str>, pairs: &[&'a str]) -> Option<&'a str>
     ensures { spec.IsStatedBy (option_copied option.entry) pairs.now (option_copied result) }
 {

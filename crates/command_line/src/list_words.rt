@@ -11,7 +11,7 @@ use case_tables::{Order, Wanted, read_signal};
 use command_words::Given;
 use journal_layout::Kind;
 
-// What these words ask for.
+// The request of these words.
 pub(crate) fn list_words<'a>(given: &Given<'a>) -> Result<ListWords<'a>, Refusal>
     ensures listed { IfOk result (asking.IsListed given.now) }
 {

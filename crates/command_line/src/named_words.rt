@@ -5,8 +5,8 @@ ghost use Rattle.command_words.specs.Words.{flag_in, number_in, text_in};
 
 use command_words::Given;
 
-// Words, each with a name. What reads them is generic in them, so that it has no value but theirs, and its clauses say under which name
-// each is read.
+// Words, each with a name. The functions that read them are generic in them, so that they have no value but theirs, and their clauses
+// say under which name each is read.
 pub(crate) trait NamedWords<'a> {
     // Whether this may stand for the word of a name, if anything does.
     ghost stands: { Self → List ℕ → Option (List ℕ) → Type 0 };

@@ -149,7 +149,7 @@ fn build_of(alloc: Global, given: &GivenStore<'_, '_>) -> Result<BuildRequest, R
     })
 }
 
-// Whether a word says what FILE is, or that it may be cut, though its build says so.
+// Whether a word gives the kind of FILE, or that it may be cut, though its build gives that.
 fn is_said_twice(given: &GivenStore<'_, '_>) -> bool
     ensures { result ≡ spec.is_said_twice given.now }
 {
@@ -347,8 +347,8 @@ fn first_line(alloc: Global, given: &GivenStore<'_, '_>) -> Result<Vec<u8>, Refu
     }
 }
 
-// The label of the case that is stored, where one is asked for. It is read as the line `label` of a script has it, and what no
-// line can say is refused before anything is stored.
+// The label of the case that is stored, if one is asked for. It is read as the line `label` of a script reads it, and a label
+// that no line can give is refused before anything is stored.
 fn label_of(alloc: Global, given: &GivenStore<'_, '_>) -> Result<Option<ArrayVec<u8, 64>>, Refusal>
     ensures labelled { IfOk result (λ label. spec.IsLabelled given.now.escapes (option_copied given.now.label) label) }
     ensures refused { IfErr result (λ why. ((why ≡ BadLine) × spec.IsNoLabel given.now.escapes (option_copied given.now.label)) ⊎ spec.IsUnspelled why) }

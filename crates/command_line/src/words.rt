@@ -1,20 +1,20 @@
-// The program: what its words ask for, and the status that it ends with.
+// The program: the request of its words, and the status that it ends with.
 ghost use Rattle.std.specs.Prelude.{◌≡◌, ◌≤◌, false};
 ghost use Rattle.command_words.specs.Notes.{IsQuietButForNotes, IsQuietButForSomeNotes, may_note, second_subject, subject};
 
 use crate::ask_words::{AskedLine, Form};
 use crate::asked::{Asked, SessionWords, naming_of, read_words};
-use crate::endings::{Clues, Ending, tell_ending};
+use crate::endings::{Clues, Ending, print_ending};
 use archive_files::{
     Access, ArchivePath, Failure, NewArchive, Refusal, StoreRequest, ask, check, copy_archive_file,
-    look, make_archive, names_output, note_file_system, note_gap, note_shared, resize_archive_file,
-    run_over, salvage, take_disk, tell_trouble,
+    look, make_archive, names_output, note_file_system, note_gap, note_shared, print_trouble,
+    resize_archive_file, run_over, salvage, take_disk,
 };
 use archive_metrics::info_metrics;
 use case_digests::digest;
 use case_info::{
     CoreLine, PruneWords, ask_core, ask_rows, dumped_words, group_archive, info_archive, info_case,
-    prune_archive, question_at, register_in, report_archive, tell_wants, thread_words,
+    print_wants, prune_archive, question_at, register_in, report_archive, thread_words,
 };
 use case_listing::{
     NamedLine, ask_case, ask_plain, extract_case, list, named_question, would_retire,
@@ -22,12 +22,12 @@ use case_listing::{
 use case_search::search;
 use case_unpacking::unpack;
 use command_words::{
-    Context, Watched, asked_help, context_of, in_order, line_in_place_of_a_command, tell_help,
-    tell_notes, words_of,
+    Context, Watched, asked_help, context_of, in_order, line_in_place_of_a_command, print_help,
+    print_notes, words_of,
 };
 use core_handler::{
-    Log, Notes, Source, SpoolWords, Teller, handle, store_build_told, store_spooled, store_told,
-    tell_lost_words, write_trouble,
+    Log, Notes, Printer, Source, SpoolWords, handle, print_lost_words, store_build_told,
+    store_spooled, store_told, write_trouble,
 };
 use diagnostics::{Nobody, Onlooker};
 use inspector_cli::memory_session;
@@ -56,7 +56,7 @@ pub fn run_program<
 {
     match words_of(rt) {
         Ok(words) => run_watched(rt, words.as_slice(), input, output, errors, onlooker),
-        Err(_) => tell_ending(
+        Err(_) => print_ending(
             rt.alloc(),
             &Ending::from(Refusal::OutOfMemory),
             Clues {
@@ -97,7 +97,8 @@ pub fn run_program<
 /// write the archive's file, and hold its lock only while they read its journal.
 /// - `digest ARCHIVE CASE..` prints the SHA-256 of the images of cases, each with its length and its number.
 /// - `report ARCHIVE` prints a page in HTML of the crashes in the archive, and `report ARCHIVE CASE..` one of these cases.
-/// - `unpack ARCHIVE CASE DIR` writes the image of a case, its executables, and the commands of debuggers into a new folder.
+/// - `unpack ARCHIVE CASE DIR` writes the image of a case, its executables, and the commands of debuggers into a new
+/// directory.
 /// - `prune ARCHIVE` prints which executables and debug files are of builds that no core needs, and with `--cores K`, `--bytes B` or
 /// `--before T` which cores go first; with `--yes` it deletes them.
 /// - `look ARCHIVE` answers the lines of `input` that change no case, each as `ask` does.
@@ -117,9 +118,9 @@ pub fn run_words<
     O: Output,
     E: Output,
 >(rt: &R, words: &[String], input: &mut I, output: &mut O, errors: &mut E) -> u8
-    // The status. If it is 0, nothing was written to the errors, but for a note on the case that `store` stored, on the archive that `check`
-    // or `handle` looked at, or on a file or a folder that was made; and behind it one on the file system of an archive that was made or
-    // checked, on the spool, or on the case that was unpacked.
+    // The status. If it is 0, nothing was written to the errors, except for a note on the case that `store` stored, on the archive that
+    // `check` or `handle` looked at, or on a file or a directory that was made; and after it one on the file system of an archive that was
+    // made or checked, on the spool, or on the case that was unpacked.
     ensures most { result ≤ 2 }
     ensures quiet { result ≡ 0 → may_note words.now ≡ false → errors.new ≡ errors.old }
     ensures notes { result ≡ 0 → IsQuietButForNotes (subject words.now) (second_subject words.now) E.Output errors.old errors.new }
@@ -146,7 +147,7 @@ pub fn run_watched<
     let answered = answer_words(rt, words, input, &mut watched, &mut notes, &mut listener);
     let trouble = listener.trouble();
     let line = watched.into_line();
-    tell_notes(words, notes.subject.text(), notes.second.text(), errors);
+    print_notes(words, notes.subject.text(), notes.second.text(), errors);
     match answered {
         Ok(()) => 0,
         Err(ending) => {
@@ -157,7 +158,7 @@ pub fn run_watched<
                 line: line_in_place_of_a_command(words),
                 trouble,
             };
-            tell_ending(rt.alloc(), &ending, clues, output, errors)
+            print_ending(rt.alloc(), &ending, clues, output, errors)
         }
     }
 }
@@ -180,7 +181,7 @@ fn answer_words<
         return Err(Ending::Failed(Failure::Aside(Refusal::Output)));
     }
     if let Some(help) = asked_help(words) {
-        return tell_help(help, output).map_err(|_| Ending::from(Failure::Told));
+        return print_help(help, output).map_err(|_| Ending::from(Failure::Told));
     }
     let ordered = in_order(rt.alloc(), words)?;
     let words = match &ordered {
@@ -199,7 +200,7 @@ fn answer_words<
         }
         Err(ending) => {
             if ordered.is_some() && !matches!(ending, Ending::Help(_)) {
-                tell_lost_words(rt);
+                print_lost_words(rt);
             }
             Err(aside_of_an_image(words, ending))
         }
@@ -251,10 +252,10 @@ fn answer_asked<
             build,
             log,
         } => {
-            let teller = teller_of(rt.alloc(), archive, log);
+            let printer = printer_of(rt.alloc(), archive, log);
             let note = &mut notes.subject;
             store_build_told(
-                rt, teller, archive, file, build, input, output, note, onlooker,
+                rt, printer, archive, file, build, input, output, note, onlooker,
             )
         }
         Asked::Extract {
@@ -298,7 +299,7 @@ fn answer_asked<
             archive,
             case,
             wanted,
-        } => tell_wants(rt, archive, case, wanted, output, onlooker),
+        } => print_wants(rt, archive, case, wanted, output, onlooker),
         Asked::Prune { archive, wanted } => prune(rt, archive, wanted, output, onlooker),
         Asked::Groups { archive, wanted } => group_archive(rt, archive, wanted, output),
         Asked::Report { archive, cases } => report_archive(rt, archive, &cases, output),
@@ -325,8 +326,8 @@ fn answer_asked<
 }
 
 // The writer of a store's outcome to this log, if there is one.
-fn teller_of<'a>(alloc: Global, archive: ArchivePath<'a>, log: Option<&'a str>) -> Teller<'a> {
-    Teller {
+fn printer_of<'a>(alloc: Global, archive: ArchivePath<'a>, log: Option<&'a str>) -> Printer<'a> {
+    Printer {
         alloc,
         log: Log {
             path: log.unwrap_or(""),
@@ -338,7 +339,7 @@ fn teller_of<'a>(alloc: Global, archive: ArchivePath<'a>, log: Option<&'a str>) 
     }
 }
 
-// Stores a file, by way of a spool if there is one, and notes what people are to know of it.
+// Stores a file, by way of a spool if there is one, and notes the facts that people should know.
 fn store_noting<
     R: AllocGlobal + Files<File = File> + Clock + Clone + Drop,
     I: Read,
@@ -356,15 +357,15 @@ fn store_noting<
     notes: &mut Notes,
     onlooker: &mut W,
 ) -> Result<(), Failure> {
-    let teller = teller_of(rt.alloc(), archive, log);
+    let printer = printer_of(rt.alloc(), archive, log);
     match spool {
         Some(spool) => store_spooled(
-            rt, spool, teller, archive, source, request, input, output, notes, onlooker,
+            rt, spool, printer, archive, source, request, input, output, notes, onlooker,
         ),
         None => {
             let note = &mut notes.subject;
             let (ended, _) = store_told(
-                rt, teller, archive, source, request, input, output, note, onlooker,
+                rt, printer, archive, source, request, input, output, note, onlooker,
             );
             ended
         }
@@ -447,7 +448,7 @@ fn answer_named<R: AllocGlobal + Files<File = File> + Clock, O: Output, W: Onloo
     }
 }
 
-// What a line asks of a core, if its answer is printed from values.
+// The question of a line about a core, if its answer is printed from values.
 fn core_line<'w>(line: &AskedLine<'_>, words: &[&'w str]) -> Option<CoreLine<'w>> {
     match (line.form, line.by_build) {
         (Form::Words, _) => dumped_words(words),
@@ -534,7 +535,7 @@ fn run_file<R: AllocGlobal + Files<File = File> + Clock, I: Read, O: Output, W: 
         &mut script,
         output,
     );
-    tell_trouble(&disk, onlooker);
+    print_trouble(&disk, onlooker);
     ended
 }
 

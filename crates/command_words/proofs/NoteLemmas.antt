@@ -2,7 +2,7 @@
 use Rattle.std.proofs.Common.{◌≡◌, ℕ, List, [], ◌++◌, Option, Result, Ok, Err, sym}
 use Rattle.std.proofs.lemmas.List.{append-nil}
 use Rattle.std.specs.Io.KnownBytes.{Appends}
-use Rattle.script_streams.specs.Telling.{IsDelivered}
+use Rattle.script_streams.specs.Printing.{IsDelivered}
 use Rattle.script_streams.specs.declared.streams.StreamFault.{StreamFault}
 
 pub front_delivered : (start taken : Option (List ℕ)) (count failures : ℕ) (line : List ℕ) (result : Result (Unit {0}) StreamFault)

@@ -79,6 +79,6 @@ abbrev pub with_commands : App → List Shape → App
 with_commands program [] = program
 with_commands program (shape ∷ shapes) = with_commands (with_subcommand program shape) shapes
 
--- what clap is to take: the program with the commands of these tables
+-- the grammar for clap: the program with the commands of these tables
 abbrev pub grammar : List CommandWords → App
 grammar tables = with_commands (alone program_said) (map shape_said tables)

@@ -5,7 +5,7 @@ use Rattle.std.specs.Io.KnownBytes.{Appends}
 use Rattle.std.specs.Str.{bytes_eq}
 use Rattle.script_streams.specs.declared.streams.Output as output
 
--- the command makes a file, or a folder
+-- the command makes a file, or a directory
 abbrev pub makes_file : List ℕ → Bool
 makes_file command =
     if bytes_eq command (codes "format") then true else
@@ -18,8 +18,8 @@ makes_file command =
 abbrev pub checks_archive : List ℕ → Bool
 checks_archive command = if bytes_eq command (codes "check") then true else bytes_eq command (codes "handle")
 
--- the subject of a note, if there is one, by the command: the case that is stored, the archive that is looked at, or the folder of the file that
--- is made
+-- the subject of a note, if there is one, by the command: the case that is stored,
+-- the archive that is looked at, or the directory of the file that is made
 abbrev pub subject_of : List ℕ → List ℕ
 subject_of command =
     if bytes_eq command (codes "store") then codes "case " else

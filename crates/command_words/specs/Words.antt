@@ -1,4 +1,4 @@
--- What words of the command line give: a text, a number or a flag under a name.
+-- The values of words of the command line: a text, a number or a flag under a name.
 use Rattle.std.specs.Prelude.{◌≡◌, ℕ, ◌==◌, ◌||◌, ◌^◌, ◌-◌, Bool, true, false, List, [], ◌∷◌, map, Option, codes, option_and_then, unwrap_or, if◌then◌else◌}
 use Rattle.std.specs.Option.{option_map_or}
 use Rattle.std.specs.Str.{bytes_eq}
@@ -11,7 +11,7 @@ use Rattle.command_words.specs.Grammar.{grammar}
 use Rattle.command_words.specs.declared.given.Given.{Given}
 use Rattle.command_words.specs.declared.tables.CommandWords.{CommandWords}
 
--- what clap found under each name
+-- the values that clap found under each name
 abbrev pub rows_in : Given → List Row
 rows_in given = rows_of (found_of given.found)
 
@@ -44,7 +44,7 @@ words_in given = map (λ word. word.now) given.words.items
 abbrev pub said_in : Given → List ℕ × List Row
 said_in given = (given.command.now, rows_in given)
 
--- what clap found: of the command that is named, or of the program if none is
+-- the values that clap found: of the command that is named, or of the program if no command is
 abbrev pub found_in : ArgMatches → List ℕ × List Row
 found_in m = unwrap_or (subcommand_rows_of m) ([], rows_of (found_of m))
 
@@ -64,6 +64,6 @@ pub record IsReadBy (tables : List CommandWords) (words : List (List ℕ)) (give
   pub said : said_in given ≡ unwrap_or (subcommand_of (grammar tables) words) ([], matches_of (grammar tables) words)
   pub several : words_in given ≡ unwrap_or (all_of (codes "word") (rows_in given)) []
 
--- what words give by the grammar of some tables
+-- the values of words by the grammar of some tables
 abbrev pub IsRead : List (List ℕ) → Given → Type 0
 IsRead words given = (tables : List CommandWords) × IsReadBy tables words given

@@ -1,4 +1,4 @@
-// What `ask --help` shows of the lines that it takes.
+// The part of `ask --help` about the lines that it takes.
 
 // A line each, with its words and its purpose.
 pub(crate) const ASK_HELP: &str = "Lines (corekeep help LINE says more):\n\

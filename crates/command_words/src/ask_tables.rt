@@ -19,7 +19,7 @@ const LINE: Word = Word {
     help: "The line, such as `delete 3`, `pin 3`, `retire keep=10` or `free`",
 };
 
-// What `find` looks for.
+// The text that `find` searches for.
 const TEXT: Word = Word {
     id: "text",
     shown: "TEXT",

@@ -15,7 +15,8 @@ use crate::search_tables::SEARCH;
 use crate::tables::{CommandWords, EXTRACT, FORMAT, HANDLE, LOOK, MEMORY, RUN, STORE};
 use crate::unpack_tables::UNPACK;
 
-// All of them, in the order in which help shows them. What names a table is dear to prove: only this function does.
+// All of them, in the order in which help shows them. A function
+// that names a table is costly to prove: only this function does.
 pub(crate) fn commands() -> [&'static CommandWords; 21]
     ensures { is_simple (grammar (map (λ command. command.now) result)) ≡ true }
 {

@@ -75,7 +75,7 @@ static HANDLER_MEANINGS: [Meaning; 1] = [Meaning {
 static LIST_MEANINGS: [Meaning; 2] = [
     Meaning {
         reason: b"BadLine",
-        words: b"the value of a filter can't be read: --kind takes core or exec, --signal a number or a name such as SEGV, --since and --until 2h, 3d, 2026-11-25, 2026-11-25T14:03:11Z or @SECONDS, --sort time, size or name; or search has no --text TEXT",
+        words: b"the value of a filter can't be read: --kind takes core or exec, --signal a number or a name such as SEGV, --since and --until 2h, 3d, today, yesterday, 2026-11-25, '2026-11-25 14:03', 2026-11-25T14:03:11Z or @SECONDS, --sort time, size or name; or search has no --text TEXT",
     },
     Meaning {
         reason: b"Disk",
@@ -87,7 +87,7 @@ static LIST_MEANINGS: [Meaning; 2] = [
 static GROUPS_MEANINGS: [Meaning; 3] = [
     Meaning {
         reason: b"BadLine",
-        words: b"the value of a filter can't be read: --signal takes a number or a name such as SEGV, --since and --until 2h, 3d, 2026-11-25, 2026-11-25T14:03:11Z or @SECONDS",
+        words: b"the value of a filter can't be read: --signal takes a number or a name such as SEGV, --since and --until 2h, 3d, today, yesterday, 2026-11-25, '2026-11-25 14:03', 2026-11-25T14:03:11Z or @SECONDS",
     },
     Meaning {
         reason: b"NoCase",
@@ -105,7 +105,7 @@ static PRUNE_MEANINGS: [Meaning; 1] = [Meaning {
     words: b"a limit can't be read: --cores, --bytes and --before each take a number, and --before the seconds since 1970",
 }];
 
-// The same of what else only looks.
+// The same for the other commands that only look.
 static LOOK_MEANINGS: [Meaning; 1] = [Meaning {
     reason: b"Disk",
     words: b"a read of the archive failed: the kernel's log (dmesg) may say why",

@@ -1,4 +1,5 @@
-// The words of a command line, read by the grammar. This is the one place that hands out what `clap` found, as plain values.
+// The words of a command line, read by the grammar. This is the
+// one place that turns the matches of `clap` into plain values.
 ghost use Rattle.std.specs.Prelude.{◌≡◌, true, IfErr, IfOk, map, string_bytes};
 ghost use Rattle.std.specs.Option.{option_copied};
 ghost use Rattle.clap.specs.Matches.{found_of};
@@ -19,14 +20,14 @@ use clap::{ArgMatches, Error};
 use script_words::{parse_number, parse_u32};
 use std::alloc::{AllocError, Global};
 
-/// A command, and what stands for its words.
+/// A command, and the values of its words.
 #[derive(Drop)]
 pub struct Given<'a> {
     /// The command.
     pub command: &'a str,
     /// The words that may be there several times: those of a line, or the facts of a core.
     pub words: Vec<&'a str>,
-    // What clap found of its words, by the names that the grammar has for them.
+    // The matches that clap found of its words, by the names in the grammar.
     found: ArgMatches<'a>,
 }
 
@@ -114,7 +115,7 @@ fn read_by<'a>(
     }
 }
 
-// What clap found of the command that the words name.
+// The matches that clap found of the command that the words name.
 fn given_in<'a>(alloc: Global, matches: ArgMatches<'a>) -> Result<Given<'a>, AllocError>
     ensures { IfOk result (λ given. IsFoundBy matches.entry given) }
 {

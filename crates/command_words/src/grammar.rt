@@ -12,7 +12,7 @@ use clap::builder::ValueParser;
 use clap::{Arg, ArgAction, ArgMatches, Command, Error};
 use std::alloc::{AllocError, Global};
 
-// What these words are by the grammar.
+// The matches of these words by the grammar.
 pub(crate) fn matches_of<'a>(
     alloc: Global,
     commands: &[&CommandWords],
@@ -40,7 +40,7 @@ fn subcommands_of<'a>(
     Ok(subcommands)
 }
 
-// What help shows after the commands.
+// The text that help shows after the commands.
 const STATUSES: &str = "Statuses:\n\
      \x20\x200  it is done\n\
      \x20\x201  it is refused (`no REASON` on standard output, and its meaning on standard error; `extract` and `digest` print both on standard error),\n\
@@ -61,7 +61,7 @@ fn whole_program<'a>(alloc: Global) -> Result<Command<'a>, AllocError>
     Ok(
         command_of(alloc, &PROGRAM)?
             .bin_name("corekeep")?
-            .version("0.1.0, archives of layout versions 1 and 2")
+            .version("0.2.0, archives of layout versions 1 and 2")
             .no_binary_name(true)
             .subcommand_required(true),
     )
@@ -137,7 +137,7 @@ fn begun<'a>(alloc: Global, word: &Word) -> Arg<'a>
         .action(action_of(word.takes))
 }
 
-// What its uses do.
+// The action of its uses.
 fn action_of(takes: Takes) -> ArgAction
     ensures { result ≡ action_said takes }
 {

@@ -28,7 +28,7 @@ pub(crate) static GROUPS: CommandWords = CommandWords {
     ],
 };
 
-// What help shows after the words of `groups`.
+// The text that help shows after the words of `groups`.
 const GROUPS_NOTES: &str =
     "A row has the cores of one program that died by one signal with the same innermost functions (FRAMES). CORES counts them; behind +\n\
      are those that crashed at the same place, of which frames are missing. NEWEST is the newest core: look at that one. `..` ends FRAMES\n\

@@ -4,7 +4,7 @@ ghost use Rattle.command_words.specs.Handling.{asks_to_handle};
 
 use std::alloc::{AllocError, Global};
 
-// What kind of word it is.
+// The kind of word.
 #[derive(Clone, Copy, Debug, PartialEq, Eq)]
 enum Kind {
     // An option that is known, or the value of one.
@@ -16,7 +16,7 @@ enum Kind {
 }
 
 /// The words of `handle` in an order in which none is refused: its options, and then, after `--`, the others, those last that are no
-/// option that is known. These are then told and left out. From the first pair on all words are pairs, and stay together: a program may
+/// known option. These are then reported and left out. From the first pair on all words are pairs, and stay together: a program may
 /// have the name of an option. Nothing if the words are not those of `handle`.
 ///
 /// # Errors

@@ -24,7 +24,7 @@ pub fn asked_help(words: &[String]) -> Option<&'static LineHelp> {
     help_of(name)
 }
 
-/// The line that the first word is, where it should be a command.
+/// The help of the line that the first word is, if it stands in the place of a command.
 pub fn line_in_place_of_a_command(words: &[String]) -> Option<&'static LineHelp> {
     let name = words.first()?;
     if is_command(name) {
@@ -34,11 +34,11 @@ pub fn line_in_place_of_a_command(words: &[String]) -> Option<&'static LineHelp>
 }
 
 /// Prints how such a line is asked.
-pub fn tell_how_it_is_asked<E: Output>(line: &LineHelp, errors: &mut E) {
+pub fn print_how_it_is_asked<E: Output>(line: &LineHelp, errors: &mut E) {
     let mut reply = Reply::new(errors);
-    reply.tell(b"corekeep: this is a line of a script: corekeep ask ARCHIVE ");
-    reply.tell(line.usage.as_bytes());
-    reply.tell(b"\n");
+    reply.print(b"corekeep: this is a line of a script: corekeep ask ARCHIVE ");
+    reply.print(line.usage.as_bytes());
+    reply.print(b"\n");
     let _ = reply.finish();
 }
 
@@ -66,26 +66,26 @@ fn is_command(name: &str) -> bool {
 /// # Errors
 ///
 /// `StreamFault` if a write failed.
-pub fn tell_help<O: Output>(help: &LineHelp, output: &mut O) -> Result<(), StreamFault> {
+pub fn print_help<O: Output>(help: &LineHelp, output: &mut O) -> Result<(), StreamFault> {
     let mut reply = Reply::new(output);
-    reply.tell(help.usage.as_bytes());
-    tell_part(&mut reply, b"\n\n    ", help.does);
-    tell_part(&mut reply, b"\n    reply:    ", help.reply);
-    tell_rows(&mut reply, help.name);
-    tell_part(&mut reply, b"\n    example:  ", help.example);
-    tell_part(&mut reply, b"\n    refused:  ", help.reasons);
-    reply.tell(b"\n");
+    reply.print(help.usage.as_bytes());
+    print_part(&mut reply, b"\n\n    ", help.does);
+    print_part(&mut reply, b"\n    reply:    ", help.reply);
+    print_rows(&mut reply, help.name);
+    print_part(&mut reply, b"\n    example:  ", help.example);
+    print_part(&mut reply, b"\n    refused:  ", help.reasons);
+    reply.print(b"\n");
     reply.finish()
 }
 
 // Prints the forms of the rows that `--json` shows, if there are any.
-fn tell_rows<O: Output>(reply: &mut Reply<'_, O>, name: &str) {
+fn print_rows<O: Output>(reply: &mut Reply<'_, O>, name: &str) {
     for form in rows_of(name) {
-        tell_part(reply, b"\n    --json:   ", form);
+        print_part(reply, b"\n    --json:   ", form);
     }
 }
 
-fn tell_part<O: Output>(reply: &mut Reply<'_, O>, heading: &[u8], text: &str) {
-    reply.tell(heading);
-    reply.tell(text.as_bytes());
+fn print_part<O: Output>(reply: &mut Reply<'_, O>, heading: &[u8], text: &str) {
+    reply.print(heading);
+    reply.print(text.as_bytes());
 }

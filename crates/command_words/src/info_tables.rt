@@ -16,7 +16,7 @@ pub(crate) static WANTS: CommandWords = CommandWords {
     words: &[ARCHIVE, WANTS_CASE, IDS, JSON, NO_WAIT],
 };
 
-// What help shows after the words of `wants`.
+// The text that help shows after the words of `wants`.
 const WANTS_NOTES: &str =
     "Each line is NAME ID: a file that a process had mapped when it dumped core, and the build ID that its core has of it. No stored\n\
      executable is of that build. Bring the file (file, or readelf -n, shows its build ID), and store it:\n\

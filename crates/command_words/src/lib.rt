@@ -32,12 +32,12 @@ pub use contexts::{Context, context_of, meaning_when};
 pub use given::{Given, Unread};
 pub use handler_words::in_order;
 pub use helps::{
-    asked_help, line_in_place_of_a_command, tell_help, tell_how_it_is_asked, usage_told,
+    asked_help, line_in_place_of_a_command, print_help, print_how_it_is_asked, usage_told,
 };
 pub use line_texts::{line_of, push_text};
-pub use notes::tell_notes;
+pub use notes::print_notes;
 pub use raw_words::{is_text, push_escaped, words_of};
 pub use text_digits::digits_of;
-pub use troubles::tell_meaning;
+pub use troubles::print_meaning;
 pub use watched::{LastLine, Watched};
-pub use wrong_words::tell_no_line;
+pub use wrong_words::print_no_line;

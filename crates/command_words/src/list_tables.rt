@@ -112,7 +112,7 @@ pub(crate) const SINCE: Word = Word {
     shown: "WHEN",
     takes: Takes::Text,
     default: None,
-    help: "Only cores of this time or later: 2026-11-25, 2026-11-25T14:03:11Z, @SECONDS since the epoch, or 90s, 30m, 2h or 3d ago",
+    help: "Only cores of this time or later, in UTC: today, yesterday, 2026-11-25, '2026-11-25 14:03', 2026-11-25T14:03:11Z, @SECONDS since the epoch, or 90s, 30m, 2h or 3d ago",
 };
 
 // The time before which it is.

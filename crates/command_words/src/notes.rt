@@ -6,23 +6,22 @@ ghost use Rattle.command_words.specs.Notes.{IsQuietButForANote, IsQuietButForNot
 use script_streams::{Output, Reply};
 
 /// Prints a note for people, if there is one: if the words ask to store a file, the part of the case that can't be read; if they ask to
-/// look at an
-/// archive, that the half of its journal which is taken may be the wrong one; if they ask to make a file, that others may write its folder.
-/// Then comes the second note, if there is one: on the file system, if the words ask to make an archive or to check one; on the spool, if
-/// they ask to store a file; on the case, if they ask to unpack it.
-pub fn tell_notes<E: Output>(words: &[String], note: &[u8], second: &[u8], errors: &mut E)
+/// look at an archive, that the half of its journal which is taken may be the wrong one; if they ask to make a file, that others may write
+/// its directory. Then comes the second note, if there is one: on the file system, if the words ask to make an archive or to check one; on
+/// the spool, if they ask to store a file; on the case, if they ask to unpack it.
+pub fn print_notes<E: Output>(words: &[String], note: &[u8], second: &[u8], errors: &mut E)
     ensures quiet { may_note words.now ≡ false → errors.new ≡ errors.old }
     ensures notes { IsQuietButForNotes (subject words.now) (second_subject words.now) E.Output errors.old errors.new }
 {
     if !may_note(words) {
         return;
     }
-    tell_note_line(subject(words), note, errors);
+    print_note_line(subject(words), note, errors);
     let on = second_subject(words);
     if on.is_empty() {
         return;
     }
-    tell_note_line(on, second, errors);
+    print_note_line(on, second, errors);
 }
 
 // The subject of a second note of these words. It is empty if they have none.
@@ -86,7 +85,7 @@ fn checks_archive(command: &str) -> bool
     command == "check" || command == "handle"
 }
 
-// Whether a command makes a file, or a folder.
+// Whether a command makes a file, or a directory.
 fn makes_file(command: &str) -> bool
     ensures { result ≡ makes_file command.now }
 {
@@ -99,16 +98,16 @@ fn makes_file(command: &str) -> bool
 }
 
 // Prints a note for people, if it is not empty.
-fn tell_note_line<E: Output>(subject: &[u8], note: &[u8], errors: &mut E)
+fn print_note_line<E: Output>(subject: &[u8], note: &[u8], errors: &mut E)
     ensures { IsQuietButForANote subject.now E.Output errors.old errors.new }
 {
     if note.is_empty() {
         return;
     }
     let mut reply = Reply::new(errors);
-    reply.tell(b"corekeep: ");
-    reply.tell(subject);
-    reply.tell(note);
-    reply.tell(b"\n");
+    reply.print(b"corekeep: ");
+    reply.print(subject);
+    reply.print(note);
+    reply.print(b"\n");
     let _ = reply.finish();
 }

@@ -8,7 +8,7 @@ pub(crate) static PRUNE: CommandWords = CommandWords {
     words: &[ARCHIVE, CORES, CORE_BYTES, CORE_BEFORE, YES, NO_WAIT],
 };
 
-// What help shows after the words of `prune`.
+// The text that help shows after the words of `prune`.
 const PRUNE_NOTES: &str =
     "Without --yes it changes nothing, and prints `drop N NAME` for each case that it would delete.\n\
      Only executables and debug files that are stored by their build IDs (store --build) are deleted, and only those that no core that\n\

@@ -1,7 +1,7 @@
 // Words of the command line that are bytes of any kind.
 //
-// A word is kept as text. Where its bytes are UTF-8 it is that text; each byte that is not is kept as a character that
-// stands for it, U+10FF80 for the byte 0x80 and so on to U+10FFFF for 0xff. Where a word has such a character itself, each
+// A word is kept as text. If its bytes are UTF-8 it is that text; each byte that is not is kept as a character that
+// stands for it, U+10FF80 for the byte 0x80 and so on to U+10FFFF for 0xff. If a word has such a character itself, each
 // byte of the character is kept so. These are the last characters that Unicode has, for private use, so that no two words
 // are kept alike.
 ghost use Rattle.std.specs.Prelude.{◌≡◌, ◌++◌, ◌-◌, None, Some, IfOk, OnOk, if◌then◌else◌};

@@ -122,7 +122,7 @@ static MEANINGS: [Meaning; 47] = [
     },
     Meaning {
         reason: b"NoThread",
-        words: b"the core has no thread of this number: threads N lists them; if it lists none, see by notes N whether those of type 0x1 are named LINUX: only those named CORE are read",
+        words: b"the core has no thread of this number: T is the first word of a line of threads N, not the TID; if it lists none, see by notes N whether those of type 0x1 are named LINUX: only those named CORE are read",
     },
     Meaning {
         reason: b"NoFrame",
@@ -138,7 +138,7 @@ static MEANINGS: [Meaning; 47] = [
     },
     Meaning {
         reason: b"Compressed",
-        words: b"the line tables are compressed: objcopy --decompress-debug-sections FILE NEW, then store NEW",
+        words: b"the line tables are compressed by another method than zlib, or damaged: objcopy --decompress-debug-sections FILE NEW, then store NEW",
     },
     Meaning {
         reason: b"Missing",

@@ -8,7 +8,7 @@ pub(crate) static REPORT: CommandWords = CommandWords {
     words: &[ARCHIVE, REPORTED_CASES, NO_WAIT],
 };
 
-// What help shows after the words of `report`.
+// The text that help shows after the words of `report`.
 const REPORT_NOTES: &str =
     "The page is one file without scripts; it loads nothing, and can be attached to a ticket:\n\
      \x20\x20corekeep report ARCHIVE last > crash.html\n\

@@ -30,12 +30,12 @@ pub(crate) static SEARCH: CommandWords = CommandWords {
     ],
 };
 
-// What help shows after the words of `search`.
+// The text that help shows after the words of `search`.
 const SEARCH_NOTES: &str =
     "The images of the cases that pass the filters are read one after the other, in constant memory. The text is sought in their bytes as they\n\
      are stored: `corekeep ask ARCHIVE find N --text TEXT` finds the addresses in the memory of one core. The status is 1 if no case has it.";
 
-// The text that is sought.
+// The text to search for.
 const SOUGHT: Word = Word {
     id: "text",
     shown: "TEXT",

@@ -1,10 +1,10 @@
 // The program's commands and their words, as tables.
 use crate::care_tables::QUIET;
 
-// What replaces a word.
+// The value that replaces a word.
 #[derive(Clone, Copy)]
 pub(crate) enum Takes {
-    // A word that has to be there.
+    // A word that must be there.
     Place,
     // A word that may be left out.
     NewPlace,
@@ -24,7 +24,7 @@ pub(crate) enum Takes {
     TextWithoutTemplate,
     // The same, and beside neither `--cut` nor `--spool`.
     TextOfWhole,
-    // A number below 2^32 after its name, which has to be there.
+    // A number below 2^32 after its name, which must be there.
     Blocks,
     // A number after its name, from one to another.
     Within(i64, i64),
@@ -48,7 +48,7 @@ pub(crate) struct Word {
 pub(crate) struct CommandWords {
     pub(crate) name: &'static str,
     pub(crate) about: &'static str,
-    // What help shows after its words.
+    // The text that help shows after its words.
     pub(crate) after_help: Option<&'static str>,
     pub(crate) words: &'static [Word],
 }
@@ -162,7 +162,7 @@ const DATA: Word = Word {
     help: "Data blocks of 4096 bytes, 1 to 16777216",
 };
 
-// Whether to be refused where another process has the archive.
+// Whether to be refused if another process has the archive.
 pub(crate) const NO_WAIT: Word = Word {
     id: "no-wait",
     shown: "",
@@ -177,7 +177,7 @@ pub(crate) const BUILDS: Word = Word {
     shown: "",
     takes: Takes::Flag,
     default: None,
-    help: "For `dump`, `at`, `find`, `strings` and `bt`: use the executables of the builds that the core tells, as `unwind` does, not those under its paths alone. `at`, `bt` and `symbol` name functions by debug files too",
+    help: "For `dump`, `at`, `find`, `strings` and `bt`: also use executables that `store --build` stored, as `unwind` does. Without it they use only those that are stored by their paths (`store --exec`). `at`, `bt` and `symbol` name functions by debug files then too",
 };
 
 // How cores are named.
@@ -432,7 +432,7 @@ const BUILD: Word = Word {
     help: "Store an executable, a library or a debug file under the name that its build ID gives (.build-id/ab/cdef..): cores that mapped this build use it, whatever its path was",
 };
 
-// The build ID that it has to have.
+// The build ID that it must have.
 const ID: Word = Word {
     id: "id",
     shown: "ID",

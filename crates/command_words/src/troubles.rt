@@ -59,10 +59,9 @@ static ERRORS: [SystemError; 9] = [
     },
 ];
 
-/// Prints the meaning of a reason after this work. If the disk failed, now or before, so that the archive is stopped, and the call of the
-/// system
-/// is known that failed, that is printed with the system's reason.
-pub fn tell_meaning<O: Output>(
+/// Prints the meaning of a reason after this work. If the disk failed, now or before, so that the archive
+/// is stopped, and the call of the system is known that failed, that is printed with the system's reason.
+pub fn print_meaning<O: Output>(
     reply: &mut Reply<'_, O>,
     context: Context,
     reason: &[u8],
@@ -70,38 +69,38 @@ pub fn tell_meaning<O: Output>(
 ) {
     match trouble {
         Some(trouble) if reason == b"Disk".as_slice() || reason == b"Stopped".as_slice() => {
-            tell_trouble(reply, trouble);
+            print_trouble(reply, trouble);
         }
-        _ => reply.tell(meaning_when(context, reason)),
+        _ => reply.print(meaning_when(context, reason)),
     }
 }
 
 // Prints which call on the archive's file failed, and why.
-fn tell_trouble<O: Output>(reply: &mut Reply<'_, O>, trouble: Trouble) {
+fn print_trouble<O: Output>(reply: &mut Reply<'_, O>, trouble: Trouble) {
     let call: &[u8] = match trouble.call {
         Call::Read => b"a read",
         Call::Write => b"a write",
         Call::Sync => b"a sync",
     };
-    reply.tell(call);
-    reply.tell(b" of the archive failed: ");
+    reply.print(call);
+    reply.print(b" of the archive failed: ");
     match trouble.errno {
-        Some(number) => tell_error(reply, number),
-        None => reply.tell(b"the file is shorter than it was"),
+        Some(number) => print_error(reply, number),
+        None => reply.print(b"the file is shorter than it was"),
     }
 }
 
 // Prints an error of the system by its name, or by its number if it is not one of these.
-fn tell_error<O: Output>(reply: &mut Reply<'_, O>, number: i32) {
+fn print_error<O: Output>(reply: &mut Reply<'_, O>, number: i32) {
     for error in &ERRORS {
         if error.number == number {
-            reply.tell(error.name);
-            reply.tell(b" (");
-            reply.tell(error.words);
-            reply.tell(b")");
+            reply.print(error.name);
+            reply.print(b" (");
+            reply.print(error.words);
+            reply.print(b")");
             return;
         }
     }
-    reply.tell(b"errno ");
-    reply.tell_signed(i64::from(number));
+    reply.print(b"errno ");
+    reply.print_signed(i64::from(number));
 }

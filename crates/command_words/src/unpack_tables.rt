@@ -9,7 +9,7 @@ pub(crate) static UNPACK: CommandWords = CommandWords {
     words: &[ARCHIVE, UNPACKED_CASE, FOLDER, NO_WAIT, QUIET],
 };
 
-// What help shows after the words of `unpack`.
+// The text that help shows after the words of `unpack`.
 const UNPACK_NOTES: &str =
     "It prints N PLACE for each executable: the number of its case, and its place in DIR. Start the debugger in DIR:\n\
      \x20\x20cd DIR && gdb-multiarch -x gdb\n\

@@ -7,7 +7,7 @@ use script_streams::{Output, StreamFault};
 // How many bytes of a line are kept at most: those of a reason.
 const KEPT: usize = 128;
 
-/// The last line of an output, or what follows its last newline, unless it has more bytes than are kept.
+/// The last line of an output, or the bytes after its last newline, unless it has more bytes than are kept.
 #[derive(Drop)]
 pub struct LastLine {
     text: ArrayVec<u8, 128>,

@@ -2,7 +2,7 @@
 use script_streams::{Output, Reply};
 use script_words::{parse_number, parse_number_within};
 
-// A word of a line, as its usage names it, and what stands there.
+// A word of a line, as its usage names it, and the kind of text that stands there.
 struct Part {
     name: &'static str,
     words: &'static [u8],
@@ -39,47 +39,47 @@ static PARTS: [Part; 6] = [
 enum Fault<'a> {
     // This one is not there.
     Missing(&'static Part),
-    // This word is not what stands there.
+    // This word is not of the kind that stands there.
     Wrong(&'a str, &'static Part),
     // This word is one too many.
     Surplus(&'a str),
 }
 
 /// Prints the usage of the line that the words of `ask` begin like, and which word is wrong. Without a usage no line begins so.
-pub fn tell_no_line<E: Output>(usage: &str, words: &[String], errors: &mut E) {
+pub fn print_no_line<E: Output>(usage: &str, words: &[String], errors: &mut E) {
     let mut reply = Reply::new(errors);
     if usage.is_empty() {
-        reply.tell(b"corekeep: no line begins so: corekeep ask --help lists them\n");
+        reply.print(b"corekeep: no line begins so: corekeep ask --help lists them\n");
     } else {
-        reply.tell(b"corekeep: the line is: ");
-        reply.tell(usage.as_bytes());
-        tell_fault(&mut reply, fault_in(usage, words));
-        reply.tell(b"\n");
+        reply.print(b"corekeep: the line is: ");
+        reply.print(usage.as_bytes());
+        print_fault(&mut reply, fault_in(usage, words));
+        reply.print(b"\n");
     }
     let _ = reply.finish();
 }
 
 // Prints which word is wrong, if that is known.
-fn tell_fault<E: Output>(reply: &mut Reply<'_, E>, fault: Option<Fault<'_>>) {
+fn print_fault<E: Output>(reply: &mut Reply<'_, E>, fault: Option<Fault<'_>>) {
     match fault {
         Some(Fault::Missing(part)) => {
-            reply.tell(b"; ");
-            reply.tell(part.name.as_bytes());
-            reply.tell(b" is missing: ");
-            reply.tell(part.words);
+            reply.print(b"; ");
+            reply.print(part.name.as_bytes());
+            reply.print(b" is missing: ");
+            reply.print(part.words);
         }
         Some(Fault::Wrong(word, part)) => {
-            reply.tell(b"; ");
-            reply.tell_text(word.as_bytes());
-            reply.tell(b" is no ");
-            reply.tell(part.name.as_bytes());
-            reply.tell(b": ");
-            reply.tell(part.words);
+            reply.print(b"; ");
+            reply.print_text(word.as_bytes());
+            reply.print(b" is no ");
+            reply.print(part.name.as_bytes());
+            reply.print(b": ");
+            reply.print(part.words);
         }
         Some(Fault::Surplus(word)) => {
-            reply.tell(b"; ");
-            reply.tell_text(word.as_bytes());
-            reply.tell(b" is one word too many");
+            reply.print(b"; ");
+            reply.print_text(word.as_bytes());
+            reply.print(b" is one word too many");
         }
         None => {}
     }

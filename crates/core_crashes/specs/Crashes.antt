@@ -88,7 +88,7 @@ crash_of c b frames handled builds = record {
   place = place_in b frames builds;
 }
 
--- the name of the field at fault (System V gABI; core(5))
+-- the name of the bad field (System V gABI; core(5))
 abbrev pub field_of : CoreFault → List ℕ
 field_of (Elf fault) = elf_field_name fault.«field»
 field_of (Note fault) = note_field_name fault.«field»

@@ -1,4 +1,4 @@
--- What the notes (core(5)) and the program headers (System V gABI) of a core say of addresses.
+-- The facts about addresses in the notes (core(5)) and the program headers (System V gABI) of a core.
 use Rattle.std.specs.Prelude.{ℕ, ◌==◌, ◌&&◌, Bool, false, List, find, is_some, Option, None, Some}
 use Rattle.std.specs.Option.{option_and_then, option_map}
 use Rattle.core_notes.specs.Descriptor.{pairs_of}

@@ -14,7 +14,7 @@ use Rattle.core_crashes.specs.Notes.{file_at, has_files, is_in_vdso, vdso_of}
 abbrev pub name_of : Option Location → Option (List ℕ)
 name_of function = option_map (λ (place : Location). place.name.now) function
 
--- What a core says of a frame. The file and the vdso are those at the address that is looked up.
+-- The facts about a frame that a core gives. The file and the vdso are those at the address that is looked up.
 abbrev pub frame_facts : List ℕ → FrameValue → FrameSaid
 frame_facts b v = record {
   pc = v.pc;

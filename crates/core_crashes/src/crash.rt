@@ -81,7 +81,7 @@ pub fn crash_of<'a>(
     })
 }
 
-// The name of the field of a core that is at fault.
+// The name of the bad field of a core.
 fn field_of(fault: CoreFault) -> &'static [u8]
     ensures { result.now ≡ spec.field_of fault }
 {

@@ -19,7 +19,7 @@ use unwind::Stop;
 // How many frames have words.
 const MOST: usize = 96;
 
-// What is known of a frame of a core whose vdso is this segment.
+// The known facts about a frame of a core whose vdso is this segment.
 pub(crate) fn frame_facts<'a>(
     core: &CoreImage<'a>,
     vdso: &Option<Segment<'_>>,

@@ -1,4 +1,4 @@
-// What the notes and the program headers of a core say of addresses.
+// The facts about addresses in the notes and the program headers of a core.
 ghost use Rattle.std.specs.Prelude.{◌≡◌, ◌==◌, find, is_some};
 ghost use Rattle.std.specs.Option.{option_map};
 ghost use Rattle.core_notes.specs.DescriptorWords.{pairs_left};

@@ -16,8 +16,8 @@ use memory_replies::space_with;
 use std::alloc::Global;
 
 /// The number of the signal that was being handled when a process crashed: that of the first frame of a signal among the first 16
-/// frames of the thread that dumped. It is none if there is no such frame, or its number can't be read. The core may be the first
-/// bytes alone of the case's image; of the rest as much is read as tells the number.
+/// frames of the thread that dumped. `None` if there is no such frame, or its number can't be read. The core may be only the
+/// first bytes of the case's image; of the rest only the bytes are read that give the number.
 ///
 /// # Errors
 ///

@@ -1,7 +1,7 @@
 -- The front of a template, one part after the other.
 use Rattle.std.proofs.Common.{◌≡◌, ◌≢◌, ◌<◌, ◌≤◌, ℕ, ◌==◌, Bool, true, false, List, [], ◌∷◌, ◌++◌, length, take, drop, get_or, refl, sym, ap, ◌∙◌, append_assoc, arith}
 use Rattle.std.proofs.lemmas.Bool.{eqb-true, ne_eqb}
-use Rattle.core_handler.specs.Fronts.{shared_front, tells_one_core}
+use Rattle.core_handler.specs.Fronts.{shared_front, prints_one_core}
 
 front_plain : (c : ℕ) (cs : List ℕ) → (c == 37) ≡ false → shared_front (c ∷ cs) ≡ c ∷ shared_front cs
 unfolding shared_front
@@ -28,17 +28,17 @@ pub front_other : (t : List ℕ) → 2 ≤ length t → get_or t 0 0 ≢ 37 → 
 front_other [] le ne = absurd (omega (arith, le))
 front_other (c ∷ cs) le ne = front_plain c cs (ne_eqb c 37 ne)
 
-pub front_stop : (t : List ℕ) → 2 ≤ length t → get_or t 0 0 ≡ 37 → tells_one_core (get_or t 1 0) ≡ true → shared_front t ≡ []
+pub front_stop : (t : List ℕ) → 2 ≤ length t → get_or t 0 0 ≡ 37 → prints_one_core (get_or t 1 0) ≡ true → shared_front t ≡ []
 unfolding shared_front
 front_stop [] le e f = absurd (omega (arith, le))
 front_stop (c ∷ []) le e f = absurd (omega (arith, le))
-front_stop (c ∷ d ∷ cs) le e f = let h : c ≡ 37 = e in let k : tells_one_core d ≡ true = f in rw h (rw k refl)
+front_stop (c ∷ d ∷ cs) le e f = let h : c ≡ 37 = e in let k : prints_one_core d ≡ true = f in rw h (rw k refl)
 
-pub front_key : (t : List ℕ) → 2 ≤ length t → get_or t 0 0 ≡ 37 → tells_one_core (get_or t 1 0) ≡ false → shared_front t ≡ take 2 t ++ shared_front (drop 2 t)
+pub front_key : (t : List ℕ) → 2 ≤ length t → get_or t 0 0 ≡ 37 → prints_one_core (get_or t 1 0) ≡ false → shared_front t ≡ take 2 t ++ shared_front (drop 2 t)
 unfolding shared_front
 front_key [] le e f = absurd (omega (arith, le))
 front_key (c ∷ []) le e f = absurd (omega (arith, le))
-front_key (c ∷ d ∷ cs) le e f = let h : c ≡ 37 = e in let k : tells_one_core d ≡ false = f in rw h (rw k refl)
+front_key (c ∷ d ∷ cs) le e f = let h : c ≡ 37 = e in let k : prints_one_core d ≡ false = f in rw h (rw k refl)
 
 -- a part more of a front
 pub front_more : (t front rest part after : List ℕ) → t ≡ front ++ rest → shared_front t ≡ front ++ shared_front rest

@@ -1,4 +1,4 @@
--- What is counted of an outcome.
+-- The counter that rises for an outcome.
 use Rattle.std.specs.Prelude.{ℕ, Bool, true, false, List, [], ◌∷◌, Option, None, Some, replicate, if◌then◌else◌}
 use Rattle.std.specs.List.{slice_set}
 use Rattle.outcome_counts.specs.Counters.{place}
@@ -29,7 +29,7 @@ unstored_counter (Lost archive) reason = counters.Lost reason
 abbrev pub with_more : List ℕ → Counter → ℕ → List ℕ
 with_more counts counter by = slice_set counts (place counter) (more (count_of counts counter) by)
 
--- those of before; all are 0 if there are none
+-- the counts until then; all are 0 if there are no counts yet
 abbrev pub counts_before : Option Counts → List ℕ
 counts_before None = replicate 25 0
 counts_before (Some counts) = counts.counts

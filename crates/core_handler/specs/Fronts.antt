@@ -15,12 +15,12 @@ abbrev pub named_by : List ℕ → Bool → Naming
 named_by template uses_pid = record { template = record { bytes = record { items = template } }; uses_pid = uses_pid; by_build = false }
 
 -- the letter is that of a process, a thread or a time: p, P, i, I or t
-abbrev pub tells_one_core : ℕ → Bool
-tells_one_core c = c == 112 || (c == 80 || (c == 105 || (c == 73 || c == 116)))
+abbrev pub prints_one_core : ℕ → Bool
+prints_one_core c = c == 112 || (c == 80 || (c == 105 || (c == 73 || c == 116)))
 
 -- the part is of one core alone
 abbrev pub is_of_one_core : Part → Bool
-is_of_one_core (Letter c) = tells_one_core c
+is_of_one_core (Letter c) = prints_one_core c
 is_of_one_core Lone = false
 is_of_one_core (Plain c) = false
 
@@ -29,7 +29,7 @@ abbrev pub shared_parts : List Part → List Part
 shared_parts [] = []
 shared_parts (part ∷ parts) = if is_of_one_core part then [] else part ∷ shared_parts parts
 
--- the front of a template that all cores of a program share: what stands before its first `%p`, `%P`, `%i`, `%I` or `%t`
+-- the front of a template that all cores of a program share: the text before its first `%p`, `%P`, `%i`, `%I` or `%t`
 unfoldable pub shared_front : List ℕ → List ℕ
 shared_front template = flat_map spelling (shared_parts (parts_of template))
 

@@ -1,5 +1,5 @@
 pub mod Requesting
 pub mod Fronts
 pub mod Spooling
-pub mod Telling
+pub mod Printing
 pub mod Counting

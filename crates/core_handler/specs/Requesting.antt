@@ -26,7 +26,7 @@ abbrev pub IsTimeRead : {E : Type 0} → Result Duration E → Option ℕ → Ty
 IsTimeRead (Ok time) now = now ≡ Some (as_nanos time / 1_000_000_000)
 IsTimeRead (Err fault) now = now ≡ None
 
--- The time for a configuration with this age: the clock's. With no age there is none.
+-- The time for a configuration with this age: the clock's. With no age there is no time.
 abbrev pub IsTime : {E : Type 0} → (Result Duration E → Type 0) → Option ℕ → Option ℕ → Type 0
 IsTime gives None now = now ≡ None
 IsTime {E} gives (Some age) now = (read : Result Duration E) × gives read × IsTimeRead read now

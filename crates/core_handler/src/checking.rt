@@ -1,4 +1,4 @@
-// What holds by a handler's configuration, told to a person.
+// The effect of a handler's configuration, printed for a person.
 use crate::config_file::Document;
 use crate::handling::{HANDLER_LIMIT, HANDLER_TEMPLATE, HandleWords, UNNAMED, log_of};
 use crate::labels::escaped_label;
@@ -42,19 +42,19 @@ pub(crate) fn check<R: AllocGlobal + Files<File = File> + Clock, O: Output>(
 ) -> Result<(), Failure> {
     let config = Config::of(&document.value);
     let mut reply = Reply::new(output);
-    let is_read = !tell_unread(rt, &mut reply, words, document);
-    tell_config(&mut reply, &config, words.archive);
+    let is_read = !print_unread(rt, &mut reply, words, document);
+    print_config(&mut reply, &config, words.archive);
     let log = log_of(&config, words.archive);
-    tell_path(rt, &mut reply, b"configuration ", Some(words.path()));
-    tell_path(rt, &mut reply, b"archive ", log.archive);
-    tell_file_system(rt, &mut reply, log.archive);
-    tell_path(rt, &mut reply, b"log ", config.log);
-    tell_path(rt, &mut reply, b"spool ", config.spool);
-    tell_fair(&mut reply, &config);
-    tell_pattern(rt, &mut reply, &config);
-    let are_known = tell_faults(rt, &mut reply, words, document);
-    let are_taken = tell_values(rt, &mut reply, &config, log);
-    let is_large = tell_size(rt, &mut reply, &config, words.archive);
+    print_path(rt, &mut reply, b"configuration ", Some(words.path()));
+    print_path(rt, &mut reply, b"archive ", log.archive);
+    print_file_system(rt, &mut reply, log.archive);
+    print_path(rt, &mut reply, b"log ", config.log);
+    print_path(rt, &mut reply, b"spool ", config.spool);
+    print_fair(&mut reply, &config);
+    print_pattern(rt, &mut reply, &config);
+    let are_known = print_faults(rt, &mut reply, words, document);
+    let are_taken = print_values(rt, &mut reply, &config, log);
+    let is_large = print_size(rt, &mut reply, &config, words.archive);
     reply.finish()?;
     if let Some(path) = log.archive {
         note_gap(rt, ArchivePath { path, waits: true }, note);
@@ -67,7 +67,7 @@ pub(crate) fn check<R: AllocGlobal + Files<File = File> + Clock, O: Output>(
 }
 
 // Prints the fault of the file as a whole: then no line of it holds. Returns whether there is one.
-fn tell_unread<R: AllocGlobal, O: Output>(
+fn print_unread<R: AllocGlobal, O: Output>(
     rt: &R,
     reply: &mut Reply<'_, O>,
     words: &HandleWords<'_>,
@@ -76,79 +76,79 @@ fn tell_unread<R: AllocGlobal, O: Output>(
     let Some(line) = document.trouble_line(rt.alloc(), words.path()) else {
         return false;
     };
-    reply.tell(b"fault ");
-    reply.tell(line.text());
-    reply.tell(b"\n");
+    reply.print(b"fault ");
+    reply.print(line.text());
+    reply.print(b"\n");
     true
 }
 
 // A line for each key.
-fn tell_config<O: Output>(reply: &mut Reply<'_, O>, config: &Config<'_>, archive: Option<&str>) {
-    tell_text_line(reply, b"archive ", config.archive.or(archive));
-    tell_number_line(reply, b"keep ", config.keep);
-    tell_number_line(reply, b"bytes ", config.bytes);
-    tell_number_line(reply, b"before ", config.before);
-    tell_number_line(
+fn print_config<O: Output>(reply: &mut Reply<'_, O>, config: &Config<'_>, archive: Option<&str>) {
+    print_text_line(reply, b"archive ", config.archive.or(archive));
+    print_number_line(reply, b"keep ", config.keep);
+    print_number_line(reply, b"bytes ", config.bytes);
+    print_number_line(reply, b"before ", config.before);
+    print_number_line(
         reply,
         b"limit ",
         Some(config.limit.unwrap_or(HANDLER_LIMIT)),
     );
-    tell_flag_line(reply, b"fit ", config.fit);
-    tell_flag_line(reply, b"fair ", config.fair);
-    tell_flag_line(reply, b"cut ", config.cut);
-    tell_burst_line(reply, config.burst);
-    tell_flag_line(reply, b"obey-limit ", config.obeys_limit);
+    print_flag_line(reply, b"fit ", config.fit);
+    print_flag_line(reply, b"fair ", config.fair);
+    print_flag_line(reply, b"cut ", config.cut);
+    print_burst_line(reply, config.burst);
+    print_flag_line(reply, b"obey-limit ", config.obeys_limit);
     let template = config.template.unwrap_or(HANDLER_TEMPLATE);
-    tell_text_line(reply, b"template ", Some(template));
-    tell_flag_line(reply, b"uses-pid ", config.uses_pid);
-    tell_flag_line(reply, b"no-wait ", config.no_wait);
-    tell_text_line(reply, b"label ", config.label);
-    tell_text_line(reply, b"log ", Some(config.log.unwrap_or(KERNEL_LOG)));
+    print_text_line(reply, b"template ", Some(template));
+    print_flag_line(reply, b"uses-pid ", config.uses_pid);
+    print_flag_line(reply, b"no-wait ", config.no_wait);
+    print_text_line(reply, b"label ", config.label);
+    print_text_line(reply, b"log ", Some(config.log.unwrap_or(KERNEL_LOG)));
     if config.stall.is_some() {
-        tell_number_line(reply, b"stall ", config.stall);
+        print_number_line(reply, b"stall ", config.stall);
     }
     if config.spool.is_some() || config.spool_bytes.is_some() {
-        tell_text_line(reply, b"spool ", config.spool);
-        tell_number_line(reply, b"spool-bytes ", config.spool_bytes);
+        print_text_line(reply, b"spool ", config.spool);
+        print_number_line(reply, b"spool-bytes ", config.spool_bytes);
     }
 }
 
-fn tell_text_line<O: Output>(reply: &mut Reply<'_, O>, key: &[u8], text: Option<&str>) {
-    reply.tell(key);
-    reply.tell_text(text.unwrap_or("").as_bytes());
-    reply.tell(b"\n");
+fn print_text_line<O: Output>(reply: &mut Reply<'_, O>, key: &[u8], text: Option<&str>) {
+    reply.print(key);
+    reply.print_text(text.unwrap_or("").as_bytes());
+    reply.print(b"\n");
 }
 
-fn tell_number_line<O: Output>(reply: &mut Reply<'_, O>, key: &[u8], number: Option<u64>) {
-    reply.tell(key);
+fn print_number_line<O: Output>(reply: &mut Reply<'_, O>, key: &[u8], number: Option<u64>) {
+    reply.print(key);
     match number {
-        Some(number) => reply.tell_decimal(u128::from(number)),
-        None => reply.tell(b"-"),
+        Some(number) => reply.print_decimal(u128::from(number)),
+        None => reply.print(b"-"),
     }
-    reply.tell(b"\n");
+    reply.print(b"\n");
 }
 
-fn tell_burst_line<O: Output>(reply: &mut Reply<'_, O>, burst: Option<Burst>) {
-    reply.tell(b"burst ");
+fn print_burst_line<O: Output>(reply: &mut Reply<'_, O>, burst: Option<Burst>) {
+    reply.print(b"burst ");
     match burst {
         Some(burst) => {
-            reply.tell_decimal(u128::from(burst.most));
-            reply.tell(b" in ");
-            reply.tell_decimal(u128::from(burst.seconds));
+            reply.print_decimal(u128::from(burst.most));
+            reply.print(b" in ");
+            reply.print_decimal(u128::from(burst.seconds));
         }
-        None => reply.tell(b"-"),
+        None => reply.print(b"-"),
     }
-    reply.tell(b"\n");
+    reply.print(b"\n");
 }
 
-fn tell_flag_line<O: Output>(reply: &mut Reply<'_, O>, key: &[u8], flag: bool) {
-    reply.tell(key);
-    reply.tell(if flag { b"true\n" } else { b"false\n" });
+fn print_flag_line<O: Output>(reply: &mut Reply<'_, O>, key: &[u8], flag: bool) {
+    reply.print(key);
+    reply.print(if flag { b"true\n" } else { b"false\n" });
 }
 
-// Prints a note on a path that the kernel's handler finds in another folder than the one who asks, and on one that others may give to
-// another file.
-fn tell_path<R: AllocGlobal + Files<File = File>, O: Output>(
+// Prints a note on a path that the kernel's handler finds in another directory
+// than the person who asks, and on one that others may give to another file.
+fn print_path<R: AllocGlobal + Files<File = File>, O: Output>(
     rt: &R,
     reply: &mut Reply<'_, O>,
     key: &[u8],
@@ -161,19 +161,19 @@ fn tell_path<R: AllocGlobal + Files<File = File>, O: Output>(
         return;
     }
     if !path.starts_with('/') {
-        tell_note(reply, key, path);
-        reply.tell(b"the kernel starts its handler in /\n");
+        print_note(reply, key, path);
+        reply.print(b"the kernel starts its handler in /\n");
     }
     if let Some(folder) = shared_folder(rt, path) {
-        tell_note(reply, key, path);
-        reply.tell(b"others may write a folder on its path, ");
-        reply.tell_text(folder.as_bytes());
-        reply.tell(b"\n");
+        print_note(reply, key, path);
+        reply.print(b"others may write a folder on its path, ");
+        reply.print_text(folder.as_bytes());
+        reply.print(b"\n");
     }
 }
 
 // Prints the notes on the file system that the archive lies on.
-fn tell_file_system<R: AllocGlobal + Files<File = File>, O: Output>(
+fn print_file_system<R: AllocGlobal + Files<File = File>, O: Output>(
     rt: &R,
     reply: &mut Reply<'_, O>,
     archive: Option<&str>,
@@ -186,23 +186,23 @@ fn tell_file_system<R: AllocGlobal + Files<File = File>, O: Output>(
     if note.text().is_empty() {
         return;
     }
-    tell_note(reply, b"archive ", path);
-    reply.tell(b"file system ");
-    reply.tell(note.text());
-    reply.tell(b"\n");
+    print_note(reply, b"archive ", path);
+    reply.print(b"file system ");
+    reply.print(note.text());
+    reply.print(b"\n");
 }
 
 // Prints a note if `fair` does nothing, or if names have no user.
-fn tell_fair<O: Output>(reply: &mut Reply<'_, O>, config: &Config<'_>) {
+fn print_fair<O: Output>(reply: &mut Reply<'_, O>, config: &Config<'_>) {
     if !config.fair {
         return;
     }
     if !config.fit {
-        reply.tell(b"note fair: no core goes without fit = true\n");
+        reply.print(b"note fair: no core goes without fit = true\n");
     }
     let template = config.template.unwrap_or(HANDLER_TEMPLATE);
     if !template.starts_with("core.%u.") {
-        reply.tell(
+        reply.print(
             b"note fair: the template does not begin with core.%u., so all cores are of one user\n",
         );
     }
@@ -210,7 +210,7 @@ fn tell_fair<O: Output>(reply: &mut Reply<'_, O>, config: &Config<'_>) {
 
 // Prints a note for each word that the names of cores need and the kernel's pattern does not give. A pattern that starts another program says
 // nothing of this one.
-fn tell_pattern<R: AllocGlobal + Files<File = File>, O: Output>(
+fn print_pattern<R: AllocGlobal + Files<File = File>, O: Output>(
     rt: &R,
     reply: &mut Reply<'_, O>,
     config: &Config<'_>,
@@ -223,54 +223,55 @@ fn tell_pattern<R: AllocGlobal + Files<File = File>, O: Output>(
     }
     let template = config.template.unwrap_or(HANDLER_TEMPLATE);
     if template.contains("%u") && memmem::find(&pattern, b" uid=").is_none() {
-        reply.tell(
+        reply.print(
             b"note core_pattern: it has no uid=%u, so each core is named as if user 0 had made it\n",
         );
     }
     if template.contains("%h") && memmem::find(&pattern, b" host=").is_none() {
-        reply.tell(b"note core_pattern: it has no host=%h, so the names of cores have no host\n");
+        reply.print(b"note core_pattern: it has no host=%h, so the names of cores have no host\n");
     }
 }
 
 // Begins a note on a path.
-fn tell_note<O: Output>(reply: &mut Reply<'_, O>, key: &[u8], path: &str) {
-    reply.tell(b"note ");
-    reply.tell(key);
-    reply.tell_text(path.as_bytes());
-    reply.tell(b": ");
+fn print_note<O: Output>(reply: &mut Reply<'_, O>, key: &[u8], path: &str) {
+    reply.print(b"note ");
+    reply.print(key);
+    reply.print_text(path.as_bytes());
+    reply.print(b": ");
 }
 
-// Prints each fault. Returns whether there is none.
-fn tell_faults<R: AllocGlobal, O: Output>(
+// Prints each fault. Returns whether there are no faults.
+fn print_faults<R: AllocGlobal, O: Output>(
     rt: &R,
     reply: &mut Reply<'_, O>,
     words: &HandleWords<'_>,
     document: &Document,
 ) -> bool {
     let Ok(faults) = document.faults(rt.alloc(), words.path()) else {
-        reply.tell(b"no OutOfMemory\n");
+        reply.print(b"no OutOfMemory\n");
         return false;
     };
     for fault in &faults {
-        reply.tell(b"fault ");
-        reply.tell(fault.text());
-        reply.tell(b"\n");
+        reply.print(b"fault ");
+        reply.print(fault.text());
+        reply.print(b"\n");
     }
     for pair in &words.left_out {
-        reply.tell(b"fault ");
-        reply.tell_text(pair.as_bytes());
-        reply.tell(b": is no pair of the grammar\n");
+        reply.print(b"fault ");
+        reply.print_text(pair.as_bytes());
+        reply.print(b": is no pair of the grammar\n");
     }
     if let Some(length) = words.faulty_length {
-        reply.tell(b"fault ");
-        reply.tell_text(length.as_bytes());
-        reply.tell(b": is no length\n");
+        reply.print(b"fault ");
+        reply.print_text(length.as_bytes());
+        reply.print(b": is no length\n");
     }
     faults.is_empty() && words.left_out.is_empty() && words.faulty_length.is_none()
 }
 
-// Prints the values that would be left out when a core comes, though they are of the right kind. Returns whether there is none.
-fn tell_values<R: AllocGlobal + Files<File = File>, O: Output>(
+// Prints the values that would be left out when a core comes, though
+// they are of the right kind. Returns whether there are no such values.
+fn print_values<R: AllocGlobal + Files<File = File>, O: Output>(
     rt: &R,
     reply: &mut Reply<'_, O>,
     config: &Config<'_>,
@@ -279,22 +280,22 @@ fn tell_values<R: AllocGlobal + Files<File = File>, O: Output>(
     let template = config.template.unwrap_or(HANDLER_TEMPLATE);
     let is_template = Template::parse(template.as_bytes()).is_ok();
     if !is_template {
-        reply.tell(b"fault template: it has over 127 bytes, or begins with |\n");
+        reply.print(b"fault template: it has over 127 bytes, or begins with |\n");
     }
     let is_label = match config.label {
         Some(label) => escaped_label(rt.alloc(), label).is_ok(),
         None => true,
     };
     if !is_label {
-        reply.tell(b"fault label: it has over 64 bytes\n");
+        reply.print(b"fault label: it has over 64 bytes\n");
     }
-    let is_log = tell_log(rt, reply, log);
-    let is_spool = tell_spool(rt, reply, config);
+    let is_log = print_log(rt, reply, log);
+    let is_spool = print_spool(rt, reply, config);
     is_template && is_label && is_log && is_spool
 }
 
-// Prints a fault if no core can go to the spool, or if others may enter it. Returns whether there is none.
-fn tell_spool<R: AllocGlobal + Files<File = File>, O: Output>(
+// Prints a fault if no core can go to the spool, or if others may enter it. Returns whether there is no fault.
+fn print_spool<R: AllocGlobal + Files<File = File>, O: Output>(
     rt: &R,
     reply: &mut Reply<'_, O>,
     config: &Config<'_>,
@@ -305,14 +306,14 @@ fn tell_spool<R: AllocGlobal + Files<File = File>, O: Output>(
     let Some(why) = spool_trouble(rt, folder) else {
         return true;
     };
-    reply.tell(b"fault spool: ");
-    reply.tell_text(folder.as_bytes());
-    reply.tell(why);
-    reply.tell(b"\n");
+    reply.print(b"fault spool: ");
+    reply.print_text(folder.as_bytes());
+    reply.print(why);
+    reply.print(b"\n");
     false
 }
 
-// Why a folder can't be a spool, in words. Nothing if it can.
+// Why a directory can't be a spool, in words. Nothing if it can.
 fn spool_trouble<R: AllocGlobal + Files<File = File>>(
     rt: &R,
     folder: &str,
@@ -329,7 +330,7 @@ fn spool_trouble<R: AllocGlobal + Files<File = File>>(
     }
 }
 
-// Whether a file can be made in a folder. It is removed then.
+// Whether a file can be made in a directory. It is removed then.
 fn takes_files<R: AllocGlobal + Files<File = File>>(rt: &R, folder: &str) -> bool {
     let Ok(path) = path_in(rt.alloc(), folder, "check") else {
         return false;
@@ -346,7 +347,7 @@ fn takes_files<R: AllocGlobal + Files<File = File>>(rt: &R, folder: &str) -> boo
 }
 
 // Prints a fault if a log takes no line. Returns whether it takes one. A missing log is made, as with the first line.
-fn tell_log<R: Files<File = File>, O: Output>(
+fn print_log<R: Files<File = File>, O: Output>(
     rt: &R,
     reply: &mut Reply<'_, O>,
     log: Log<'_>,
@@ -357,9 +358,9 @@ fn tell_log<R: Files<File = File>, O: Output>(
     let Err(fault) = log.open(rt) else {
         return true;
     };
-    reply.tell(b"fault log: ");
-    reply.tell_text(log.path.as_bytes());
-    reply.tell(match fault {
+    reply.print(b"fault log: ");
+    reply.print_text(log.path.as_bytes());
+    reply.print(match fault {
         LogFault::Closed => b" can't be written\n",
         LogFault::Special => b" is a link, or no regular file: no line is written\n",
         LogFault::Archive => b" is the archive: no line is written\n",
@@ -368,34 +369,34 @@ fn tell_log<R: Files<File = File>, O: Output>(
 }
 
 // Prints whether the archive has room for all that the configuration keeps. Returns whether it has.
-fn tell_size<R: AllocGlobal + Files<File = File> + Clock, O: Output>(
+fn print_size<R: AllocGlobal + Files<File = File> + Clock, O: Output>(
     rt: &R,
     reply: &mut Reply<'_, O>,
     config: &Config<'_>,
     archive: Option<&str>,
 ) -> bool {
     let Some(path) = config.archive.or(archive) else {
-        reply.tell(b"fault ");
-        reply.tell(UNNAMED);
-        reply.tell(b"\n");
+        reply.print(b"fault ");
+        reply.print(UNNAMED);
+        reply.print(b"\n");
         return false;
     };
     let place = ArchivePath { path, waits: true };
     match take_look(rt, place) {
         Ok(looked) => {
             let front = looked.unlocked(Vec::new(rt.alloc()));
-            let is_kept = tell_archive(rt.alloc(), reply, config, front);
-            is_kept && !tell_hidden(rt, reply, place)
+            let is_kept = print_archive(rt.alloc(), reply, config, front);
+            is_kept && !print_hidden(rt, reply, place)
         }
         Err(refusal) => {
-            tell_refused(rt.alloc(), reply, b"can't be opened", refusal);
+            print_refused(rt.alloc(), reply, b"can't be opened", refusal);
             false
         }
     }
 }
 
 // Prints the fault of a gate that may hide records of an archive that opens. Returns whether there is one.
-fn tell_hidden<R: AllocGlobal + Files<File = File> + Clock, O: Output>(
+fn print_hidden<R: AllocGlobal + Files<File = File> + Clock, O: Output>(
     rt: &R,
     reply: &mut Reply<'_, O>,
     place: ArchivePath<'_>,
@@ -403,12 +404,12 @@ fn tell_hidden<R: AllocGlobal + Files<File = File> + Clock, O: Output>(
     let Some(fault) = fault_found(rt, place, &mut Nobody) else {
         return false;
     };
-    tell_refused(rt.alloc(), reply, b"may hide cases", Refusal::Open(fault));
+    print_refused(rt.alloc(), reply, b"may hide cases", Refusal::Open(fault));
     true
 }
 
 // Prints whether the archive on a disk is large enough, and whether it opens. Returns whether both hold.
-fn tell_archive<D: Disk + Drop, O: Output>(
+fn print_archive<D: Disk + Drop, O: Output>(
     alloc: Global,
     reply: &mut Reply<'_, O>,
     config: &Config<'_>,
@@ -416,50 +417,55 @@ fn tell_archive<D: Disk + Drop, O: Output>(
 ) -> bool {
     let mut disk = disk;
     let Some(shape) = shape_on(&mut disk) else {
-        reply.tell(b"fault the file is no archive\n");
+        reply.print(b"fault the file is no archive\n");
         return false;
     };
-    let is_large = tell_blocks(reply, config, shape);
+    let is_large = print_blocks(reply, config, shape);
     match Archive::open(alloc, disk, Settings { limit: 0 }) {
         Ok(_) => is_large,
         Err((fault, _)) => {
-            tell_refused(alloc, reply, b"is refused", Refusal::Open(fault));
+            print_refused(alloc, reply, b"is refused", Refusal::Open(fault));
             false
         }
     }
 }
 
 // Prints that the archive has a fault, and which.
-fn tell_refused<O: Output>(alloc: Global, reply: &mut Reply<'_, O>, what: &[u8], refusal: Refusal) {
-    reply.tell(b"fault the archive ");
-    reply.tell(what);
-    reply.tell(b": ");
+fn print_refused<O: Output>(
+    alloc: Global,
+    reply: &mut Reply<'_, O>,
+    what: &[u8],
+    refusal: Refusal,
+) {
+    reply.print(b"fault the archive ");
+    reply.print(what);
+    reply.print(b": ");
     let reason = reason_of(alloc, refusal);
     let words = words_of(alloc, Some(refusal), reason.text(), None);
-    reply.tell(reason.text());
+    reply.print(reason.text());
     if !words.text().is_empty() {
-        reply.tell(b": ");
-        reply.tell(words.text());
+        reply.print(b": ");
+        reply.print(words.text());
     }
-    reply.tell(b"\n");
+    reply.print(b"\n");
 }
 
 // Prints how many blocks are needed, and how many the archive has.
-fn tell_blocks<O: Output>(reply: &mut Reply<'_, O>, config: &Config<'_>, shape: Shape) -> bool {
+fn print_blocks<O: Output>(reply: &mut Reply<'_, O>, config: &Config<'_>, shape: Shape) -> bool {
     let Some(wanted) = blocks_wanted(config) else {
-        reply.tell(b"fault neither fit nor keep is set: a full archive refuses each new core\n");
+        reply.print(b"fault neither fit nor keep is set: a full archive refuses each new core\n");
         return false;
     };
     let is_large = wanted <= u128::from(shape.data_blocks);
-    reply.tell(if is_large {
+    reply.print(if is_large {
         b"blocks "
     } else {
         b"fault too small: blocks "
     });
-    reply.tell_decimal(wanted);
-    reply.tell(b" wanted, ");
-    reply.tell_decimal(u128::from(shape.data_blocks));
-    reply.tell(if is_large {
+    reply.print_decimal(wanted);
+    reply.print(b" wanted, ");
+    reply.print_decimal(u128::from(shape.data_blocks));
+    reply.print(if is_large {
         b" there\n"
     } else {
         b" there: set a lower limit, or make it larger (corekeep resize)\n"

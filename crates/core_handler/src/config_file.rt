@@ -41,7 +41,7 @@ fn nothing(alloc: Global, trouble: Option<Trouble>) -> Document {
     }
 }
 
-// Reads a configuration. What can't be read says nothing.
+// Reads a configuration. One that can't be read sets nothing.
 pub(crate) fn read_document<R: AllocGlobal + Files<File = File>>(rt: &R, path: &str) -> Document {
     match fs::read_to_string(rt, path) {
         Ok(text) => parse(rt.alloc(), text),
@@ -114,17 +114,17 @@ fn fault_line(
 ) -> Collected {
     let mut told = Collected::new(alloc);
     let mut reply = Reply::new(&mut told);
-    reply.tell_text(path.as_bytes());
+    reply.print_text(path.as_bytes());
     if line > 0 {
-        reply.tell(b": line ");
-        reply.tell_decimal(line as u128);
+        reply.print(b": line ");
+        reply.print_decimal(line as u128);
     }
-    reply.tell(b": ");
+    reply.print(b": ");
     if let Some(key) = key {
-        reply.tell_text(key.as_bytes());
-        reply.tell(b" ");
+        reply.print_text(key.as_bytes());
+        reply.print(b" ");
     }
-    reply.tell(words);
+    reply.print(words);
     let _ = reply.finish();
     told
 }

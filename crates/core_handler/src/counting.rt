@@ -63,7 +63,7 @@ impl Uncounted {
     }
 }
 
-// What is counted for a core that is stored.
+// The counter for a core that is stored.
 pub(crate) fn stored_counter(is_cut: bool) -> Counter
     ensures { result ≡ spec.stored_counter is_cut }
 {
@@ -74,7 +74,7 @@ pub(crate) fn stored_counter(is_cut: bool) -> Counter
     }
 }
 
-// What is counted for a core that is not stored, for this reason.
+// The counter for a core that is not stored, for this reason.
 pub(crate) fn unstored_counter(place: Place<'_>, reason: Reason) -> Counter
     ensures { result ≡ spec.unstored_counter place.entry reason }
 {
@@ -195,7 +195,7 @@ fn replace_counts<'a, R: Files<File = File>>(
     take_place(part, &old).map_err(|_| Uncounted::Unwritten)
 }
 
-// Writes the text into a new file under PATH.part. What a process that ended has left there is removed first.
+// Writes the text into a new file under PATH.part. A file that an ended process has left there is removed first.
 fn write_part<'a, R: Files<File = File>>(
     rt: &R,
     alloc: Global,

@@ -9,7 +9,7 @@ use archive_files::Collected;
 use core_length::whole_length;
 use disk_model::Disk;
 use elf_view::{Elf, Want};
-use image_replies::{CoreImage, tell_core_fault, tell_elf_fault};
+use image_replies::{CoreImage, print_core_fault, print_elf_fault};
 use intake::{Archive, Settings};
 use journal_layout::Kind;
 use script_streams::Reply;
@@ -32,7 +32,7 @@ pub(crate) struct Seen {
     pub(crate) length: u64,
     // The signal that ended the process, or 0.
     pub(crate) signal: u32,
-    // What can't be read of its image, in words; empty if that can, or could not be looked at.
+    // The part of its image that can't be read, in words; empty if all can, or if it could not be examined.
     trouble: Collected,
     // How many bytes its image would have, if it is a core that was cut on its way.
     whole: Option<u64>,
@@ -66,23 +66,22 @@ fn machine_name(machine: u16) -> &'static [u8] {
 }
 
 impl Seen {
-    // The part of the image that can't be read, in words: it is no ELF file, or of another machine, or a field has a fault, or its notes
-    // are not
-    // read as they are meant. Nothing is said if its headers and notes are sound and read, or could not be looked at.
+    // The part of the image that can't be read, in words: it is no ELF file, or of another machine, or a field has a fault, or its
+    // notes are not read as they are meant. Nothing is said if its headers and notes are sound and read, or could not be looked at.
     pub(crate) fn trouble(&self) -> &[u8] {
         self.trouble.text()
     }
 
-    // Whether it is a core that was cut on its way, in words; empty if it was not, or that can't be told.
+    // Whether it is a core that was cut on its way, in words; empty if it was not, or if that is not known.
     pub(crate) fn cut(&self, alloc: Global) -> Collected {
         let mut words = Collected::new(alloc);
         let mut reply = Reply::new(&mut words);
         if let Some(whole) = self.whole {
-            reply.tell(b"is cut: ");
-            reply.tell_decimal(u128::from(self.length));
-            reply.tell(b" of ");
-            reply.tell_decimal(u128::from(whole));
-            reply.tell(b" bytes");
+            reply.print(b"is cut: ");
+            reply.print_decimal(u128::from(self.length));
+            reply.print(b" of ");
+            reply.print_decimal(u128::from(whole));
+            reply.print(b" bytes");
         }
         let _ = reply.finish();
         words
@@ -90,27 +89,27 @@ impl Seen {
 }
 
 // Says in words if an image that begins so can't be read as an ELF file of RISC-V 64. Returns whether it did.
-fn tell_kind(reply: &mut Reply<'_, Collected>, front: &[u8]) -> bool {
+fn print_kind(reply: &mut Reply<'_, Collected>, front: &[u8]) -> bool {
     if front.len() < HEAD || !front.starts_with(b"\x7fELF") {
-        reply.tell(b"is no ELF file");
+        reply.print(b"is no ELF file");
         return true;
     }
     let machine = u16::from_le_bytes([front[18], front[19]]);
     if machine == EM_RISCV {
         return false;
     }
-    reply.tell(b"is of machine ");
-    reply.tell_decimal(u128::from(machine));
-    reply.tell(machine_name(machine));
-    reply.tell(b": corekeep answers questions about RISC-V 64");
+    reply.print(b"is of machine ");
+    reply.print_decimal(u128::from(machine));
+    reply.print(machine_name(machine));
+    reply.print(b": corekeep answers questions about RISC-V 64");
     true
 }
 
-// What can't be read of an image that begins so, in words, by its kind alone.
+// The part that can't be read of an image that starts with these bytes, in words, by its kind alone.
 fn kind_trouble(alloc: Global, front: &[u8]) -> Collected {
     let mut words = Collected::new(alloc);
     let mut reply = Reply::new(&mut words);
-    tell_kind(&mut reply, front);
+    print_kind(&mut reply, front);
     let _ = reply.finish();
     words
 }
@@ -124,7 +123,7 @@ fn field_trouble(alloc: Global, kind: Kind, image: &[u8]) -> Collected {
     let mut words = Collected::new(alloc);
     let mut reply = Reply::new(&mut words);
     if let Some(reason) = fault.text().strip_prefix(b"no ".as_slice()) {
-        tell_field(
+        print_field(
             &mut reply,
             kind,
             reason.trim_ascii_end(),
@@ -148,7 +147,7 @@ fn thread_trouble(alloc: Global, kind: Kind, image: &[u8]) -> Collected {
     let mut words = Collected::new(alloc);
     let mut reply = Reply::new(&mut words);
     if unread_in(kind, image) == Some(UnreadNotes::Linux) {
-        reply.tell(b"has threads in notes that are named LINUX: only those named CORE are read");
+        reply.print(b"has threads in notes that are named LINUX: only those named CORE are read");
     }
     let _ = reply.finish();
     words
@@ -165,25 +164,25 @@ fn image_trouble(alloc: Global, kind: Kind, image: &[u8]) -> Collected {
 
 // Names the field that has a fault. If that is the file's type, the case may be of the wrong kind. If it is one of notes that are padded
 // otherwise than those that are read, nothing need be damaged.
-fn tell_field(
+fn print_field(
     reply: &mut Reply<'_, Collected>,
     kind: Kind,
     field: &[u8],
     unread: Option<UnreadNotes>,
 ) {
     if unread == Some(UnreadNotes::Padded) {
-        reply.tell(b"has notes that are padded to 8 bytes: only those padded to 4 are read: ");
-        reply.tell(field);
+        reply.print(b"has notes that are padded to 8 bytes: only those padded to 4 are read: ");
+        reply.print(field);
         return;
     }
     if field != b"e_type".as_slice() {
-        reply.tell(b"is damaged or cut: ");
-        reply.tell(field);
+        reply.print(b"is damaged or cut: ");
+        reply.print(field);
         return;
     }
     match kind {
-        Kind::Core => reply.tell(b"is no core file (e_type): store an executable by --exec NAME"),
-        Kind::Exec => reply.tell(b"is no executable (e_type): store a core file without --exec"),
+        Kind::Core => reply.print(b"is no core file (e_type): store an executable by --exec NAME"),
+        Kind::Exec => reply.print(b"is no executable (e_type): store a core file without --exec"),
     }
 }
 
@@ -192,7 +191,7 @@ fn core_fault(alloc: Global, image: &[u8]) -> Collected {
     let mut told = Collected::new(alloc);
     let mut reply = Reply::new(&mut told);
     if let Err(fault) = CoreImage::read(image) {
-        tell_core_fault(&mut reply, fault);
+        print_core_fault(&mut reply, fault);
     }
     let _ = reply.finish();
     told
@@ -203,7 +202,7 @@ fn exec_fault(alloc: Global, image: &[u8]) -> Collected {
     let mut told = Collected::new(alloc);
     let mut reply = Reply::new(&mut told);
     if let Err(fault) = Elf::read(image, Want::Exec) {
-        tell_elf_fault(&mut reply, fault);
+        print_elf_fault(&mut reply, fault);
     }
     let _ = reply.finish();
     told

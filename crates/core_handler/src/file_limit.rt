@@ -9,7 +9,7 @@ use std::{fs, io};
 // The file in which Linux has the limits of the process (proc(5)).
 const LIMITS: &str = "/proc/self/limits";
 
-// The beginning of the line of the limit on files. The soft limit follows, in bytes.
+// The start of the line of the limit on files. The soft limit follows, in bytes.
 const FILE_SIZE: &str = "Max file size";
 
 // The system's error of a write into a file that may not have so many bytes (errno(3)).

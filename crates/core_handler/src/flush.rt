@@ -7,7 +7,7 @@ use crate::log::Level;
 use crate::notes::Notes;
 use crate::outcome_lines::words_of;
 use crate::spool_paths::SpoolPaths;
-use crate::spool_store::{settle_files, store_kept, tell_unremoved};
+use crate::spool_store::{print_unremoved, settle_files, store_kept};
 use crate::twin::{Twin, twin_of};
 use archive_files::{ArchivePath, Collected, Failure, StoreRequest, open_looked};
 use diagnostics::Onlooker;
@@ -22,7 +22,7 @@ use std::rt::Files;
 use std::time::Clock;
 use whole_files::is_named;
 
-// What stands after the names of cores that were cut on their way, and of those whose name a case has.
+// The texts after the names of cores that were cut on their way, and of those whose name a case has.
 const ENDS: usize = 9;
 
 static WHOLE_ENDS: [&'static str; 9] = ["", "~2", "~3", "~4", "~5", "~6", "~7", "~8", "~9"];
@@ -105,19 +105,19 @@ fn remove_if_lone<R: AllocGlobal + Files<File = File>>(
         return;
     };
     if settle_words(&mut files).is_err() {
-        tell_unremoved(rt, handler, names.words);
+        print_unremoved(rt, handler, names.words);
     }
 }
 
 // Logs why nothing is stored.
 fn refuse<O: Output>(output: &mut O, why: &[u8]) -> Result<(), Failure> {
     let mut reply = Reply::new(output);
-    reply.tell(why);
+    reply.print(why);
     reply.finish()?;
     Err(Failure::Told)
 }
 
-// Stores a core, unless another process has it. Says whether none is left.
+// Stores a core, unless another process has it. Returns whether no core is left.
 fn flush_entry<R: AllocGlobal + Files<File = File> + Clock, O: Output, W: Onlooker>(
     rt: &R,
     handler: &Handler<'_>,
@@ -233,7 +233,7 @@ fn flush_core<R: AllocGlobal + Files<File = File> + Clock, O: Output, W: Onlooke
     }
     let waits = handler.waiting();
     let meaning = words_of(rt.alloc(), None, b"NameTaken", None);
-    waits.tell_lost(rt, words, waiting.place.path, b"NameTaken", meaning.text());
+    waits.print_lost(rt, words, waiting.place.path, b"NameTaken", meaning.text());
     Outcome::NameTaken
 }
 
@@ -256,7 +256,7 @@ fn try_names<R: AllocGlobal + Files<File = File> + Clock, O: Output, W: Onlooker
     None
 }
 
-// What stands after the name of a core at the try of this number, from 0 on.
+// The text after the name of a core at the try of this number, from 0 on.
 fn end_at(stage: Stage, index: usize) -> &'static str {
     let end = match stage {
         Stage::Part => CUT_ENDS.get(index),
@@ -288,7 +288,7 @@ fn try_name<R: AllocGlobal + Files<File = File> + Clock, O: Output, W: Onlooker>
     ) {
         Twin::Other => None,
         Twin::Same => {
-            tell_same(rt, handler, waiting, name.text());
+            print_same(rt, handler, waiting, name.text());
             settle_files(rt, handler, waiting.paths, waiting.stage, Outcome::Stored);
             Some(Outcome::Stored)
         }
@@ -327,7 +327,7 @@ fn bytes_of(file: &File) -> u64 {
 }
 
 // Logs that a core is stored already.
-fn tell_same<R: AllocGlobal + Files<File = File>>(
+fn print_same<R: AllocGlobal + Files<File = File>>(
     rt: &R,
     handler: &Handler<'_>,
     waiting: &Waiting<'_>,
@@ -335,10 +335,10 @@ fn tell_same<R: AllocGlobal + Files<File = File>>(
 ) {
     let mut line = Collected::new(rt.alloc());
     let mut reply = Reply::new(&mut line);
-    reply.tell(b"was stored before: ");
-    reply.tell(name);
-    reply.tell(b" in ");
-    reply.tell_text(waiting.place.path.as_bytes());
+    reply.print(b"was stored before: ");
+    reply.print(name);
+    reply.print(b" in ");
+    reply.print_text(waiting.place.path.as_bytes());
     let _ = reply.finish();
-    handler.tell(rt, Level::Info, line.text());
+    handler.print(rt, Level::Info, line.text());
 }

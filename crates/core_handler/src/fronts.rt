@@ -7,9 +7,8 @@ use inspector_cli::{Naming, NewStream, line_stream};
 use journal_layout::Name;
 use name_template::Template;
 
-// The front that the names of a program's cores share: the text that the template gives up to its first process, thread or time. If it
-// gives
-// nothing, all names begin so.
+// The front that the names of a program's cores share: the text that the template gives
+// up to its first process, thread or time. If it gives nothing, all names begin so.
 #[tactic(auto, using(crate::proofs::NamingLemmas::front_faulty))]
 pub(crate) fn program_front(begin: &[u8], template: &str) -> Name
     ensures { result.items ≡ spec.program_front template.now (said begin.now) }
@@ -42,7 +41,7 @@ fn program_part(template: &[u8]) -> &[u8]
     &template[..template.len() - rest.len()]
 }
 
-// What follows the first part of a template, unless that is of one core alone.
+// The text after the first part of a template, unless that belongs to one core alone.
 fn after_shared(template: &[u8]) -> Option<&[u8]>
     ensures shared { MatchOption result (spec.shared_front template.now ≡ [])
         (λ after. (part : List ℕ) × (template.now ≡ part ++ after.now) × (spec.shared_front template.now ≡ part ++ spec.shared_front after.now)) }
@@ -68,12 +67,12 @@ fn shared_length(template: &[u8]) -> usize
     if template[0] != b'%' {
         return 1;
     }
-    if tells_one_core(template[1]) { 0 } else { 2 }
+    if prints_one_core(template[1]) { 0 } else { 2 }
 }
 
 // Whether `%` with this byte is of one core alone.
-fn tells_one_core(key: u8) -> bool
-    ensures { result ≡ spec.tells_one_core key }
+fn prints_one_core(key: u8) -> bool
+    ensures { result ≡ spec.prints_one_core key }
 {
     matches!(key, b'p' | b'P' | b'i' | b'I' | b't')
 }

@@ -1,13 +1,13 @@
 // The kernel's handler: a core from the input is stored as a configuration says, and the outcome is logged.
 ghost use Rattle.std.specs.Prelude.{◌≡◌, codes, IfOk, IfErr, None};
 ghost use Rattle.std.specs.Option.{option_copied};
-ghost use Rattle.archive_files.specs.Telling.{IsToldAs};
+ghost use Rattle.archive_files.specs.Printing.{IsToldAs};
 ghost use Rattle.archive_files.specs.declared.failures.Refusal.TheVariants.{OutOfMemory};
 ghost use Rattle.script_streams.specs.Replies.{no_reply};
 ghost use Rattle.name_template.specs.Template.{template_fault};
 ghost use Rattle.core_handler.specs.Counting.{counts_by};
 ghost use Rattle.core_handler.specs.Requesting.{AsksBy, IsRequested, IsTime, IsWanted, template_of};
-ghost use Rattle.core_handler.specs.Telling as spec;
+ghost use Rattle.core_handler.specs.Printing as spec;
 
 use crate::checking::check;
 use crate::config_file::{DEFAULT_CONFIG, Document, Trouble, read_document};
@@ -16,9 +16,9 @@ use crate::labels::escaped_label;
 use crate::log::{KERNEL_LOG, Level, Log};
 use crate::notes::Notes;
 use crate::outcome_lines::{Place, lost_line, words_of};
+use crate::printer::{Printer, Source, Spooling, store_told};
 use crate::requesting::{is_limited, request_of, seconds_of};
 use crate::spool_store::{KeptWords, store_by_spool};
-use crate::teller::{Source, Spooling, Teller, store_told};
 use crate::time_source::TimeSource;
 use archive_files::{ArchivePath, Collected, Failure, FileWord, Refusal, StoreRequest};
 use arrayvec::ArrayVec;
@@ -59,11 +59,11 @@ pub struct HandleWords<'a> {
     pub left_out: Vec<&'a str>,
     /// How many bytes the core has, if that is stated.
     pub length: Option<u64>,
-    /// What states its length, and is no number.
+    /// The word that states its length, and is no number.
     pub faulty_length: Option<&'a str>,
     /// For how many seconds the input may give nothing if it is non-blocking, if that is stated.
     pub stall: Option<u64>,
-    /// What states that, and is no number.
+    /// The word that states that, and is no number.
     pub faulty_stall: Option<&'a str>,
     /// How many bytes its process allows a core file, the soft limit, if that is stated.
     pub core_limit: Option<u64>,
@@ -79,7 +79,7 @@ pub struct HandleWords<'a> {
 #[derive(Clone, Copy)]
 pub(crate) struct Handler<'a> {
     pub(crate) config: Config<'a>,
-    pub(crate) teller: Teller<'a>,
+    pub(crate) printer: Printer<'a>,
 }
 
 impl<'a> HandleWords<'a> {
@@ -92,17 +92,15 @@ impl<'a> HandleWords<'a> {
     }
 }
 
-/// Stores a core from the input as a configuration says, and logs its outcome. With `--check` nothing is stored, and the
-/// values that hold are printed on the output; a difference between the two halves of the archive's journal is a note. With a spool the
-/// core goes
-/// there first, and with `--flush` those that wait there are stored.
+/// Stores a core from the input as a configuration says, and logs its outcome. With `--check` nothing is stored,
+/// and the values that hold are printed on the output; a difference between the two halves of the archive's
+/// journal is a note. With a spool the core goes there first, and with `--flush` those that wait there are stored.
 ///
 /// # Errors
 ///
-/// Those of `store_told`, and `File` if no archive is named. `Told`, with the reply `no Limit`, if the configuration obeys the limit of the
-/// core's process, and that is less than a page. With `--check` it is `Told` if not all is in order, and with `--flush` if not all cores
-/// that
-/// wait are stored.
+/// Those of `store_told`, and `File` if no archive is named. `Told`, with the reply `no Limit`, if the
+/// configuration obeys the limit of the core's process, and that is less than a page. With `--check`
+/// it is `Told` if not all is in order, and with `--flush` if not all cores that wait are stored.
 pub fn handle<
     R: AllocGlobal + Files<File = File> + Clock + Clone + Drop,
     I: Read,
@@ -122,11 +120,11 @@ pub fn handle<
         return check(rt, &words, &document, output, note);
     }
     let handler = handler_of(rt.alloc(), config, words.archive, words.mode);
-    tell_faults(rt, &handler, &words, &document);
-    match handler.teller.log.archive {
+    print_faults(rt, &handler, &words, &document);
+    match handler.printer.log.archive {
         Some(archive) => handle_in(rt, &handler, &words, archive, input, output, onlooker),
         None => {
-            handler.tell_lost(rt, &words, "", b"File", UNNAMED);
+            handler.print_lost(rt, &words, "", b"File", UNNAMED);
             Err(Failure::Refused(Refusal::File(FileWord::Archive, FileFault::Missing)))
         }
     }
@@ -147,14 +145,14 @@ fn handler_of<'a>(
     archive: Option<&'a str>,
     mode: Option<u64>,
 ) -> Handler<'a> {
-    let teller = Teller {
+    let printer = Printer {
         alloc,
         log: log_of(&config, archive),
         mode,
         spooling: None,
         counts: counts_by(&config),
     };
-    Handler { config, teller }
+    Handler { config, printer }
 }
 
 // Whether outcomes are counted: the configuration names a log.
@@ -214,7 +212,7 @@ fn handle_in<
     }
 }
 
-// Where a configuration has outcomes told, if the words name this archive.
+// The log to which a configuration has outcomes written, if the words name this archive.
 pub(crate) fn log_of<'a>(config: &Config<'a>, archive: Option<&'a str>) -> Log<'a>
     ensures path { result.path.now ≡ spec.log_said (option_copied config.now.log) }
     ensures archive { option_copied result.archive ≡ spec.archive_said (option_copied config.now.archive) (option_copied archive.entry) }
@@ -226,7 +224,7 @@ pub(crate) fn log_of<'a>(config: &Config<'a>, archive: Option<&'a str>) -> Log<'
 }
 
 /// Reports in the kernel's log a core that is lost since the words can't be read: no configuration names another log.
-pub fn tell_lost_words<R: AllocGlobal + Files<File = File>>(rt: &R) {
+pub fn print_lost_words<R: AllocGlobal + Files<File = File>>(rt: &R) {
     let log = Log {
         path: KERNEL_LOG,
         archive: None,
@@ -241,11 +239,11 @@ pub fn tell_lost_words<R: AllocGlobal + Files<File = File>>(rt: &R) {
         words,
         None,
     );
-    log.tell(rt, rt.alloc(), Level::Error, line.text());
+    log.print(rt, rt.alloc(), Level::Error, line.text());
 }
 
 // Logs the bad parts of the configuration and the pairs, which are left out.
-fn tell_faults<R: AllocGlobal + Files<File = File>>(
+fn print_faults<R: AllocGlobal + Files<File = File>>(
     rt: &R,
     handler: &Handler<'_>,
     words: &HandleWords<'_>,
@@ -256,21 +254,21 @@ fn tell_faults<R: AllocGlobal + Files<File = File>>(
         return;
     }
     if let Some(fault) = document.trouble_line(rt.alloc(), words.path()) {
-        handler.tell(rt, Level::Warning, fault.text());
+        handler.print(rt, Level::Warning, fault.text());
     }
     if let Ok(faults) = document.faults(rt.alloc(), words.path()) {
         for fault in &faults {
-            handler.tell(rt, Level::Warning, fault.text());
+            handler.print(rt, Level::Warning, fault.text());
         }
     }
     for pair in &words.left_out {
-        handler.tell_left_out(rt, b"neither an option nor a pair of the grammar: ", pair);
+        handler.print_left_out(rt, b"neither an option nor a pair of the grammar: ", pair);
     }
     if let Some(length) = words.faulty_length {
-        handler.tell_left_out(rt, b"no length: ", length);
+        handler.print_left_out(rt, b"no length: ", length);
     }
     if let Some(stall) = words.faulty_stall {
-        handler.tell_left_out(rt, b"no number of seconds: ", stall);
+        handler.print_left_out(rt, b"no number of seconds: ", stall);
     }
 }
 
@@ -286,9 +284,9 @@ impl<'a> Handler<'a> {
         };
         Handler {
             config: self.config,
-            teller: Teller {
+            printer: Printer {
                 spooling,
-                ..self.teller
+                ..self.printer
             },
         }
     }
@@ -305,30 +303,30 @@ impl<'a> Handler<'a> {
     pub(crate) fn with_mode(&self, mode: Option<u64>) -> Handler<'a> {
         Handler {
             config: self.config,
-            teller: Teller {
+            printer: Printer {
                 mode,
-                ..self.teller
+                ..self.printer
             },
         }
     }
 
-    pub(crate) fn tell<R: Files<File = File>>(&self, rt: &R, level: Level, text: &[u8]) {
-        self.teller.tell(rt, level, text);
+    pub(crate) fn print<R: Files<File = File>>(&self, rt: &R, level: Level, text: &[u8]) {
+        self.printer.print(rt, level, text);
     }
 
     // Logs that a word is left out, and why.
-    fn tell_left_out<R: AllocGlobal + Files<File = File>>(&self, rt: &R, why: &[u8], word: &str) {
+    fn print_left_out<R: AllocGlobal + Files<File = File>>(&self, rt: &R, why: &[u8], word: &str) {
         let mut line = Collected::new(rt.alloc());
         let mut reply = Reply::new(&mut line);
-        reply.tell(b"left out, since it is ");
-        reply.tell(why);
-        reply.tell_text(word.as_bytes());
+        reply.print(b"left out, since it is ");
+        reply.print(why);
+        reply.print_text(word.as_bytes());
         let _ = reply.finish();
-        self.tell(rt, Level::Warning, line.text());
+        self.print(rt, Level::Warning, line.text());
     }
 
     // Logs that a core is lost before its archive is opened, with this reason and this meaning.
-    pub(crate) fn tell_lost<R: Files<File = File> + Clock>(
+    pub(crate) fn print_lost<R: Files<File = File> + Clock>(
         &self,
         rt: &R,
         words: &HandleWords<'_>,
@@ -336,12 +334,12 @@ impl<'a> Handler<'a> {
         reason: &[u8],
         meaning: &[u8],
     ) {
-        let mut name = Collected::new(self.teller.alloc);
+        let mut name = Collected::new(self.printer.alloc);
         if let Ok(request) = self.request(rt, words) {
-            name = request.printed_name(self.teller.alloc);
+            name = request.printed_name(self.printer.alloc);
         }
-        self.teller
-            .tell_lost(rt, archive, b"", name.text(), reason, meaning);
+        self.printer
+            .print_lost(rt, archive, b"", name.text(), reason, meaning);
     }
 
     // Refuses a core for the limit of its process.
@@ -355,10 +353,10 @@ impl<'a> Handler<'a> {
         ensures told { IsToldAs (O.taken output.old) (O.taken output.new) (O.failures output.old) (O.failures output.new) (no_reply (codes "Limit")) }
         ensures refused { IfOk result (λ done. ⊥) }
     {
-        let meaning = words_of(self.teller.alloc, None, b"Limit", None);
-        self.tell_lost(rt, words, archive, b"Limit", meaning.text());
+        let meaning = words_of(self.printer.alloc, None, b"Limit", None);
+        self.print_lost(rt, words, archive, b"Limit", meaning.text());
         let mut reply = Reply::new(output);
-        reply.tell(b"no Limit\n");
+        reply.print(b"no Limit\n");
         reply.finish()?;
         Err(Failure::Told)
     }
@@ -378,7 +376,7 @@ impl<'a> Handler<'a> {
         Ok(Some(self.request(rt, words)?))
     }
 
-    // The request to store the core. A bad template or label is logged and left out, and so is a bad name.
+    // The request to store the core. A bad template, label or name is logged and left out.
     fn request<R: Files<File = File> + TimeSource>(
         &self,
         rt: &R,
@@ -391,7 +389,7 @@ impl<'a> Handler<'a> {
         let Some(reason) = request.refusal() else {
             return Ok(request);
         };
-        self.tell_unnamed_by(rt, reason);
+        self.print_unnamed_by(rt, reason);
         self.named(rt, words, PLAIN_TEMPLATE)
     }
 
@@ -428,28 +426,28 @@ impl<'a> Handler<'a> {
             return text;
         };
         let told = b"the template is left out: it has over 127 bytes, or begins with |";
-        self.tell(rt, Level::Warning, told);
+        self.print(rt, Level::Warning, told);
         HANDLER_TEMPLATE
     }
 
     // Logs that a template is left out since the name that it gives is refused.
-    fn tell_unnamed_by<R: Files<File = File>>(&self, rt: &R, reason: &[u8]) {
-        let mut line = Collected::new(self.teller.alloc);
+    fn print_unnamed_by<R: Files<File = File>>(&self, rt: &R, reason: &[u8]) {
+        let mut line = Collected::new(self.printer.alloc);
         let mut reply = Reply::new(&mut line);
-        reply.tell(b"the template is left out, since the name is refused: no ");
-        reply.tell(reason);
+        reply.print(b"the template is left out, since the name is refused: no ");
+        reply.print(reason);
         let _ = reply.finish();
-        self.tell(rt, Level::Warning, line.text());
+        self.print(rt, Level::Warning, line.text());
     }
 
     fn label<R: Files<File = File>>(&self, rt: &R) -> Option<ArrayVec<u8, 64>>
         ensures { option_copied self.now.config.label ≡ None → result ≡ None }
     {
         let text = self.config.label?;
-        match escaped_label(self.teller.alloc, text) {
+        match escaped_label(self.printer.alloc, text) {
             Ok(label) => Some(label),
             Err(_) => {
-                self.tell(
+                self.print(
                     rt,
                     Level::Warning,
                     b"the label is left out: it has over 64 bytes",
@@ -482,7 +480,7 @@ impl<'a> Handler<'a> {
         let request = self.named(
             rt,
             words,
-            ended(self.teller.alloc, self.template(rt), end)?.as_str(),
+            ended(self.printer.alloc, self.template(rt), end)?.as_str(),
         )?;
         if request.refusal().is_none() {
             return Ok(request);
@@ -490,7 +488,7 @@ impl<'a> Handler<'a> {
         self.named(
             rt,
             words,
-            ended(self.teller.alloc, PLAIN_TEMPLATE, end)?.as_str(),
+            ended(self.printer.alloc, PLAIN_TEMPLATE, end)?.as_str(),
         )
     }
 
@@ -513,7 +511,7 @@ impl<'a> Handler<'a> {
     ) -> (Result<(), Failure>, Outcome) {
         store_told(
             rt,
-            self.teller,
+            self.printer,
             place,
             source,
             request,

@@ -60,7 +60,7 @@ fn mark_of(level: Level) -> &'static [u8] {
 
 impl<'a> Log<'a> {
     // Writes a line, in one write. A log that can't be written, or may not grow so large, changes nothing else.
-    pub(crate) fn tell<R: Files<File = File>>(
+    pub(crate) fn print<R: Files<File = File>>(
         &self,
         rt: &R,
         alloc: Global,
@@ -80,8 +80,7 @@ impl<'a> Log<'a> {
     }
 
     // Opens the log to add a line, and makes it if it is missing. No call waits: anything but a regular file is refused, except the
-    // kernel's
-    // log, and so is a link.
+    // kernel's log, and a link is refused too.
     pub(crate) fn open<R: Files<File = File>>(&self, rt: &R) -> Result<File, LogFault> {
         let file = open_to_add(rt, self.path)?;
         match self.archive {
@@ -95,11 +94,11 @@ impl<'a> Log<'a> {
         let mut line = Collected::new(alloc);
         let mut reply = Reply::new(&mut line);
         if self.path == KERNEL_LOG {
-            reply.tell(mark_of(level));
+            reply.print(mark_of(level));
         }
-        reply.tell(b"corekeep: ");
-        reply.tell(&text[..text.len().min(LONGEST)]);
-        reply.tell(b"\n");
+        reply.print(b"corekeep: ");
+        reply.print(&text[..text.len().min(LONGEST)]);
+        reply.print(b"\n");
         let _ = reply.finish();
         line
     }

@@ -2,10 +2,10 @@
 use archive_files::Collected;
 use std::alloc::Global;
 
-/// The notes for people although a command did what it was asked to do. An empty note is not printed.
+/// The notes for people that a command prints though it succeeded. An empty note is not printed.
 #[derive(Drop)]
 pub struct Notes {
-    /// On the case that is stored, on the archive that is looked at, or on the folder of the file that is made.
+    /// On the case that is stored, on the archive that is looked at, or on the directory of the file that is made.
     pub subject: Collected,
     /// On the file system of the archive, or on the spool of the case.
     pub second: Collected,

@@ -1,11 +1,11 @@
 // The outcome of a store by its replies, as a log has it.
 ghost use Rattle.std.specs.Prelude.{◌≡◌, List, ℕ};
-ghost use Rattle.archive_files.specs.Telling.{IsKeptAs};
-ghost use Rattle.script_streams.specs.Replies.{TellsText, telling};
-ghost use Rattle.core_handler.specs.Telling as spec;
+ghost use Rattle.archive_files.specs.Printing.{IsKeptAs};
+ghost use Rattle.script_streams.specs.Replies.{PrintsText, printing};
+ghost use Rattle.core_handler.specs.Printing as spec;
 
 use archive_files::{Collected, FileWord, Refusal};
-use command_words::{Context, tell_meaning};
+use command_words::{Context, print_meaning};
 use diagnostics::Trouble;
 use disk_model::FileFault;
 use script_streams::{Output, Reply};
@@ -26,7 +26,7 @@ pub(crate) struct Replied<'a> {
     pub(crate) refused: &'a [u8],
 }
 
-// What follows a word and a space at the start of a line.
+// The text after a word and a space at the start of a line.
 pub(crate) fn after<'a>(line: &'a [u8], word: &[u8]) -> Option<&'a [u8]> {
     line.strip_prefix(word)
 }
@@ -120,12 +120,12 @@ pub(crate) fn lack_words(
     let meaning = words_of(alloc, None, reason, trouble);
     let mut words = Collected::new(alloc);
     let mut reply = Reply::new(&mut words);
-    reply.tell(lack);
-    reply.tell(b": no ");
-    reply.tell(reason);
+    reply.print(lack);
+    reply.print(b": no ");
+    reply.print(reason);
     if !meaning.text().is_empty() {
-        reply.tell(b": ");
-        reply.tell(meaning.text());
+        reply.print(b": ");
+        reply.print(meaning.text());
     }
     let _ = reply.finish();
     words
@@ -135,24 +135,24 @@ pub(crate) fn lack_words(
 const SAFE_MODE: u64 = 2;
 
 // Adds to a line that the process had this dump mode, if it is known.
-fn tell_mode<O: Output>(reply: &mut Reply<'_, O>, mode: Option<u64>)
-    ensures { TellsText (telling O.Output reply.old reply.new) (spec.mode_words mode) }
+fn print_mode<O: Output>(reply: &mut Reply<'_, O>, mode: Option<u64>)
+    ensures { PrintsText (printing O.Output reply.old reply.new) (spec.mode_words mode) }
 {
     let Some(mode) = mode else {
         return;
     };
     if mode == SAFE_MODE {
-        reply.tell(b", mode 2");
+        reply.print(b", mode 2");
     }
 }
 
 // Adds the numbers of the cases that were dropped to a line, as far as they fit.
-fn tell_dropped(reply: &mut Reply<'_, Collected>, replies: &[u8]) {
+fn print_dropped(reply: &mut Reply<'_, Collected>, replies: &[u8]) {
     let mut mark: &[u8] = b", dropped ";
     for line in replies.split(|byte| *byte == b'\n') {
         if let Some(number) = after(line, b"dropped ") {
-            reply.tell(mark);
-            reply.tell(number);
+            reply.print(mark);
+            reply.print(number);
             mark = b" ";
         }
     }
@@ -162,7 +162,7 @@ fn tell_dropped(reply: &mut Reply<'_, Collected>, replies: &[u8]) {
 fn dropped_text(alloc: Global, replies: &[u8]) -> Collected {
     let mut text = Collected::new(alloc);
     let mut reply = Reply::new(&mut text);
-    tell_dropped(&mut reply, replies);
+    print_dropped(&mut reply, replies);
     let _ = reply.finish();
     text
 }
@@ -183,11 +183,11 @@ pub(crate) fn stored_line(
     let dropped = dropped_text(alloc, replies);
     let mut line = Collected::new(alloc);
     let mut reply = Reply::new(&mut line);
-    reply.tell(cut.text());
-    tell_number(&mut reply, number, outcome.name);
-    tell_archive(&mut reply, details, archive);
-    tell_mode(&mut reply, mode);
-    reply.tell(dropped.text());
+    reply.print(cut.text());
+    print_number(&mut reply, number, outcome.name);
+    print_archive(&mut reply, details, archive);
+    print_mode(&mut reply, mode);
+    reply.print(dropped.text());
     let _ = reply.finish();
     line
 }
@@ -197,33 +197,33 @@ fn cut_text(alloc: Global, name: &[u8], cut: Option<&[u8]>) -> Collected {
     let mut text = Collected::new(alloc);
     let mut reply = Reply::new(&mut text);
     if let Some(kept) = cut {
-        reply.tell(b"cut ");
-        reply.tell(name);
-        reply.tell(b" at ");
-        reply.tell(kept);
-        reply.tell(b": ");
+        reply.print(b"cut ");
+        reply.print(name);
+        reply.print(b" at ");
+        reply.print(kept);
+        reply.print(b": ");
     }
     let _ = reply.finish();
     text
 }
 
 // The text that a core is stored as the case of this number.
-fn tell_number<O: Output>(reply: &mut Reply<'_, O>, number: &[u8], name: &[u8])
-    ensures { TellsText (telling O.Output reply.old reply.new) (spec.number_words number.now name.now) }
+fn print_number<O: Output>(reply: &mut Reply<'_, O>, number: &[u8], name: &[u8])
+    ensures { PrintsText (printing O.Output reply.old reply.new) (spec.number_words number.now name.now) }
 {
-    reply.tell(b"stored ");
-    reply.tell(number);
-    reply.tell(b" ");
-    reply.tell(name);
+    reply.print(b"stored ");
+    reply.print(number);
+    reply.print(b" ");
+    reply.print(name);
 }
 
 // Adds the known facts of a case, and its archive.
-fn tell_archive<O: Output>(reply: &mut Reply<'_, O>, details: &[u8], archive: &str)
-    ensures { TellsText (telling O.Output reply.old reply.new) (spec.archive_words details.now archive.now) }
+fn print_archive<O: Output>(reply: &mut Reply<'_, O>, details: &[u8], archive: &str)
+    ensures { PrintsText (printing O.Output reply.old reply.new) (spec.archive_words details.now archive.now) }
 {
-    reply.tell(details);
-    reply.tell(b" in ");
-    reply.tell_text(archive.as_bytes());
+    reply.print(details);
+    reply.print(b" in ");
+    reply.print_text(archive.as_bytes());
 }
 
 // The meaning of a refusal with this reason, in words: for a file which one, and why it could not be opened; for a disk that failed which
@@ -237,8 +237,8 @@ pub(crate) fn words_of(
     let mut words = Collected::new(alloc);
     let mut reply = Reply::new(&mut words);
     match refusal.and_then(|refusal| file_text(alloc, refusal)) {
-        Some(text) => reply.tell(text.as_bytes()),
-        None => tell_meaning(&mut reply, Context::Other, reason, trouble),
+        Some(text) => reply.print(text.as_bytes()),
+        None => print_meaning(&mut reply, Context::Other, reason, trouble),
     }
     let _ = reply.finish();
     words
@@ -256,16 +256,16 @@ fn file_text(alloc: Global, refusal: Refusal) -> Option<String> {
     text.ok()
 }
 
-// Where a core is that is not stored.
+// The place of a core that is not stored.
 #[derive(Clone, Copy)]
 pub(crate) enum Place<'a> {
     // Nowhere: this archive has lost it.
     Lost(&'a str),
-    // In this folder.
+    // In this directory.
     Kept(&'a str),
 }
 
-// What came of a core that is refused for this reason. Cases may go for it or not.
+// The outcome of a core that is refused for this reason. Cases may go for it or not.
 pub(crate) fn reason_outcome(reason: &[u8], makes_room: bool) -> Outcome {
     let word = match reason.split(|byte| *byte == b' ').next() {
         Some(word) => word,
@@ -278,7 +278,7 @@ pub(crate) fn reason_outcome(reason: &[u8], makes_room: bool) -> Outcome {
 }
 
 // The text about a core that is lost or kept for this reason, with this meaning, and about the cases that were dropped even so. An unknown
-// name is a minus, and so is an archive.
+// name or archive is printed as a minus.
 pub(crate) fn lost_line(
     alloc: Global,
     replies: &[u8],
@@ -293,31 +293,31 @@ pub(crate) fn lost_line(
     let dropped = dropped_text(alloc, replies);
     let mut line = Collected::new(alloc);
     let mut reply = Reply::new(&mut line);
-    tell_unstored(&mut reply, name, place);
-    tell_why(&mut reply, reason, words);
-    tell_mode(&mut reply, mode);
-    reply.tell(dropped.text());
+    print_unstored(&mut reply, name, place);
+    print_why(&mut reply, reason, words);
+    print_mode(&mut reply, mode);
+    reply.print(dropped.text());
     let _ = reply.finish();
     line
 }
 
 // The text with the place of a core that is not stored.
-fn tell_unstored<O: Output>(reply: &mut Reply<'_, O>, name: &[u8], place: Place<'_>)
-    ensures { TellsText (telling O.Output reply.old reply.new) (spec.unstored_words place.entry name.now) }
+fn print_unstored<O: Output>(reply: &mut Reply<'_, O>, name: &[u8], place: Place<'_>)
+    ensures { PrintsText (printing O.Output reply.old reply.new) (spec.unstored_words place.entry name.now) }
 {
     match place {
-        Place::Lost(archive) => tell_place(reply, b"lost ", name, archive),
-        Place::Kept(folder) => tell_place(reply, b"kept ", name, folder),
+        Place::Lost(archive) => print_place(reply, b"lost ", name, archive),
+        Place::Kept(folder) => print_place(reply, b"kept ", name, folder),
     }
 }
 
-fn tell_place<O: Output>(reply: &mut Reply<'_, O>, what: &[u8], name: &[u8], path: &str)
-    ensures { TellsText (telling O.Output reply.old reply.new) (spec.place_words what.now name.now path.now) }
+fn print_place<O: Output>(reply: &mut Reply<'_, O>, what: &[u8], name: &[u8], path: &str)
+    ensures { PrintsText (printing O.Output reply.old reply.new) (spec.place_words what.now name.now path.now) }
 {
-    reply.tell(what);
-    reply.tell(name_or_minus(name));
-    reply.tell(b" in ");
-    reply.tell_text(path.as_bytes());
+    reply.print(what);
+    reply.print(name_or_minus(name));
+    reply.print(b" in ");
+    reply.print_text(path.as_bytes());
 }
 
 fn name_or_minus(name: &[u8]) -> &[u8]
@@ -330,19 +330,19 @@ fn name_or_minus(name: &[u8]) -> &[u8]
 }
 
 // Adds the reason why a core is not stored, and its meaning.
-fn tell_why<O: Output>(reply: &mut Reply<'_, O>, reason: &[u8], words: &[u8])
-    ensures { TellsText (telling O.Output reply.old reply.new) (spec.why_words reason.now words.now) }
+fn print_why<O: Output>(reply: &mut Reply<'_, O>, reason: &[u8], words: &[u8])
+    ensures { PrintsText (printing O.Output reply.old reply.new) (spec.why_words reason.now words.now) }
 {
-    reply.tell(b": no ");
-    reply.tell(reason);
-    tell_meant(reply, words);
+    reply.print(b": no ");
+    reply.print(reason);
+    print_meant(reply, words);
 }
 
-fn tell_meant<O: Output>(reply: &mut Reply<'_, O>, words: &[u8])
-    ensures { TellsText (telling O.Output reply.old reply.new) (spec.meant_words words.now) }
+fn print_meant<O: Output>(reply: &mut Reply<'_, O>, words: &[u8])
+    ensures { PrintsText (printing O.Output reply.old reply.new) (spec.meant_words words.now) }
 {
     if !words.is_empty() {
-        reply.tell(b": ");
-        reply.tell(words);
+        reply.print(b": ");
+        reply.print(words);
     }
 }

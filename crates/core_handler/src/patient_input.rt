@@ -5,11 +5,11 @@ use std::io::{ErrorKind, Read};
 use std::time::{Clock, Duration};
 use std::{io, thread};
 
-// The milliseconds between two reads of what has nothing yet.
+// The milliseconds between two reads of an input that has nothing yet.
 const PAUSE_MILLIS: u64 = 10;
 
-// A reader as it is, but that has nothing yet if a read would have to wait, and is read again after a pause. A pipe is so that whoever
-// started the program made non-blocking (O_NONBLOCK, open(2)). Once it gave nothing for too long, each read fails.
+// A reader as it is, except that if a read would have to wait, it is made again after a pause. A pipe is like that if the parent of
+// the program made it non-blocking (O_NONBLOCK, open(2)). Once it gave nothing for too long, each read fails.
 #[derive(Drop)]
 pub(crate) struct PatientInput<'p, R: Clock, I: Read> {
     rt: &'p R,

@@ -103,7 +103,7 @@ fn burst_of(config: &Config<'_>, begin: &[u8], template: &str) -> Option<Burst>
     })
 }
 
-// By what cases are retired.
+// The policy by which cases are retired.
 fn policy_of(config: &Config<'_>, now: Option<u64>) -> Option<Policy>
     ensures { result ≡ spec.policy_of config.now now }
 {

@@ -1,4 +1,4 @@
-// Where the files of a core are in the spool.
+// The paths of a core's files in the spool.
 use spool::{CorePaths, SpoolName, Stage};
 use std::alloc::{AllocError, Global};
 
@@ -16,7 +16,7 @@ pub(crate) struct SpoolPaths {
 }
 
 impl SpoolPaths {
-    // Those of a core that has this name in a folder.
+    // Those of a core that has this name in a directory.
     pub(crate) fn of(
         alloc: Global,
         folder: &str,
@@ -55,7 +55,7 @@ impl SpoolPaths {
     }
 }
 
-// The path of a file in a folder.
+// The path of a file in a directory.
 pub(crate) fn path_in(alloc: Global, folder: &str, name: &str) -> Result<String, AllocError> {
     let mut path = String::from_str(alloc, folder)?;
     path.push_str("/")?;

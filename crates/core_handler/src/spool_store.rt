@@ -9,8 +9,8 @@ use crate::line_numbers::number_in_line;
 use crate::log::Level;
 use crate::notes::Notes;
 use crate::patient_input::PatientInput;
+use crate::printer::{Printer, Source, stall_words};
 use crate::spool_paths::SpoolPaths;
-use crate::teller::{Source, Teller, stall_words};
 use archive_files::{ArchivePath, Collected, Failure, StoreRequest};
 use diagnostics::Onlooker;
 use disk_model::FileFault;
@@ -63,7 +63,7 @@ pub fn store_spooled<
 >(
     rt: &R,
     spool: &SpoolWords<'_>,
-    teller: Teller<'_>,
+    printer: Printer<'_>,
     place: ArchivePath<'_>,
     source: Source<'_>,
     request: StoreRequest,
@@ -80,7 +80,7 @@ pub fn store_spooled<
         spool: Some(spool.folder),
         ..Config::of(&nothing)
     };
-    let handler = Handler { config, teller };
+    let handler = Handler { config, printer };
     let folder = spool.folder;
     let kept = KeptWords {
         begin: &spool.begin,
@@ -144,7 +144,7 @@ pub(crate) fn store_by_spool<
             )
         }
         Err(why) => {
-            tell_unspooled(rt, handler, why, notes);
+            print_unspooled(rt, handler, why, notes);
             let source = handler.input();
             let (ended, _) = handler.store(
                 rt, place, source, request, input, output, notes, onlooker,
@@ -215,7 +215,7 @@ fn room_in<R: AllocGlobal + Files<File = File> + Clone + Drop>(
     }
 }
 
-// How many bytes the cores in a folder have. If it can't be read, there is no room in it.
+// How many bytes the cores in a directory have. If it can't be read, there is no room in it.
 fn bytes_in<R: AllocGlobal + Files<File = File> + Clone + Drop>(rt: &R, folder: &str) -> u64 {
     match entries_in(rt, folder) {
         Ok(found) => taken_bytes(&found.cores),
@@ -223,9 +223,8 @@ fn bytes_in<R: AllocGlobal + Files<File = File> + Clone + Drop>(rt: &R, folder: 
     }
 }
 
-// Takes a core from the input into its file, and stores it from there; or else the bytes that were taken of it, and the rest. The lock of
-// its
-// file is kept until then.
+// Takes a core from the input into its file, and stores it from there; or else the
+// bytes that were taken of it, and the rest. The lock of its file is kept until then.
 fn take<'a, R: AllocGlobal + Files<File = File> + Clock, I: Read, O: Output, W: Onlooker>(
     rt: &'a R,
     handler: &Handler<'_>,
@@ -277,7 +276,7 @@ fn take<'a, R: AllocGlobal + Files<File = File> + Clock, I: Read, O: Output, W: 
         }
         return refuse_stalled(rt, handler, place.path, request, is_kept, seconds, output);
     }
-    tell_unspooled(rt, handler, unspooled.why, notes);
+    print_unspooled(rt, handler, unspooled.why, notes);
     let bytes = unspooled.bytes;
     let held = piece.bytes();
     let ended = store_rest(
@@ -304,9 +303,9 @@ fn store_rest<R: AllocGlobal + Files<File = File> + Clock, I: Read, O: Output, W
 ) -> Result<(), Failure> {
     let Ok(front) = rewound(back) else {
         let why = b"lost: what was spooled of it could not be read";
-        handler.tell(rt, Level::Error, why);
+        handler.print(rt, Level::Error, why);
         let counter = Counter::Lost(Reason::File);
-        handler.teller.count(rt, place.path, counter, b"");
+        handler.printer.count(rt, place.path, counter, b"");
         return Err(Failure::Told);
     };
     let mut rest = Rest {
@@ -342,14 +341,14 @@ fn refuse_stalled<R: AllocGlobal + Files<File = File> + Clock, O: Output>(
 ) -> Result<(), Failure> {
     let name = request.printed_name(rt.alloc());
     let words = stall_words(rt.alloc(), seconds);
-    let teller = if is_kept {
-        handler.waiting().teller
+    let printer = if is_kept {
+        handler.waiting().printer
     } else {
-        handler.teller
+        handler.printer
     };
-    teller.tell_lost(rt, archive, b"", name.text(), b"File", words.text());
+    printer.print_lost(rt, archive, b"", name.text(), b"File", words.text());
     let mut reply = Reply::new(output);
-    reply.tell(b"no File\n");
+    reply.print(b"no File\n");
     reply.finish()?;
     Err(Failure::Stalled(seconds))
 }
@@ -389,7 +388,7 @@ fn unspooled_of(taken: Result<u64, Unspooled>) -> Option<Unspooled>
     }
 }
 
-// Stores a core from the spool, and leaves it there or removes it, by what came of it.
+// Stores a core from the spool, and leaves it there or removes it, by its outcome.
 pub(crate) fn store_kept<R: AllocGlobal + Files<File = File> + Clock, O: Output, W: Onlooker>(
     rt: &R,
     handler: &Handler<'_>,
@@ -428,7 +427,7 @@ pub(crate) fn store_kept<R: AllocGlobal + Files<File = File> + Clock, O: Output,
     (ended, outcome)
 }
 
-// Leaves a core in the spool or removes it, by what came of it.
+// Leaves a core in the spool or removes it, by its outcome.
 pub(crate) fn settle_files<R: AllocGlobal + Files<File = File>>(
     rt: &R,
     handler: &Handler<'_>,
@@ -438,50 +437,50 @@ pub(crate) fn settle_files<R: AllocGlobal + Files<File = File>>(
 ) {
     let mut files = CoreFiles::new(rt, paths.with_words(Stage::Whole), stage);
     if settle(&mut files, outcome).is_err() {
-        tell_unremoved(rt, handler, paths.at(stage));
+        print_unremoved(rt, handler, paths.at(stage));
     }
 }
 
 // Logs that a file of the spool was to be removed, and is not.
-pub(crate) fn tell_unremoved<R: AllocGlobal + Files<File = File>>(
+pub(crate) fn print_unremoved<R: AllocGlobal + Files<File = File>>(
     rt: &R,
     handler: &Handler<'_>,
     path: &str,
 ) {
     let mut line = Collected::new(rt.alloc());
     let mut reply = Reply::new(&mut line);
-    reply.tell_text(path.as_bytes());
-    reply.tell(b" can't be removed");
+    reply.print_text(path.as_bytes());
+    reply.print(b" can't be removed");
     let _ = reply.finish();
-    handler.tell(rt, Level::Warning, line.text());
+    handler.print(rt, Level::Warning, line.text());
 }
 
 // Logs that a core is not in the spool, and why.
-fn tell_unspooled<R: Files<File = File>>(
+fn print_unspooled<R: Files<File = File>>(
     rt: &R,
     handler: &Handler<'_>,
     why: NotSpooled,
     notes: &mut Notes,
 ) {
-    let mut line = Collected::new(handler.teller.alloc);
+    let mut line = Collected::new(handler.printer.alloc);
     let mut reply = Reply::new(&mut line);
-    reply.tell(b"not spooled: ");
-    reply.tell(unspooled_text(why));
+    reply.print(b"not spooled: ");
+    reply.print(unspooled_text(why));
     let _ = reply.finish();
-    handler.tell(rt, Level::Warning, line.text());
+    handler.print(rt, Level::Warning, line.text());
     note_spool(handler, line.text(), notes);
 }
 
-// Notes what becomes of a core in the spool.
+// Notes the fate of a core in the spool.
 fn note_spool(handler: &Handler<'_>, words: &[u8], notes: &mut Notes) {
     let Some(folder) = handler.config.spool else {
         return;
     };
-    let mut line = Collected::new(handler.teller.alloc);
+    let mut line = Collected::new(handler.printer.alloc);
     let mut reply = Reply::new(&mut line);
-    reply.tell_text(folder.as_bytes());
-    reply.tell(b": ");
-    reply.tell(words);
+    reply.print_text(folder.as_bytes());
+    reply.print(b": ");
+    reply.print(words);
     let _ = reply.finish();
     notes.second = line;
 }

@@ -6,7 +6,8 @@ ghost use Rattle.std.specs.declared.io.Error.{Error};
 use std::io;
 use std::time::{Clock, Duration};
 
-// A clock. What reads it is generic in it, so that it has no time but one that the clock gave, and its clauses say so.
+// A clock. The functions that read it are generic in it, so that they
+// have no time but one that the clock gave, and their clauses say so.
 pub(crate) trait TimeSource {
     // Whether it may give this time since 1970, or this failure.
     ghost gives: { Self → Result Duration Error → Type 0 };

@@ -14,10 +14,10 @@ use std::rt::Files;
 // How many bytes are compared at a time.
 const CHUNK: usize = 4096;
 
-// What an archive has under the name of a core.
+// The case that an archive has under the name of a core.
 #[derive(Clone, Copy, Debug, PartialEq, Eq)]
 pub(crate) enum Twin {
-    // No case; or that can't be told.
+    // No case; or that is not known.
     None,
     // A case with its bytes.
     Same,
@@ -64,7 +64,8 @@ impl Output for Comparison<'_> {
     }
 }
 
-// What an archive has under this name, as it prints, beside a core that is in this file and has so many bytes. It takes no lock.
+// The case that an archive has under this name, as it prints, beside a
+// core that is in this file and has so many bytes. It takes no lock.
 pub(crate) fn twin_of<R: AllocGlobal + Files<File = File>>(
     rt: &R,
     place: ArchivePath<'_>,
@@ -106,7 +107,7 @@ fn case_named<D: Disk + Drop>(alloc: Global, disk: D, name: &[u8]) -> Option<Fou
 fn printed(alloc: Global, name: &[u8]) -> Collected {
     let mut text = Collected::new(alloc);
     let mut reply = Reply::new(&mut text);
-    reply.tell_text(name);
+    reply.print_text(name);
     let _ = reply.finish();
     text
 }

@@ -1,4 +1,4 @@
--- How many bytes a core file has, if it is whole: where the last of its segments ends (System V gABI, "ELF Header", "Program Header").
+-- How many bytes a core file has, if it is whole: the end of the last of its segments (System V gABI, "ELF Header", "Program Header").
 use Rattle.std.specs.Prelude.{ℕ, zero, suc, ◌+◌, ◌*◌, ◌==◌, ◌&&◌, not, nat_eq, nat_le, nat_lt, max, min, if◌then◌else◌, List, [], ◌∷◌, length, slice_index, Option, None, Some}
 use Rattle.std.specs.List.{starts_with}
 use Rattle.elf_view.specs.Field.{field}
@@ -23,16 +23,16 @@ class_of b =
     else if not (field b 16 2 == 4) then None
     else class_by (slice_index b 4) (length b)
 
--- p_offset and p_filesz together, or the greatest number of 64 bits
+-- p_offset and p_filesz together, or the highest number of 64 bits
 abbrev pub segment_end : List ℕ → Class → ℕ → ℕ
 segment_end b Narrow at = field b (at + 4) 4 + field b (at + 16) 4
 segment_end b Wide at = min (field b (at + 8) 8 + field b (at + 32) 8) 18446744073709551615
 
--- where a segment ends whose header is there, if it is a PT_LOAD (1)
+-- the end of a segment whose header is there, if it is a PT_LOAD (1)
 abbrev pub load_end : List ℕ → Class → ℕ → ℕ
 load_end b class at = if field b at 4 == 1 then segment_end b class at else 0
 
--- the greatest end of n segments whose headers stand from a place on; 0 if none is a PT_LOAD
+-- the highest end of n segments whose headers stand from a place on; 0 if none is a PT_LOAD
 abbrev pub last_end : List ℕ → Class → ℕ → ℕ → ℕ
 last_end b class table zero = 0
 last_end b class table (suc n) = max (load_end b class (table + header_size class * n)) (last_end b class table n)

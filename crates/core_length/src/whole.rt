@@ -23,10 +23,10 @@ const ET_CORE: u16 = 4;
 const PN_XNUM: u16 = 0xffff;
 
 /// How many bytes a core file has, of whatever machine, if it is whole: its segments end there. These are its first bytes, or all. The
-/// file may have fewer: it was cut on its way. An end that is no number of 64 bits is told as the greatest one.
+/// file may have fewer: it was cut on its way. An end that is no number of 64 bits is given as the highest one.
 ///
-/// `None` if that can't be told: they are no little-endian ELF core file, or the program headers are not whole in them, or number
-/// 65,535 or more. (System V gABI, "ELF Header", "Program Header".)
+/// `None` if the length can't be known: the bytes are no little-endian ELF core file, or the program headers are not whole in
+/// them, or number 65,535 or more. (System V gABI, "ELF Header", "Program Header".)
 #[tactic(auto, unfolding(crate::specs::Whole::whole_length))]
 pub fn whole_length(front: &[u8]) -> Option<u64>
     ensures { result ≡ spec.whole_length front.now }
@@ -95,7 +95,7 @@ fn table_length(front: &[u8], class: Class, table: u64, size: u16, count: u16) -
     Some(last_end(front, class, table as usize, count))
 }
 
-// Where the last of the segments ends that are loaded; 0 if there is none.
+// The highest end of the segments that are loaded; 0 if no segment is loaded.
 fn last_end(front: &[u8], class: Class, table: usize, count: u16) -> u64
     requires { table + spec.header_size class * count ≤ length front.now }
     ensures { result ≡ spec.last_end front.now class table count }
@@ -108,7 +108,7 @@ fn last_end(front: &[u8], class: Class, table: usize, count: u16) -> u64
     end
 }
 
-// Where a segment ends, if it is one that is loaded; else 0.
+// The end of a segment, if it is one that is loaded; else 0.
 fn load_end(front: &[u8], class: Class, at: usize) -> u64
     requires { at + spec.header_size class ≤ length front.now }
     ensures { result ≡ spec.load_end front.now class at }

@@ -1,4 +1,4 @@
--- What the code's view of a core's notes, and an iterator over its threads' states, mean.
+-- The meaning of the code's view of a core's notes, and of an iterator over its threads' states.
 use Rattle.std.specs.Prelude.{ℕ, List}
 use Rattle.elf_view.specs.NoteList.{NoteView}
 use Rattle.elf_view.specs.NoteWords.{notes_left}

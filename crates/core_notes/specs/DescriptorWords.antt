@@ -1,4 +1,4 @@
--- What the code's typed notes mean: the bytes of their descriptors.
+-- The meaning of the code's typed notes: the bytes of their descriptors.
 use Rattle.std.specs.Prelude.{ℕ, List}
 use Rattle.core_notes.specs.Descriptor.{pairs_between}
 use Rattle.core_notes.specs.declared.auxiliary.Auxv.{Auxv}

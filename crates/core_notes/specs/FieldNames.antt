@@ -1,4 +1,4 @@
--- The names of what may be wrong with a descriptor.
+-- The names of the faults of a descriptor.
 use Rattle.std.specs.Prelude.{ℕ, List, codes}
 use Rattle.core_notes.specs.declared.faults.NoteField.{NoteField}
 use Rattle.core_notes.specs.declared.faults.NoteField.TheVariants.{DescSize, FileCount, FileOffset, FileNames}

@@ -75,7 +75,7 @@ pub record EntryView : Type 0 where
   pub past : ℕ
   pub offset : ℕ
 
--- what a mapped file is without its name
+-- a mapped file without its name
 abbrev pub unnamed : ℕ × FileView → EntryView
 unnamed e = record { number = e.0; start = e.1.start; past = e.1.past; offset = e.1.offset }
 

@@ -1,4 +1,4 @@
--- What the code's lists of mapped files mean.
+-- The meaning of the code's lists of mapped files.
 use Rattle.std.specs.Prelude.{ℕ, List}
 use Rattle.core_notes.specs.FileList.{EntryView, FileView, files_from}
 use Rattle.core_notes.specs.declared.file_list.FileEntry.{FileEntry}

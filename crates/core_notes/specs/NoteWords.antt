@@ -1,4 +1,4 @@
--- What the code's views of a core's notes mean.
+-- The meaning of the code's views of a core's notes.
 use Rattle.std.specs.Option.{option_map}
 use Rattle.core_notes.specs.DescriptorWords.{psinfo_bytes, auxv_bytes, siginfo_bytes}
 use Rattle.core_notes.specs.FileWords.{files_bytes}

@@ -44,12 +44,11 @@ first_descs notes = record {
   files = first_desc 0x46494c45 notes;
 }
 
--- a fault that counts where a test holds
+-- a fault that counts if a test holds
 abbrev pub fault_if : Bool → Option NoteField → Option NoteField
 fault_if t fault = if t then fault else None
 
--- What is wrong with a note, given the first descriptors before it: every NT_PRSTATUS is looked at, and of each other
--- type the first.
+-- The fault of a note, given the first descriptors before it: every NT_PRSTATUS is checked, and of each other type the first.
 abbrev pub fault_after : FirstDescs → NoteView → Option NoteField
 fault_after first note =
     option_or (fault_if (is_typed 1 note) (status_fault note.desc))

@@ -70,8 +70,8 @@ impl<'a> Iterator for Statuses<'a> {
 impl<'a> CoreNotes<'a> {
     ghost use Rattle.core_notes.specs.CoreWords.{notes_seen, statuses_left};
 
-    /// The typed notes of a core, or the first faulty one among those that are looked at: every NT_PRSTATUS and the
-    /// first of each other type, in the order of the notes.
+    /// The typed notes of a core, or the first bad one among those that are checked: every NT_PRSTATUS and the first of
+    /// each other type, in the order of the notes.
     pub fn of(elf: &Elf<'a>) -> Result<CoreNotes<'a>, NoteFault>
         ensures fault { result_err result ≡ typed.core_fault (notes_of (want_of elf.now) (image_of elf.now)) }
         ensures notes { IfOk result (λ c. notes_seen c ≡ notes_of (want_of elf.now) (image_of elf.now)) }

@@ -36,7 +36,7 @@ pub fn psinfo<'a>(note: &Note<'a>) -> Result<crate::process_info::PsInfo<'a>, No
     Ok(crate::process_info::PsInfo::new(note.desc))
 }
 
-/// NT_AUXV. `DescSize` where its size is no multiple of 16 bytes.
+/// NT_AUXV. `DescSize` if its size is no multiple of 16 bytes.
 pub fn auxv<'a>(note: &Note<'a>) -> Result<crate::auxiliary::Auxv<'a>, NoteField>
     ensures fault { result_err result ≡ spec.auxv_fault note.now.desc.now }
     ensures desc { IfOk result (λ a. bytes.auxv_bytes a ≡ note.now.desc.now) }
@@ -47,7 +47,7 @@ pub fn auxv<'a>(note: &Note<'a>) -> Result<crate::auxiliary::Auxv<'a>, NoteField
     Ok(crate::auxiliary::Auxv::new(note.desc))
 }
 
-/// NT_SIGINFO. `DescSize` where it has fewer than 24 bytes.
+/// NT_SIGINFO. `DescSize` if it has fewer than 24 bytes.
 pub fn siginfo<'a>(note: &Note<'a>) -> Result<crate::signal_info::SigInfo<'a>, NoteField>
     ensures fault { result_err result ≡ spec.siginfo_fault note.now.desc.now }
     ensures desc { IfOk result (λ s. bytes.siginfo_bytes s ≡ note.now.desc.now) }
@@ -58,8 +58,8 @@ pub fn siginfo<'a>(note: &Note<'a>) -> Result<crate::signal_info::SigInfo<'a>, N
     Ok(crate::signal_info::SigInfo::new(note.desc))
 }
 
-/// NT_FILE. The first that holds of: `FileCount`, the count and its entries are not all there; `FileOffset`, an entry ends
-/// before it starts or passes the greatest u64; `FileNames`, there are fewer names.
+/// NT_FILE. The first of these that holds: `FileCount`, the count and its entries are not all there; `FileOffset`, an
+/// entry ends before it starts or exceeds the highest u64; `FileNames`, there are fewer names.
 pub fn files<'a>(note: &Note<'a>) -> Result<crate::file_list::Files<'a>, NoteField>
     ensures fault { result_err result ≡ files_fault note.now.desc.now }
     ensures desc { IfOk result (λ f. files_bytes f ≡ note.now.desc.now) }

@@ -50,7 +50,7 @@ pub struct Files<'a> {
     desc: &'a [u8],
     /// The entries are there.
     pub ghost fits: { spec.names_at desc.now ≤ length desc.now },
-    /// None of them passes the greatest u64.
+    /// No entry exceeds the highest u64.
     pub ghost entries: { IsTrue (list_all (spec.is_entry_sound desc.now) (range_with_len 0 (spec.file_count desc.now))) },
 }
 

@@ -138,7 +138,7 @@ impl<'a> FirstNotes<'a> {
     }
 }
 
-/// The first notes of a core, or the first faulty note among those that are looked at.
+/// The first notes of a core, or the first bad note among those that are checked.
 pub(crate) fn first_notes<'a>(notes: Notes<'a>) -> Result<FirstNotes<'a>, NoteFault>
     ensures fault { result_err result ≡ typed.core_fault (notes_left notes.entry) }
     ensures first { IfOk result (λ first. first_view first ≡ typed.first_descs (notes_left notes.entry)) }

@@ -16,7 +16,7 @@ pub use auxiliary::{Auxv, AuxvPair, AuxvPairs};
 pub use core_view::{CoreNotes, Statuses};
 pub use faults::{NoteFault, NoteField};
 pub use file_list::{FileEntry, FileMap, FileMaps, Files};
-pub use laws::the_typed_notes_are_whole;
+pub use laws::{the_errno_is_before_the_code, the_typed_notes_are_whole};
 pub use process_info::PsInfo;
 pub use signal_info::SigInfo;
 pub use thread_state::Status;

@@ -3,7 +3,7 @@ ghost use Rattle.std.specs.Prelude.{◌≡◌, ◌+◌, ◌*◌, ◌≤◌, ◌<
 
 use elf_view::{u32_at, u64_at};
 
-// The signals that tell of an address (signal(7), RISC-V).
+// The signals that come with an address (signal(7), RISC-V).
 const SIGILL: i32 = 4;
 
 const SIGTRAP: i32 = 5;
@@ -14,7 +14,7 @@ const SIGFPE: i32 = 8;
 
 const SIGSEGV: i32 = 11;
 
-// The codes that tell of a sender (sigaction(2)).
+// The codes that come with a sender (sigaction(2)).
 const SI_USER: i32 = 0;
 
 const SI_QUEUE: i32 = -1;
@@ -53,14 +53,14 @@ impl<'a> SigInfo<'a> {
         u32_at(self.desc, 4).cast_signed()
     }
 
-    /// The code: where the signal came from.
+    /// The code: the source of the signal.
     pub fn si_code(&self) -> i32
         ensures { result ≡ spec.si_code (siginfo_bytes self.now) }
     {
         u32_at(self.desc, 8).cast_signed()
     }
 
-    /// Whether the code tells of a sender.
+    /// Whether the code comes with a sender.
     fn has_sender(&self) -> bool
         ensures { result ≡ spec.has_sender (spec.si_code (siginfo_bytes self.now)) }
     {
@@ -68,7 +68,7 @@ impl<'a> SigInfo<'a> {
         code == SI_USER || code == SI_QUEUE || code == SI_TKILL
     }
 
-    /// Whether the signal tells of an address.
+    /// Whether the signal comes with an address.
     fn is_address_signal(&self) -> bool
         ensures { result ≡ spec.is_address_signal (spec.si_signo (siginfo_bytes self.now)) }
     {
@@ -80,7 +80,7 @@ impl<'a> SigInfo<'a> {
             || signal == SIGSEGV
     }
 
-    /// The sender's process, where the code is SI_USER, SI_QUEUE or SI_TKILL.
+    /// The sender's process, if the code is SI_USER, SI_QUEUE or SI_TKILL.
     pub fn si_pid(&self) -> Option<i32>
         ensures { result ≡ spec.si_pid (siginfo_bytes self.now) }
     {
@@ -91,7 +91,7 @@ impl<'a> SigInfo<'a> {
         }
     }
 
-    /// The sender's user, where the code is SI_USER, SI_QUEUE or SI_TKILL.
+    /// The sender's user, if the code is SI_USER, SI_QUEUE or SI_TKILL.
     pub fn si_uid(&self) -> Option<u32>
         ensures { result ≡ spec.si_uid (siginfo_bytes self.now) }
     {
@@ -102,7 +102,8 @@ impl<'a> SigInfo<'a> {
         }
     }
 
-    /// The address that was met, where there is no sender and the signal is SIGILL, SIGTRAP, SIGBUS, SIGFPE or SIGSEGV.
+    /// The address at which the signal arose, if there is no sender
+    /// and the signal is SIGILL, SIGTRAP, SIGBUS, SIGFPE or SIGSEGV.
     pub fn si_addr(&self) -> Option<u64>
         ensures { result ≡ spec.si_addr (siginfo_bytes self.now) }
     {

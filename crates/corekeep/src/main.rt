@@ -1,7 +1,7 @@
 //! The program: its standard streams and its status.
 #![tactic(auto)]
 
-use archive_files::tell_unwritten;
+use archive_files::print_unwritten;
 use command_line::run_program;
 use script_streams::{Output, Reply, WriteOutput};
 use shown_progress::Meter;
@@ -29,30 +29,30 @@ fn main(rt: HostRuntime) -> io::Result<ExitCode> {
         Err(_) => refuse_descriptors(&mut output, &mut errors),
     };
     if let Some(kind) = output.fault() {
-        tell_unwritten(b"standard output", kind, &mut errors);
+        print_unwritten(b"standard output", kind, &mut errors);
     }
     Ok(ExitCode::from(status))
 }
 
 // Says that the process may not open as many files as it needs. Answers the status.
 fn refuse_descriptors<O: Output, E: Output>(output: &mut O, errors: &mut E) -> u8 {
-    tell(
+    print(
         errors,
         b"corekeep: the process may not open as many files as it needs\n",
     );
-    tell(output, b"no File\n");
+    print(output, b"no File\n");
     1
 }
 
-fn tell<O: Output>(output: &mut O, text: &[u8]) {
+fn print<O: Output>(output: &mut O, text: &[u8]) {
     let mut reply = Reply::new(output);
-    reply.tell(text);
+    reply.print(text);
     let _ = reply.finish();
 }
 
 // Opens the null device three times. A file gets the lowest descriptor that is free, so as long as these are there, none of
 // the descriptors 0, 1 and 2 is given to another file: one that was closed when the program began (the kernel starts a
-// handler of core files with descriptor 0 alone) reads as empty and takes what is written.
+// handler of core files with descriptor 0 alone) reads as empty and takes all writes.
 fn hold_standard_streams<R: Files<File = File>>(rt: &R) -> io::Result<(File, File, File)> {
     let first = open_null(rt)?;
     let second = open_null(rt)?;

@@ -4,7 +4,7 @@ use Rattle.script_words.specs.Printing.{hexadecimal}
 use Rattle.crash_signatures.specs.Names.{base_name, plain_name}
 use Rattle.crash_signatures.specs.Words.{WordSaid}
 
--- a range of memory into which a file is mapped: where it begins, and which place of the file is there
+-- a range of memory into which a file is mapped: its start, and the place of the file that is there
 pub record FileSaid : Type 0 where
   pub path : List ℕ
   pub start : ℕ

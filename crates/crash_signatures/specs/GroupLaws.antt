@@ -1,4 +1,4 @@
--- What holds of the groups of cores.
+-- Laws of the groups of cores.
 use Rattle.std.specs.Prelude.{◌≡◌, ℕ, ◌+◌, ◌<◌, ◌≤◌, ◌==◌, Bool, true, ◌&&◌, List, Some, All, Contains, count_by, filter, is_none, length, map, sum_by}
 use Rattle.crash_signatures.specs.Grouping.{IsGrouping}
 use Rattle.crash_signatures.specs.Groups.{GroupSaid, home_of, is_home}

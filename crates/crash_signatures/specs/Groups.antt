@@ -70,7 +70,7 @@ newest g = fold max 0 g.cases
 abbrev pub size : GroupSaid → ℕ
 size g = length g.cases + length g.perhaps
 
--- Where a group comes in the order: the more cores, the lower; and of groups with equally many, the newer the newest case that is
+-- The rank of a group in the order: the more cores, the lower; and of groups with equally many, the newer the newest case that is
 -- certain, the lower. All numbers are below 2 ^ 64.
 abbrev pub rank : GroupSaid → ℕ
 rank g = (2 ^ 64 - 1 - size g) * 2 ^ 64 + (2 ^ 64 - 1 - newest g)

@@ -1,4 +1,4 @@
--- Names of functions and files without what differs from build to build.
+-- Names of functions and files without the parts that differ from build to build.
 use Rattle.std.specs.Prelude.{ℕ, ◌-◌, ◌==◌, Bool, false, ◌&&◌, ◌||◌, nat_eq, nat_le, nat_lt, List, [], ◌∷◌, ◌++◌, length, take, drop, Option, None, Some, codes, if◌then◌else◌}
 use Rattle.std.specs.Char.{is_ascii_digit}
 use Rattle.std.specs.List.{after_last, before_first, ends_with, list_all, slice_split, starts_with}
@@ -21,12 +21,12 @@ abbrev pub is_addition : List ℕ → Bool
 is_addition [] = false
 is_addition (b ∷ bs) = b == 46 && is_among endings (before_first is_dot bs) && list_all is_added (slice_split is_dot bs)
 
--- the bytes before the first addition that goes to the end; all of them, if there is none
+-- the bytes before the first addition that goes to the end; all of them, if there is no addition
 abbrev pub before_addition : List ℕ → List ℕ
 before_addition [] = []
 before_addition (b ∷ bs) = if is_addition (b ∷ bs) then [] else b ∷ before_addition bs
 
--- a name without what compilers added at its end; its first byte stays
+-- a name without the text that compilers added at its end; its first byte stays
 abbrev pub without_addition : List ℕ → List ℕ
 without_addition [] = []
 without_addition (b ∷ bs) = b ∷ before_addition bs
@@ -50,7 +50,7 @@ abbrev pub without_hash : List ℕ → Option ℕ → List ℕ
 without_hash name None = name
 without_hash name (Some at) = take at name ++ codes "E"
 
--- a name without what compilers added, and without the hash of a Rust name; of a name 1,024 bytes are read
+-- a name without the text that compilers added, and without the hash of a Rust name; of a name 1,024 bytes are read
 abbrev pub plain_name : List ℕ → List ℕ
 plain_name name = let plain = without_addition (take 1024 name) in without_hash plain (hash_place plain)
 
@@ -58,7 +58,7 @@ plain_name name = let plain = without_addition (take 1024 name) in without_hash 
 abbrev pub without_deleted : List ℕ → List ℕ
 without_deleted path = if ends_with nat_eq path (codes " (deleted)") then take (length path - 10) path else path
 
--- what follows the last slash
+-- the text after the last slash
 abbrev pub last_part : List ℕ → List ℕ
 last_part path = after_last (λ b. b == 47) path
 

@@ -3,7 +3,7 @@ use Rattle.std.specs.Prelude.{ℕ, Bool, false, List, [], ◌∷◌, ◌++◌, t
 use Rattle.std.specs.Char.{is_ascii_digit}
 use Rattle.crash_signatures.specs.Names.{without_deleted}
 
--- what a core and its case say of the program
+-- the facts about the program that a core and its case give
 pub record ProgramSaid : Type 0 where
   pub entry : Option (List ℕ)
   pub process : Option (List ℕ)

@@ -59,8 +59,8 @@ abbrev pub is_fault : Option HandledSaid → Bool
 is_fault None = false
 is_fault (Some s) = (nat_le 4 s.number && nat_le s.number 8) || s.number == 11 || s.number == 31
 
--- A signal was being handled, whose frame is at this place. If the interrupted code had failed, the crash is its failure, which
--- the handler only reported. Else the handler failed, and what it interrupted says nothing.
+-- A signal was being handled, whose frame is at this place. If the interrupted code had failed, the crash is its failure, which the handler
+-- only reported. Otherwise the handler failed, and the frames of the interrupted code do not count.
 abbrev pub handling : ℕ → List WordSaid → Option HandledSaid → Bool → SignatureSaid
 handling at ws handled is_whole =
     if is_fault handled && nat_lt (at + 1) (length ws) then behind (signal_mark handled ∷ []) (unhandled (drop (at + 1) ws) is_whole)
@@ -79,6 +79,6 @@ is_signal_frame w = w.is_mark && bytes_eq w.text (codes "<signal>")
 abbrev pub signature : List WordSaid → Option HandledSaid → Bool → SignatureSaid
 signature ws handled is_whole = by_signal (position is_signal_frame (take 16 ws)) ws handled is_whole
 
--- the signature of a core that is refused: the name of the field at fault
+-- the signature of a core that is refused: the name of the bad field
 abbrev pub refused : List ℕ → SignatureSaid
 refused field = record { words = bracketed field ∷ []; is_missing = false }

@@ -8,8 +8,8 @@ use Rattle.crash_signatures.specs.Words.{WordSaid, same_words}
 abbrev pub ends_process : WordSaid → Bool
 ends_process w = is_death w.text
 
--- How many of the first 16 words come up to the last one by which the process ends itself. So what stands between two of these
--- goes with them, whatever it is.
+-- How many of the first 16 words come up to the last one by which the process
+-- ends itself. So any word between two of these is dropped with them.
 abbrev pub past_death : List WordSaid → ℕ
 past_death ws = length (take 16 ws) - suffix_len (λ w. not (ends_process w)) (take 16 ws)
 
@@ -23,11 +23,11 @@ is_main w = bytes_eq w.text (codes "main")
 abbrev pub calls_main : WordSaid → Bool
 calls_main w = is_outer w.text
 
--- a word of the outermost part: `main`, what calls it, or what calls a thread's first function
+-- a word of the outermost part: `main`, its caller, or the caller of a thread's first function
 abbrev pub is_outermost : WordSaid → Bool
 is_outermost w = is_main w || calls_main w
 
--- The words up to the outermost part. `main` stays, and so does the first word of all.
+-- The words up to the outermost part. `main` stays, and the first word of all stays too.
 abbrev pub inner_part : Bool → List WordSaid → List WordSaid
 inner_part is_first [] = []
 inner_part is_first (w ∷ ws) =
@@ -40,7 +40,7 @@ abbrev pub ends_twice : ℕ → List WordSaid → Bool
 ends_twice count ws =
     nat_le (2 * count) (length ws) && same_words (drop (length ws - count) ws) (take count (drop (length ws - 2 * count) ws))
 
--- how many words are left if the last one, or two, or three go where they repeat those before them
+-- how many words are left if the last one, or two, or three are dropped because they repeat those before them
 abbrev pub count_left : List WordSaid → ℕ
 count_left ws =
     if ends_twice 1 ws then length ws - 1

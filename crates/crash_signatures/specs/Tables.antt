@@ -1,4 +1,4 @@
--- Names of functions: what compilers add to them, those by which a process ends itself, and those at the outer end of a stack.
+-- Names of functions: the texts that compilers add to them, those by which a process ends itself, and those at the outer end of a stack.
 use Rattle.std.specs.Prelude.{ℕ, Bool, ◌||◌, List, [], ◌∷◌, codes}
 use Rattle.std.specs.List.{list_any}
 use Rattle.std.specs.Str.{bytes_eq}
@@ -7,7 +7,7 @@ use Rattle.std.specs.Str.{bytes_eq}
 abbrev pub is_among : List (List ℕ) → List ℕ → Bool
 is_among names text = list_any (λ name. bytes_eq name text) names
 
--- what compilers put behind a function's name
+-- the texts that compilers put after a function's name
 abbrev pub endings : List (List ℕ)
 endings =
     codes "part" ∷ codes "isra" ∷ codes "constprop" ∷ codes "cold" ∷ codes "lto_priv" ∷ codes "llvm" ∷ codes "localalias" ∷ codes "clone" ∷ []
@@ -46,7 +46,7 @@ glib_deaths =
 unfoldable pub is_death : List ℕ → Bool
 is_death name = is_among c_deaths name || is_among cxx_deaths name || is_among rust_deaths name || is_among glib_deaths name
 
--- what calls `main`, and what calls a thread's first function
+-- the callers of `main`, and those of a thread's first function
 abbrev pub outer_names : List (List ℕ)
 outer_names =
     codes "_start" ∷ codes "start" ∷ codes "_start_c" ∷ codes "__libc_start_main" ∷ codes "__libc_start_main_impl" ∷ codes "__libc_start_call_main"

@@ -11,7 +11,7 @@ use crate::steps::ends_process;
 use crate::words::{Text, Word, add, joined};
 use script_words::print_hexadecimal;
 
-/// What is known of a frame.
+/// The known facts about a frame.
 #[derive(Clone, Copy)]
 pub struct FrameFacts<'a> {
     /// The frame's pc.
@@ -41,9 +41,9 @@ pub struct MappedFile<'a> {
 
 /// The word of a frame.
 ///
-/// It is `<signal>` for the kernel's frame of a signal, else the function's name without what compilers add to it, else the
-/// name of the mapped file and the pc's place in it, else a mark: `<vdso>`, `<null>` for a pc below 4096, `<wild>`, or `?` if
-/// nothing says which files are mapped.
+/// It is `<signal>` for the kernel's frame of a signal, else the function's name without the text
+/// that compilers add to it, else the name of the mapped file and the pc's place in it, else a mark:
+/// `<vdso>`, `<null>` for a pc below 4096, `<wild>`, or `?` if nothing says which files are mapped.
 pub fn word_of(frame: &FrameFacts<'_>) -> Word
     ensures { said result ≡ spec.word_of (frame_said frame.now) }
 {
@@ -59,8 +59,8 @@ pub fn word_of(frame: &FrameFacts<'_>) -> Word
     }
 }
 
-/// The place of a frame in its build: the name of the mapped file, and the pc's place in it, as `word_of` has them. There is none if
-/// no file is mapped there, or if the frame's function is one by which a process ends itself.
+/// The place of a frame in its build: the name of the mapped file, and the pc's place in it, as `word_of` has them. `None` if no
+/// file is mapped there, or if the frame's function is one by which a process ends itself.
 pub fn place_of(frame: &FrameFacts<'_>) -> Option<Text>
     ensures { option_map (λ t. t.items) result ≡ place_of (frame_said frame.now) }
 {

@@ -7,7 +7,7 @@ ghost use Rattle.crash_signatures.specs.declared.groups.Member.{Member};
 
 use std::alloc::{AllocError, Global};
 
-/// A core, by what decides its group.
+/// A core, by the facts that decide its group.
 #[derive(Clone, Copy)]
 pub struct Core {
     /// The case's number.
@@ -127,7 +127,7 @@ fn is_home(core: &Core, place: usize) -> bool
     }
 }
 
-// The groups, each where its first member is.
+// The groups, each at the place of its first member.
 fn groups_in(alloc: Global, members: &[Member]) -> Result<Vec<Group>, AllocError>
     ensures { IfOk result (λ groups. map group_said groups.items ≡ grouped_members members.now) }
 {
@@ -190,7 +190,7 @@ fn is_in(member: &Member, signature: usize, is_perhaps: bool) -> bool
     member.group == signature && member.is_perhaps == is_perhaps
 }
 
-// Where a group comes in the order: the more cores, and the newer the newest that is certain, the lower.
+// The rank of a group in the order: the more cores, and the newer the newest that is certain, the lower.
 fn rank(group: &Group) -> u128
     ensures { result ≡ spec.rank (group_said group.now) }
 {

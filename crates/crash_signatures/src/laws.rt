@@ -1,4 +1,4 @@
-//! What holds of signatures and groups. These functions do nothing.
+//! Laws of signatures and groups. These functions do nothing.
 ghost use Rattle.crash_signatures.specs.GroupLaws.{EachCoreIsInOneGroup, PerhapsHasOneHome, SameGroupIffSameSignature};
 ghost use Rattle.crash_signatures.specs.SignatureLaws.{MovedAlikeIsSignedAlike, RecursionsAreTurned, SignaturesAreShort};
 

@@ -1,4 +1,4 @@
-//! Names of functions and files without what differs from build to build.
+//! Names of functions and files without the parts that differ from build to build.
 ghost use Rattle.std.specs.Prelude.{◌≡◌, ◌<◌, ◌+◌, ◌≤◌, IfSome, length, take};
 ghost use Rattle.std.specs.Char.{is_ascii_digit};
 ghost use Rattle.std.specs.List.{before_first, list_all, position, slice_split};
@@ -45,7 +45,7 @@ fn is_addition(end: &[u8]) -> bool
     }
 }
 
-// The bytes before the first dot; all of them, if there is none.
+// The bytes before the first dot; all of them, if there is no dot.
 #[tactic(auto, using(crate::proofs::NameLemmas::part_at, crate::proofs::NameLemmas::part_whole))]
 fn first_part(parts: &[u8]) -> &[u8]
     ensures { result.now ≡ before_first spec.is_dot parts.now }
@@ -131,7 +131,7 @@ pub(crate) fn base_name(path: &[u8]) -> &[u8]
     if last.is_empty() { b"/" } else { last }
 }
 
-// The bytes behind the last slash; all of them, if there is none.
+// The bytes after the last slash; all of them, if there is no slash.
 #[tactic(auto, using(crate::proofs::NameLemmas::last_at, crate::proofs::NameLemmas::last_whole))]
 fn last_part(path: &[u8]) -> &[u8]
     ensures { result.now ≡ spec.last_part path.now }

@@ -8,7 +8,7 @@ ghost use Rattle.crash_signatures.specs.ProgramViews.{facts_said, program_said};
 use crate::names::without_deleted;
 use crate::words::{Text, front};
 
-/// What a core and its case say of the program.
+/// The facts about the program that a core and its case give.
 #[derive(Clone, Copy)]
 pub struct ProgramFacts<'a> {
     /// The path of the file that is mapped at AT_ENTRY, by NT_FILE.
@@ -30,9 +30,9 @@ pub enum Program<'a> {
     ByCase(Text),
 }
 
-/// The program of a core: the path of the file at its entry, without ` (deleted)`; else its process's name; else the program in
-/// the case's name; else the first 256 bytes of the case's name, with `#` for each number in them. What is empty is as if it was
-/// not known.
+/// The program of a core: the path of the file at its entry, without ` (deleted)`; else
+/// its process's name; else the program in the case's name; else the first 256 bytes of
+/// the case's name, with `#` for each number in them. An empty text counts as unknown.
 pub fn program_of<'a>(facts: &ProgramFacts<'a>) -> Program<'a>
     ensures { program_said result ≡ spec.program_of (facts_said facts.now) }
 {

@@ -6,7 +6,7 @@ ghost use Rattle.crash_signatures.specs.WordViews.{said};
 
 use crate::words::{Word, Words, add_words, are_same, compare};
 
-// How many words have to repeat.
+// How many words must repeat.
 const RUN: usize = 64;
 
 // Among how many words the recursion begins.

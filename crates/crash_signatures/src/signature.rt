@@ -52,7 +52,7 @@ pub fn signature_of(words: &Words, handled: Option<HandledSignal<'_>>, is_whole:
     }
 }
 
-/// The signature of a core that is refused: the name of the field at fault, as `<e_machine>`.
+/// The signature of a core that is refused: the name of the bad field, as `<e_machine>`.
 pub fn signature_of_refused(field: &[u8]) -> Signature
     ensures { signature_said result ≡ spec.refused field.now }
 {

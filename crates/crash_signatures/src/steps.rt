@@ -42,7 +42,8 @@ pub(crate) fn ends_process(word: &Word) -> bool
     is_death(word.text.as_slice())
 }
 
-// The words up to the outermost part of the program's or the thread's stack. `main` stays, and so does the first word of all.
+// The words up to the outermost part of the program's or the
+// thread's stack. `main` stays, and the first word of all stays too.
 #[tactic(auto, using(crate::proofs::StepLemmas::main_here, crate::proofs::StepLemmas::outer_here, crate::proofs::StepLemmas::inner_next, crate::proofs::StepLemmas::inner_end))]
 pub(crate) fn inner_part(words: &[Word]) -> &[Word]
     ensures value { map said result.now ≡ spec.inner_part true (map said words.now) }

@@ -1,5 +1,5 @@
-//! Names of functions: what compilers add to them, those by which a process ends itself, and those that stand at the outer
-//! end of a stack. Each table here is the one of `specs/Tables.antt`.
+//! Names of functions: the texts that compilers add to them, those by which a process ends itself, and those that stand at
+//! the outer end of a stack. Each table here is the one of `specs/Tables.antt`.
 ghost use Rattle.std.specs.Prelude.{◌≡◌, ◌||◌};
 ghost use Rattle.std.specs.List.{list_any};
 ghost use Rattle.std.specs.Str.{bytes_eq};
@@ -96,7 +96,7 @@ static GLIB_DEATHS: [&[u8]; 9] = [
     b"_g_log_abort",
 ];
 
-// What calls `main`, and what calls a thread's first function.
+// The callers of `main`, and those of a thread's first function.
 static OUTER: [&[u8]; 15] = [
     b"_start",
     b"start",

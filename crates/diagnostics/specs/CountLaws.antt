@@ -18,6 +18,6 @@ next_risen old new next = (omega (arith, next), λ small. omega (arith, next, sm
 pub joined_left : (one new other : ℕ) → IsNextCount one new → IsNextCount (joined one other) (joined new other)
 joined_left one new other next = omega (arith, next)
 
--- so is one failure more of the other
+-- one failure more of the other count is one more of both too
 pub joined_right : (one other new : ℕ) → IsNextCount other new → IsNextCount (joined one other) (joined one new)
 joined_right one other new next = omega (arith, next)

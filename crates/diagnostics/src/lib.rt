@@ -1,4 +1,5 @@
-//! What is told of a command while it runs: how far its work is, why the system failed a call on a file, and how often calls failed.
+//! The reports of a command while it runs: the progress of its work,
+//! why the system failed a call on a file, and how often calls failed.
 #![tactic(auto)]
 
 mod failures;
@@ -7,7 +8,7 @@ mod trouble;
 pub use failures::after_failure;
 pub use trouble::{Call, Trouble};
 
-/// Whoever looks on while a command runs. No clause says what it makes of what it is told.
+/// An onlooker of a command while it runs. No clause says how it uses the reports.
 pub trait Onlooker {
     /// A piece of work of this name begins, over so many bytes, if that is known.
     fn begin(&mut self, work: &'static str, whole: Option<u64>);
@@ -22,7 +23,7 @@ pub trait Onlooker {
     fn fail(&mut self, trouble: Trouble);
 }
 
-/// Nobody looks on.
+/// An onlooker that ignores all reports.
 #[derive(Drop)]
 pub struct Nobody;
 

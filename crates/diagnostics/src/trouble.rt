@@ -1,6 +1,6 @@
 // A call of the operating system that failed.
 
-/// What was done to a file.
+/// The call on a file.
 #[derive(Clone, Copy, Debug, PartialEq, Eq)]
 pub enum Call {
     Read,

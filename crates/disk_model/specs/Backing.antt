@@ -1,5 +1,5 @@
--- What a disk under another one does: of the outcomes of a crash it takes none away but by a sync that succeeds, and a write that succeeds leaves any bytes in its range
--- among them.
+-- The behaviour of a disk under another one: only a sync that succeeds takes outcomes of a crash away, and a write that succeeds adds the outcomes
+-- with any bytes in its range.
 use Rattle.std.specs.Prelude.{◌≡◌, ℕ, ◌<◌, List, length, Result, IsTrue, OnOk}
 use Rattle.disk_model.specs.Places.{AreBytes, part, overwritten, SameOutside}
 use Rattle.disk_model.specs.Disk.{Follows, Only, Elapses, HasCause}

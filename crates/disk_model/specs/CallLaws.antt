@@ -1,4 +1,4 @@
--- Honest calls of a file tell of a disk.
+-- Honest calls of a file describe a disk.
 use Rattle.std.proofs.Common.{◌≡◌, inl, inr, ⊎_elim, ℕ, zero, suc, ◌+◌, ◌≤◌, Bool, true, false, is_ok, List, [], ◌∷◌, length, Result, Ok, Err, refl, sym, ◌∙◌, ap, subst, arith}
 use Rattle.disk_model.specs.Places.{AreBytes, part, overwritten, SameOutside}
 use Rattle.disk_model.specs.PlaceLaws.{overwritten_bytes, overwritten_length, overwritten_outside, same_as_it_was}
@@ -40,7 +40,7 @@ call_kept (suc zero) at false bytes left first h kept agrees = torn_kept (length
 call_kept (suc (suc more)) at true bytes left first h kept agrees = settled_kept (length first) h kept
 call_kept (suc (suc more)) at false bytes left first h kept agrees = kept
 
--- what honest calls make of the file
+-- the properties of the file after honest calls
 pub calls_kept : (story : Story) (calls : List Call) → IsHonest story calls → IsKept (length story.first) (replay story calls)
 calls_kept story [] honest = stable_kept story.first honest
 calls_kept story (call ∷ calls) honest =

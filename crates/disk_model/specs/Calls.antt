@@ -1,4 +1,4 @@
--- The calls that were made of a file, with what came of each, and the disk that they tell of.
+-- The calls that were made of a file, each with its result, and the disk that they describe.
 use Rattle.std.specs.Prelude.{◌≡◌, ◌⊎◌, ℕ, zero, suc, ◌+◌, ◌≤◌, Bool, true, IsTrue, if◌then◌else◌, List, [], ◌∷◌, length}
 use Rattle.diagnostics.specs.Counts.{next_count}
 use Rattle.disk_model.specs.Places.{AreBytes, part, overwritten}
@@ -18,13 +18,13 @@ wrote at ok bytes = (1, at, ok, bytes)
 abbrev pub synced : Bool → Call
 synced ok = (2, 0, ok, [])
 
--- What no call tells of a file: its bytes when it was opened, and those that each write which failed left in its range, by the
+-- The facts about a file that no call shows: its bytes when it was opened, and the bytes that each failed write left in its range, by the
 -- number of calls before it.
 pub record Story : Type 0 where
   pub first : List ℕ
   pub left : ℕ → List ℕ
 
--- what a write leaves that failed: in its range these bytes, which no sync has made stable
+-- the bytes after a write that failed: these in its range, which no sync has made stable
 abbrev pub torn_by : Held → ℕ → List ℕ → List ℕ → Held
 torn_by h at bytes left = record { now = overwritten h.now at left; synced = h.synced; since = record { at = at; bytes = bytes } ∷ h.since }
 
@@ -38,8 +38,8 @@ abbrev pub replay : Story → List Call → Held
 replay story [] = stable story.first
 replay story (call ∷ calls) = after_call call.0 call.1 call.2 call.3 (story.left (length calls)) (replay story calls)
 
--- A read that succeeded gave the bytes that the file has by the calls before it. A write lies within the file, and where it failed
--- its range holds what the story says.
+-- A read that succeeded gave the bytes that the file has by the calls before it. A write lies within the file, and if it failed its range
+-- holds the bytes that the story gives.
 abbrev pub Agrees : ℕ → ℕ → Bool → List ℕ → List ℕ → List ℕ → List ℕ → Type 0
 Agrees zero at ok bytes left first now = IsTrue ok → bytes ≡ part now at (length bytes)
 Agrees (suc zero) at ok bytes left first now = (at + length bytes ≤ length first) × (AreBytes bytes × ((length left ≡ length bytes) × AreBytes left))
@@ -50,7 +50,7 @@ abbrev pub IsHonest : Story → List Call → Type 0
 IsHonest story [] = AreBytes story.first
 IsHonest story (call ∷ calls) = Agrees call.0 call.1 call.2 call.3 (story.left (length calls)) story.first (replay story calls).now × IsHonest story calls
 
--- what a crash may have left after at least t of the calls
+-- a crash after at least t of the calls may have left these bytes
 abbrev pub left_since : Story → List Call → ℕ → List ℕ → Type 0
 left_since story [] t c = (t ≤ 0) × MayLeave (stable story.first) c
 left_since story (call ∷ calls) t c = ((t ≤ length calls + 1) × MayLeave (replay story (call ∷ calls)) c) ⊎ left_since story calls t c
@@ -65,7 +65,7 @@ pub record Told (story : Story) : Type 0 where
   pub calls : List Call
   pub honest : IsHonest story calls
 
--- the disk that they tell of
+-- the disk that they describe
 abbrev pub told : (story : Story) → disk.Ghosts (Told story)
 told story = record {
   size = λ d. length story.first;

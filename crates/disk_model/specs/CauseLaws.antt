@@ -1,4 +1,4 @@
--- What a cause tells of the count of failures, whatever was answered.
+-- The count of failures after a call with a cause, whatever the call answered.
 use Rattle.std.proofs.Common.{ℕ, ◌≤◌, Result, Ok, Err, arith}
 use Rattle.disk_model.specs.Disk.{HasCause}
 

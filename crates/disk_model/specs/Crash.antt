@@ -1,4 +1,4 @@
--- What a crash leaves of writes that no sync has made stable, where one chooses it.
+-- The bytes that a crash of the caller's choice leaves of writes that no sync has made stable.
 use Rattle.std.specs.Prelude.{ℕ, ◌/◌, List, [], ◌∷◌, length, take, replicate}
 use Rattle.disk_model.specs.Places.{overwritten}
 use Rattle.disk_model.specs.Notes.{Write, Held}
@@ -14,16 +14,16 @@ torn Whole bytes = bytes
 torn FirstHalf bytes = take (length bytes / 2) bytes
 torn (Fill byte) bytes = replicate (length bytes) byte
 
--- the synced bytes with what it leaves of each of the writes since, which come newest first
+-- the synced bytes, changed by the bytes that it leaves of each write since; the newest write comes first
 abbrev pub left_of : Pick → List ℕ → List Write → List ℕ
 left_of pick synced [] = synced
 left_of pick synced (w ∷ since) = overwritten (left_of pick synced since) w.at (torn pick w.bytes)
 
--- what the crash leaves of a disk's bytes
+-- the bytes that the crash leaves of a disk
 abbrev pub crashed : Pick → Held → List ℕ
 crashed pick h = left_of pick h.synced h.since
 
--- bytes after what is left of one note, and of each of these
+-- the bytes after the crash leaves its part of one note, and of each of these notes
 abbrev pub struck : Pick → List ℕ → Note → List ℕ
 struck pick bytes (Wrote at from) = overwritten bytes at (torn pick from.items)
 struck pick bytes Synced = bytes

@@ -1,4 +1,4 @@
--- What a crash of the caller's choice leaves is what a crash may leave.
+-- The bytes that a crash of the caller's choice leaves are bytes that a crash may leave.
 use Rattle.std.proofs.Common.{◌≡◌, ℕ, ◌+◌, ◌/◌, ◌<◌, ◌≤◌, List, [], ◌∷◌, length, get_or, fold, replicate, refl, ◌∙◌, arith}
 use Rattle.std.proofs.lemmas.List.{length-take, length-replicate, get_or-replicate, get_or_past}
 use Rattle.std.proofs.lemmas.Bool.{cases_lt}

@@ -1,4 +1,4 @@
--- What the calls of a disk do to the bytes that it shows, and to those that a crash may leave.
+-- The effect of the calls of a disk on the bytes that it shows, and on those that a crash may leave.
 use Rattle.std.specs.Prelude.{◌≡◌, ◌⊎◌, ℕ, ◌≤◌, List, Result, OnOk, OnErr}
 use Rattle.disk_model.specs.Places.{SameOutside}
 pub use Rattle.diagnostics.specs.Counts.{HasRisen, IsNextCount, joined}
@@ -15,15 +15,15 @@ Only bytes outcomes = (c : List ℕ) → outcomes c → c ≡ bytes
 abbrev pub ChangedIn : ℕ → ℕ → (List ℕ → Type 0) → List ℕ → Type 0
 ChangedIn at n outcomes c = (d : List ℕ) × outcomes d × SameOutside at n d c
 
--- Time goes on in a call: a crash since t may have left what it may have left before the call, or what it may leave now.
+-- Time passes in a call: a crash since t may have left bytes that it may have left before the call, or bytes that it may leave now.
 pub record Elapses {D : Type 0} (clock : D → ℕ) (may_leave : D → List ℕ → Type 0) (left_since : D → ℕ → List ℕ → Type 0) (old new : D) : Type 0 where
   pub later : clock old ≤ clock new
   pub nothing_else : (t : ℕ) (c : List ℕ) → t ≤ clock old → left_since new t c → left_since old t c ⊎ may_leave new c
   pub keeps : (t : ℕ) (c : List ℕ) → t ≤ clock old → left_since old t c → left_since new t c
-  -- where the clock does not move, a crash leaves nothing new
+  -- if the clock does not move, a crash leaves nothing new
   pub still : clock new ≡ clock old → (c : List ℕ) → may_leave new c → may_leave old c
 
--- A failure that is answered was counted, once; where none is answered, none was counted.
+-- A failure that is answered was counted, once; if none is answered, none was counted.
 pub record HasCause {T E : Type 0} (before now : ℕ) (result : Result T E) : Type 0 where
   pub ok : OnOk result (now ≡ before)
   pub err : OnErr result (IsNextCount before now)

@@ -1,4 +1,4 @@
--- What is known of a disk that fails by plan: the disk within, its plan, and the calls that were made.
+-- The facts about a disk that fails by plan: the disk within, its plan, and the calls that were made.
 use Rattle.std.specs.Prelude.{ℕ}
 use Rattle.disk_model.specs.declared.faulty.Faulty.{Faulty}
 use Rattle.disk_model.specs.declared.fuse.Limit.{Limit}

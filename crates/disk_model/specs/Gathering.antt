@@ -1,4 +1,5 @@
--- A disk with bytes gathered that it is still to take: what it shows with them, what a crash may leave of it, and its moments.
+-- A disk with gathered bytes that it has not taken yet: the bytes that it
+-- shows with them, those that a crash may leave of it, and its moments.
 use Rattle.std.specs.Prelude.{◌≡◌, ◌⊎◌, ℕ, ◌+◌, ◌*◌, ◌^◌, ◌<◌, ◌≤◌, min, List, length, take, Result, IsTrue, OnOk, if◌then◌else◌}
 use Rattle.disk_model.specs.Places.{AreBytes, overwritten, SameOutside}
 use Rattle.disk_model.specs.Disk.{Follows, Elapses}
@@ -18,11 +19,11 @@ abbrev pub fronted : List ℕ → List ℕ → List ℕ
 fronted into from = overwritten into 0 (take (min (length into) (length from)) from)
 
 module _ {D : Type 0} (g : disk.Ghosts D) where
-  -- reads give what the disk shows, with the gathered bytes over it
+  -- reads give the bytes that the disk shows, with the gathered bytes over them
   abbrev pub shown : Laden D → List ℕ
   shown l = overwritten (g.seen l.disk) l.at l.bytes
 
-  -- A crash now leaves what it may leave of an honest disk, with any bytes in the gathered range.
+  -- A crash now leaves bytes that it may leave of an honest disk, with any bytes in the gathered range.
   pub record MayStay (l : Laden D) (c : List ℕ) : Type 0 where
     pub honest : IsTrue (g.is_honest l.disk)
     pub below : List ℕ
@@ -42,7 +43,8 @@ module _ {D : Type 0} (g : disk.Ghosts D) where
     pub until : t < since * 2 ^ 64 + 2 ^ 64
     pub left : g.left_since l.disk since c
 
-  -- A crash since t may have left what one may leave now, since gathering takes no outcome away, or what it may have left of the disk.
+  -- A crash since t may have left bytes that one may leave now, since gathering
+  -- takes no outcome away, or bytes that it may have left of the disk.
   abbrev pub stayed_since : Laden D → ℕ → List ℕ → Type 0
   stayed_since l t c = MayStay l c ⊎ WasLeft l t c
 
@@ -50,7 +52,7 @@ module _ {D : Type 0} (g : disk.Ghosts D) where
   abbrev pub Passes : Laden D → Laden D → Type 0
   Passes old new = Elapses moment MayStay stayed_since old new
 
-  -- Nothing that a caller sees has changed, and a crash leaves nothing new: what was gathered was written, or is kept.
+  -- Nothing that a caller sees has changed, and a crash leaves nothing new: the gathered bytes were written, or are kept.
   pub record IsQuiet (old new : Laden D) : Type 0 where
     pub shows : IsTrue (g.is_honest old.disk) → shown new ≡ shown old
     pub crash : IsTrue (g.is_honest old.disk) → (c : List ℕ) → MayStay new c → MayStay old c

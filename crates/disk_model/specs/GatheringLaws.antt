@@ -128,7 +128,7 @@ module _ (at m n : ℕ) (b c : List ℕ) (same : SameOutside at (m + n) b c) (wi
       (λ past. place_after at (m + n) b c same k 0 (omega (arith, past)) ∙ sym (place_after at m b halfway first_half k 0 (omega (arith, past))))
       outside)
 
--- what the laws below need of those of a disk
+-- the laws of a disk that the laws below need
 pub record Laws {D : Type 0} (g : disk.Ghosts D) : Type 0 where
   pub whole : (d : D) → IsTrue (g.is_honest d) → length (g.seen d) ≡ g.size d
   pub sized : (d : D) (c : List ℕ) → IsTrue (g.is_honest d) → g.may_leave d c → length c ≡ g.size d
@@ -266,7 +266,7 @@ module _ {D : Type 0} (g : disk.Ghosts D) where
       size = refl;
     }
 
-    -- What stays with nothing gathered may stay of the disk.
+    -- A list that stays with nothing gathered may stay of the disk.
     bare : (d : D) (at : ℕ) (c : List ℕ) → MayStay g (laden d at []) c → g.may_leave d c
     bare d at c stays = subst (g.may_leave d) (sym (same_everywhere at stays.below c stays.same)) stays.left
 
@@ -289,7 +289,7 @@ module _ {D : Type 0} (g : disk.Ghosts D) where
             size = read.size;
           }
 
-      -- The disk did not take what was gathered.
+      -- The disk did not take the gathered bytes.
       pub refused : (at : ℕ) (a : List ℕ) → length a < 2 ^ 64 → IsPut g result at a d e → IsQuiet g (laden d at a) (laden e at a)
       refused at a few put =
           let crash : IsTrue (g.is_honest d) → (c : List ℕ) → MayStay g (laden e at a) c → MayStay g (laden d at a) c =
@@ -326,7 +326,7 @@ module _ {D : Type 0} (g : disk.Ghosts D) where
             size = put.size;
           }
 
-    -- The disk took what was gathered.
+    -- The disk took the gathered bytes.
     pub written_out : (d e : D) {T E : Type 0} (done : T) (at : ℕ) (a : List ℕ) → at + length a ≤ g.size d → length a < 2 ^ 64 → IsPut {E = E} g (Ok done) at a d e → IsQuiet g (laden d at a) (laden e at [])
     written_out d e done at a within few put =
         let crash : IsTrue (g.is_honest d) → (c : List ℕ) → MayStay g (laden e at []) c → MayStay g (laden d at a) c =
@@ -452,19 +452,19 @@ module _ {D : Type 0} (g : disk.Ghosts D) where
         size = size;
       }
 
-      -- A crash leaves what it shows.
+      -- A crash leaves the bytes that it shows.
       pub settled : (IsTrue (g.is_honest d) → Only (g.seen d) (g.may_leave e)) → IsTrue (g.is_honest d) → Only (overwritten (g.seen d) at a) (MayStay g (laden e at a))
       settled only honest c stays =
           only honest c (held e c stays)
           ∙ sym (ap (λ (b : List ℕ). overwritten (g.seen d) at b) none ∙ bare_shown d at (omega (arith, within)) honest)
 
-    -- What was stable stays so where nothing new may be left.
+    -- If nothing new may be left, stable bytes stay stable.
     pub settled_on : (old new : Laden D) → IsQuiet g old new → (IsTrue (g.is_honest old.disk) → Only (shown g old) (MayStay g old)) → IsTrue (g.is_honest new.disk) → Only (shown g new) (MayStay g new)
     settled_on old new quiet only honest c stays =
         let was = sym quiet.honesty ∙ honest in
         only was c (quiet.crash was c stays) ∙ sym (quiet.shows was)
 
-    -- With nothing gathered a crash leaves what it leaves of the disk.
+    -- With nothing gathered, a crash leaves the bytes that it leaves of the disk.
     pub bare_stays : (l : Laden D) → l.bytes ≡ [] → IsTrue (g.is_honest l.disk) → (c : List ℕ) → MayStay g l c ↔ g.may_leave l.disk c
     bare_stays l none honest c = (
       λ stays. bare l.disk l.at c (subst (λ (b : List ℕ). MayStay g (laden l.disk l.at b) c) none stays),

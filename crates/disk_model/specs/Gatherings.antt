@@ -1,4 +1,4 @@
--- What is known of a disk whose writes are gathered: the disk below, and whether anything is gathered.
+-- The facts about a disk whose writes are gathered: the disk below, and whether anything is gathered.
 use Rattle.std.specs.Prelude.{◌≡◌, []}
 use Rattle.disk_model.specs.Gathers.{bytes_of}
 use Rattle.disk_model.specs.declared.gathering.Gathering.{Gathering}

@@ -1,4 +1,4 @@
--- What is gathered, where anything may be.
+-- The gathered bytes, if there may be any.
 use Rattle.std.proofs.Common.{arith}
 use Rattle.std.specs.Prelude.{ℕ, ◌^◌, ◌<◌, List, [], length, Option, Some, None}
 use Rattle.disk_model.specs.Places.{AreBytes}

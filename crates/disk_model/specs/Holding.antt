@@ -1,4 +1,4 @@
--- What is known of an open file after each call, and what calls were made of it.
+-- The known facts about an open file after each call, and the calls that were made of it.
 use Rattle.std.specs.Prelude.{◌≡◌, ◌+◌, ℕ, Bool, true, false, not, ◌&&◌, ◌||◌, if◌then◌else◌, Some, None, is_some, List, [], ◌∷◌, length}
 use Rattle.diagnostics.specs.Counts.{next_count}
 use Rattle.disk_model.specs.Calls.{Call, read, wrote, synced}
@@ -29,7 +29,7 @@ pub record IsJustLocked (f : HeldFacts) : Type 0 where
   pub good : f.has_failed_sync ≡ false
   pub uncounted : f.failures ≡ 0
 
--- It was locked, and a sync has made durable what earlier processes wrote. Nothing has failed since.
+-- It was locked, and a sync has made durable the bytes that earlier processes wrote. Nothing has failed since.
 pub record IsSettledFrom (old new : HeldFacts) : Type 0 where
   pub lock : new.lock ≡ old.lock
   pub regular : new.is_regular ≡ old.is_regular
@@ -49,7 +49,7 @@ locked_if given hold f = record f { lock = if given then Some hold else None }
 abbrev pub unlocked : HeldFacts → HeldFacts
 unlocked f = record f { lock = None; is_settled = false }
 
--- What earlier processes wrote was synced, and this is whether that succeeded. The second of these syncs decides.
+-- The bytes that earlier processes wrote were synced, and this says whether that succeeded. The second of these syncs decides.
 abbrev pub settled_if : Bool → HeldFacts → HeldFacts
 settled_if good f = record f {
   is_settled = good;
@@ -61,7 +61,7 @@ settled_if good f = record f {
 abbrev pub counted_if : Bool → HeldFacts → HeldFacts
 counted_if good f = record f { failures = if good then f.failures else next_count f.failures }
 
--- what was written was synced, and this is whether that succeeded
+-- the written bytes were synced, and this says whether that succeeded
 abbrev pub synced_if : Bool → HeldFacts → HeldFacts
 synced_if good f = record (counted_if good f) { has_failed_sync = not good }
 

@@ -1,4 +1,4 @@
--- What a disk in memory holds.
+-- The content of a disk in memory.
 use Rattle.disk_model.specs.Notes.{Held, held}
 use Rattle.disk_model.specs.declared.mem_disk.MemDisk.{MemDisk}
 

@@ -11,7 +11,7 @@ use Rattle.disk_model.specs.declared.disk.Disk as disk
 pub changed_nowhere : (at n : ℕ) (outcomes : List ℕ → Type 0) (c : List ℕ) → outcomes c → ChangedIn at n outcomes c
 changed_nowhere at n outcomes c left = (c, left, same_as_it_was at n c)
 
--- what all outcomes have in a part outside the range, they have after the change
+-- the bytes that all outcomes have in a part outside the range are there after the change too
 pub changed_part : (at n : ℕ) (outcomes : List ℕ → Type 0) (p m : ℕ) (bytes : List ℕ) → (p + m ≤ at) ⊎ (at + n ≤ p) → ((d : List ℕ) → outcomes d → part d p m ≡ bytes)
     → (c : List ℕ) → ChangedIn at n outcomes c → part c p m ≡ bytes
 changed_part at n outcomes p m bytes outside all c changed = part_spared at n changed.0 c changed.2 p m outside ∙ all changed.0 changed.1
@@ -30,7 +30,7 @@ module _ {D : Type 0} (g : disk.Ghosts D) where
   pub started : (old : D) (P : List ℕ → Type 0) → ((c : List ℕ) → g.left_since old (g.clock old) c → P c) → LeavesOnly g old old P
   started old P here = record { later = omega arith; each = here; before = λ t c le left. inl left }
 
-  -- one disk call more, after which a crash leaves what has P
+  -- one more disk call, after which a crash leaves bytes that have P
   pub goes_on : (old mid new : D) (P : List ℕ → Type 0) → LeavesOnly g old mid P → Elapses g.clock g.may_leave g.left_since mid new
       → ((c : List ℕ) → g.may_leave new c → P c) → LeavesOnly g old new P
   goes_on old mid new P so_far time here = record {
@@ -55,7 +55,7 @@ module _ {D : Type 0} (g : disk.Ghosts D) where
         (second.before t c (omega (arith, le, first.later)) left);
   }
 
-  -- what has P has Q
+  -- each list that has P has Q
   pub weakened : (old new : D) (P Q : List ℕ → Type 0) → ((c : List ℕ) → P c → Q c) → LeavesOnly g old new P → LeavesOnly g old new Q
   weakened old new P Q implies so_far = record {
     later = so_far.later;

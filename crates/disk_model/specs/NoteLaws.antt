@@ -1,4 +1,4 @@
--- What holds of the bytes that notes make, and of those that a crash leaves.
+-- Laws of the bytes that notes make, and of those that a crash leaves.
 use Rattle.std.proofs.Common.{◌≡◌, ℕ, ◌+◌, ◌≤◌, List, [], ◌∷◌, length, fold, refl, sym, ◌∙◌, ap, subst, arith}
 use Rattle.std.proofs.lemmas.List.{take_all}
 use Rattle.std.specs.Coded.{×_prop, Π_prop, Unit-prop, le_prop}
@@ -73,7 +73,7 @@ pub now_alone : (first : List ℕ) (notes : List Note) (c : List ℕ) → LeftSi
 now_alone first notes c left =
     subst (λ (l : List Note). MayLeave (held first l) c) (take_all left.0 notes left.1) left.3
 
--- what reads give of such notes is bytes, and may stay
+-- the numbers that reads give of such notes are bytes, and may stay
 pub shown_bytes : (first : List ℕ) (notes : List Note) (present : List ℕ) → AreBytes first → AllFit (length first) notes → present ≡ (held first notes).now → AreBytes present
 shown_bytes first notes present are fit shown = subst AreBytes (sym shown) (held_kept first notes are fit).now_bytes
 

@@ -1,4 +1,4 @@
--- What a list of writes and syncs makes of a disk's bytes, and what a crash after them may leave.
+-- The effect of a list of writes and syncs on a disk's bytes, and the bytes that a crash after them may leave.
 use Rattle.std.specs.Prelude.{◌≡◌, ℕ, ◌+◌, ◌≤◌, List, [], ◌∷◌, length, fold, take}
 use Rattle.disk_model.specs.Places.{AreBytes, overwritten, SameOutside}
 use Rattle.disk_model.specs.declared.note.Note.{Note}
@@ -31,20 +31,20 @@ abbrev pub after : Held → Note → Held
 after h (Wrote at bytes) = written h at bytes.items
 after h Synced = stable h.now
 
--- what these notes make of the first bytes
+-- the bytes that these notes make of the first bytes
 abbrev pub held : List ℕ → List Note → Held
 held first notes = fold after (stable first) notes
 
--- What a crash leaves of synced bytes and the writes since: any bytes in the range of each write, the same elsewhere.
+-- The bytes that a crash leaves of synced bytes and the writes since: any bytes in the range of each write, the same elsewhere.
 abbrev pub Torn : List ℕ → List Write → List ℕ → Type 0
 Torn synced [] c = c ≡ synced
 Torn synced (w ∷ since) c = (d : List ℕ) × Torn synced since d × SameOutside w.at (length w.bytes) d c × AreBytes c
 
--- what a crash may leave of these bytes
+-- a crash may leave these bytes
 abbrev pub MayLeave : Held → List ℕ → Type 0
 MayLeave h c = Torn h.synced h.since c
 
--- what a crash may have left after at least t of the notes
+-- a crash after at least t of the notes may have left these bytes
 abbrev pub LeftSince : List ℕ → List Note → ℕ → List ℕ → Type 0
 LeftSince first notes t c = (k : ℕ) × (t ≤ k) × (k ≤ length notes) × MayLeave (held first (take k notes)) c
 
@@ -53,7 +53,7 @@ abbrev pub Fits : ℕ → Note → Type 0
 Fits n (Wrote at bytes) = (at + length bytes.items ≤ n) × AreBytes bytes.items
 Fits n Synced = Unit {0}
 
--- so does each of them
+-- each of the notes lies within n bytes, and writes bytes
 abbrev pub AllFit : ℕ → List Note → Type 0
 AllFit n [] = Unit {0}
 AllFit n (note ∷ notes) = Fits n note × AllFit n notes

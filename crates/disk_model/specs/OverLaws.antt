@@ -30,7 +30,7 @@ fronted_length y b =
     let long : length (take m b) ≡ m = length-take-le m b (omega arith) in
     overwritten_length y 0 (take m b) (omega (arith, long))
 
--- a list put in place of a part that is as long
+-- a list that replaces a part of the same length
 pub put_over : (x f : List ℕ) (at k : ℕ) → length f ≡ k → take at x ++ (f ++ drop k (drop at x)) ≡ overwritten x at f
 put_over x f at k long =
     ap (λ (z : List ℕ). take at x ++ (f ++ z)) (drop-drop k at x ∙ ap (λ (j : ℕ). drop (at + j) x) (sym long))
@@ -55,11 +55,11 @@ module _ (l : List ℕ) (place : ℕ) (b : List ℕ) (at n : ℕ) (within : at +
   over_part_long : length (part over at n) ≡ n
   over_part_long = part_length over at n (omega (arith, within, over_long))
 
-  -- None of what was read is gathered.
+  -- No byte that was read is gathered.
   pub laid_nothing : (at + n ≤ place) ⊎ (place + length b ≤ at) → part l at n ≡ part over at n
   laid_nothing outside = sym (part_spared place (length b) l over (overwritten_outside l place b fits) at n outside)
 
-  -- The gathered bytes begin within what was read.
+  -- The gathered bytes start within the range that was read.
   module _ (low : at ≤ place) (high : place - at < n) where
     abbrev skipped : ℕ
     skipped = place - at
@@ -112,7 +112,7 @@ module _ (l : List ℕ) (place : ℕ) (b : List ℕ) (at n : ℕ) (within : at +
         ∙ sym (wanted k below))
         (cases_lt k skipped))
 
-  -- What was read begins within the gathered bytes.
+  -- The range that was read starts within the gathered bytes.
   module _ (low : place ≤ at) (high : at - place < length b) where
     abbrev tail : List ℕ
     tail = drop (at - place) b

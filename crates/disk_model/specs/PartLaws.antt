@@ -5,7 +5,7 @@ use Rattle.std.proofs.lemmas.List.{take_at, drop_at, take_all, take-take, drop-d
 use Rattle.disk_model.specs.Places.{AreBytes, part, overwritten, SameOutside}
 use Rattle.disk_model.specs.PlaceLaws.{take_bytes, drop_bytes}
 
--- what a part holds
+-- the bytes of a part
 
 pub part_is : (b : List ℕ) (p n : ℕ) → part b p n ≡ take n (drop p b)
 unfolding part
@@ -27,7 +27,7 @@ pub part_place : (b : List ℕ) (p n k d : ℕ) → k < n → get_or (part b p n
 unfolding part
 part_place b p n k d below = get_or-take n (drop p b) k d below ∙ get_or-drop p b k d
 
--- a part is a front of it and what comes after
+-- a part is a front of it and the rest after that
 pub part_split : (b : List ℕ) (p n m : ℕ) → part b p (n + m) ≡ part b p n ++ part b (p + n) m
 unfolding part
 part_split b p n m = take-add n m (drop p b) ∙ ap (λ (l : List ℕ). take n (drop p b) ++ take m l) (drop-drop n p b)

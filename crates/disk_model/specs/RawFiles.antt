@@ -1,4 +1,4 @@
--- What is known of a file as a disk.
+-- The facts about a file as a disk.
 use Rattle.disk_model.specs.declared.raw_file.RawFile.{RawFile}
 use Rattle.disk_model.specs.declared.held_file.HeldFile as held
 

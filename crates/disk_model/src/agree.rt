@@ -1,4 +1,4 @@
-// What the clauses of a disk give over several calls.
+// Consequences of the clauses of a disk over several calls.
 ghost use Rattle.std.specs.Prelude.{ℕ, List, [], ◌∷◌, IsTrue};
 ghost use Rattle.disk_model.specs.Places.{SameOutside};
 ghost use Rattle.disk_model.specs.Disk.{Follows, Only};

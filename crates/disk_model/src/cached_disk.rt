@@ -1,4 +1,4 @@
-// A disk in a file, as Linux has one: what it keeps in memory, and what the device has.
+// A disk in a file, as on Linux: the bytes that it keeps in memory, and the bytes that the device has.
 ghost use Rattle.std.specs.Prelude.{◌≡◌, ◌↔◌, List, ℕ, IsTrue, IfOk};
 ghost use Rattle.disk_model.specs.Anew.{IsMadeAnew};
 ghost use Rattle.disk_model.specs.Disk.{IsNextCount, joined};
@@ -8,10 +8,10 @@ use crate::{Disk, DiskFault, MemDisk, Pick};
 use diagnostics::after_failure;
 use std::alloc::AllocError;
 
-/// A disk with a cache, in memory, honest. Reads give what the cache has. One sync may be lost: its writes never reach the
-/// device, and the cache keeps them as if they had. From then on no sync succeeds, since none could tell what the device
-/// has. A file that is opened anew reads as its device again. `FileDisk` is used so; this disk is proved to keep to the
-/// disk model.
+/// A disk with a cache, in memory, honest. Reads give the bytes of the cache. One sync may be lost:
+/// its writes never reach the device, and the cache keeps them as if they had. From then on no sync
+/// succeeds, since none could know which bytes the device has. A file that is opened anew reads as
+/// its device again. `FileDisk` is used so; this disk is proved to keep to the disk model.
 #[derive(Drop)]
 pub struct CachedDisk {
     disk: MemDisk,
@@ -38,8 +38,8 @@ impl CachedDisk {
         }
     }
 
-    /// Opens the file anew: what still waits for a sync is written, unless a sync was lost, and the cache is dropped. So reads
-    /// give what the device has, which is one of the lists that a crash could have left. No later sync is lost.
+    /// Opens the file anew: bytes that still wait for a sync are written, unless a sync was lost, and the cache is dropped. So
+    /// reads give the bytes of the device, which are one of the lists that a crash could have left. No later sync is lost.
     pub fn reopened(self) -> Result<CachedDisk, AllocError>
         ensures anew { IfOk result (λ d. IsMadeAnew ⟦<CachedDisk as Disk>⟧ self d) }
     {
@@ -55,7 +55,7 @@ impl CachedDisk {
         Ok(CachedDisk::new(device, u64::MAX))
     }
 
-    /// The bytes that the device has once the machine stops: nothing of what was not synced.
+    /// The bytes that the device has once the machine stops: no byte that was not synced.
     pub fn after_stop(&self) -> Result<MemDisk, AllocError>
         ensures allowed { IfOk result (λ d. ⟦<CachedDisk as Disk>⟧.may_leave self.now (⟦<MemDisk as Disk>⟧.seen d)) }
     {

@@ -1,4 +1,4 @@
-// What is left of a disk in memory after a crash of the caller's choice.
+// The bytes of a disk in memory after a crash of the caller's choice.
 ghost use Rattle.std.specs.Prelude.{◌≡◌, ◌≢◌, ◌+◌, ◌≤◌, ℕ, List, length, take, drop, IfOk};
 ghost use Rattle.disk_model.specs.Places.{overwritten};
 ghost use Rattle.disk_model.specs.Notes.{held, stable, Fits, AllFit};
@@ -9,7 +9,7 @@ use crate::mem_disk::overwrite;
 use crate::note::Note;
 use std::alloc::{AllocError, Global};
 
-/// What a crash leaves of each write that no sync has made stable.
+/// The part that a crash leaves of each write that no sync has made stable.
 #[derive(Clone, Copy, Debug, PartialEq, Eq)]
 pub enum Pick {
     /// Nothing of it.
@@ -22,7 +22,7 @@ pub enum Pick {
     Fill(u8),
 }
 
-// Puts there what the crash leaves of one write.
+// Writes into the bytes the part that the crash leaves of one write.
 fn tear(bytes: &mut [u8], at: usize, from: &[u8], pick: Pick)
     requires { at + length from.now ≤ length bytes.old }
     ensures { bytes.new ≡ overwritten bytes.old at (torn pick from.now) }
@@ -71,7 +71,7 @@ fn synced_count(notes: &[Note]) -> usize
     0
 }
 
-// Puts there what the crash leaves of the first bytes after all these notes.
+// Writes into the bytes the parts that the crash leaves of all these notes.
 fn crash(bytes: &mut [u8], notes: &[Note], pick: Pick)
     requires { AllFit (length bytes.old) notes.now }
     ensures { bytes.new ≡ crashed pick (held bytes.old notes.now) }

@@ -42,7 +42,7 @@ impl<D: Disk, P: Plan> Faulty<D, P> {
         }
     }
 
-    /// How many reads, writes and syncs were made, failed ones too; it stays at the greatest `u64`.
+    /// How many reads, writes and syncs were made, with those that failed; it stays at the highest `u64`.
     pub fn calls(&self) -> u64
         ensures { result ≡ faulty_calls self.now }
     {
@@ -68,7 +68,7 @@ impl<D: Disk, P: Plan> Faulty<D, P> {
         inner
     }
 
-    // Counts a call, and tells whether it is passed to the disk within.
+    // Counts a call, and returns whether it is passed to the disk within.
     fn admits(&mut self) -> bool
         ensures verdict { IsTrue result ↔ P.passes self.old.plan self.old.calls }
         ensures calls { self.new.calls ≡ min (self.old.calls + 1) (2 ^ 64 - 1) }

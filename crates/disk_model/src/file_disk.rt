@@ -1,4 +1,4 @@
-// A disk in a file. Nothing is proved of its bytes: no contract can say what a file holds.
+// A disk in a file. Nothing is proved of its bytes: no contract can say which bytes a file holds.
 ghost use Rattle.std.specs.Prelude.{◌≡◌, true, false, Some, IfOk, OnOk};
 ghost use Rattle.std.proofs.Common.{inl, ⊎_elim};
 ghost use Rattle.std.proofs.lemmas.Bool.{false≢true};
@@ -27,18 +27,18 @@ const ZEROS: usize = 65_536;
 /// same, is refused as `Busy`. Disks for reading alone share a lock with one another. A process that ends in any way holds
 /// no lock.
 ///
-/// Writes that adjoin are gathered, and written as one before a write that does not adjoin, before they are too many, and
-/// before a sync. A read gives what was gathered too. A write that the file refuses is told by the call that met it, which
-/// may be a later write or a sync, and what was gathered is kept to be written again.
+/// Adjoining writes are gathered, and written as one before a write that does not adjoin, before they are too many, and
+/// before a sync. A read gives the gathered bytes too. If the file refuses a write, the call that met the refusal reports
+/// it, which may be a later write or a sync, and the gathered bytes are kept to be written again.
 ///
-/// When Linux fails to write a page to the device, it keeps the page's new bytes in memory, takes them for written, and tells of
-/// it in one sync. An earlier process may have met that, or have been killed before it. So opening a file makes durable what
-/// still waits, and whoever is to build on bytes of an earlier process has those written again first that it may have failed to
-/// write. If the opening's own sync tells of a lost write (`has_lost_writes`), these may be any bytes
-/// (`RawFile::write_again`). For the same reason no sync succeeds after one that failed: the file has to be opened again.
+/// When Linux fails to write a page to the device, it keeps the page's new bytes in memory, counts them as written, and reports
+/// the loss in one sync. An earlier process may have met that, or have been killed before it. So opening a file makes the bytes
+/// durable that still wait, and a process that builds on bytes of an earlier process first has those written again that the
+/// earlier one may have failed to write. If the opening's own sync reports a lost write (`has_lost_writes`), these may be any
+/// bytes (`RawFile::write_again`). For the same reason no sync succeeds after one that failed: the file must be opened again.
 ///
-/// Nothing is promised of its bytes, or of what a crash leaves of them: it is not honest by proof, so what else is
-/// proved over a disk holds of it where the file system keeps to the disk model.
+/// Nothing is promised of its bytes, or of the bytes that a crash leaves of them: no proof shows that it is honest, so
+/// the laws that are proved over a disk hold for it if the file system keeps to the disk model.
 #[derive(Drop)]
 pub struct FileDisk {
     disk: Gathering<RawFile<OpenFile>>,
@@ -48,10 +48,10 @@ impl FileDisk {
     ghost use Rattle.disk_model.specs.RawFiles.{file_of};
 
     /// Makes a file of `length` zeros and opens it, with no failure counted yet. The zeros are written, so that the file
-    /// system has room for all of its bytes from then on, and made durable, and so is its name in its folder. Only its
+    /// system has room for all of its bytes from then on, and made durable, and so is its name in its directory. Only its
     /// owner may read and write it.
     ///
-    /// A file that was made stays where a later step fails. It never waits.
+    /// If a later step fails, the file that was made stays. It never waits.
     pub fn create<R: AllocGlobal + Files<File = File>>(
         rt: &R,
         path: &str,
@@ -70,7 +70,7 @@ impl FileDisk {
         })
     }
 
-    /// Opens a file that is there, with no failure counted yet. It never waits: where another has the file's lock, it
+    /// Opens a file that is there, with no failure counted yet. It never waits: if another process has the file's lock, it
     /// answers `Busy`.
     pub fn open<R: AllocGlobal + Files<File = File>>(
         rt: &R,
@@ -106,8 +106,8 @@ impl FileDisk {
         }
     }
 
-    /// Whether the operating system told at the opening that an earlier write was lost. Any byte that was written before may be
-    /// missing on the device then, also one of another program.
+    /// Whether the operating system reported at the opening that an earlier write was lost. Any byte that was written before
+    /// may be missing on the device then, also one of another program.
     pub fn has_lost_writes(&self) -> bool {
         self.disk.below().file().known().has_lost_writes
     }
@@ -139,7 +139,7 @@ fn write_zeros<F: HeldFile>(file: &mut F, length: u64) -> Result<(), FileFault>
     Ok(())
 }
 
-// Makes the file's bytes, its length and its name in its folder durable.
+// Makes the file's bytes, its length and its name in its directory durable.
 fn make_durable<R: Files<File = File>, F: HeldFile>(
     rt: &R,
     path: &str,
@@ -153,7 +153,7 @@ fn make_durable<R: Files<File = File>, F: HeldFile>(
     sync_folder(rt, path).map_err(|_| FileFault::Sync)
 }
 
-// Makes the names in the file's folder durable.
+// Makes the names in the file's directory durable.
 fn sync_folder<R: Files<File = File>>(rt: &R, path: &str) -> io::Result<()> {
     let folder = match Path::new(path).parent() {
         Some(folder) if !folder.as_os_str().is_empty() => folder,

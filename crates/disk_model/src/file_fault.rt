@@ -10,16 +10,16 @@ pub enum FileFault {
     /// There is a file of that name already. Only `create` answers this.
     #[error("the file exists")]
     Exists,
-    /// There is no file of that name, or no such folder.
+    /// There is no file of that name, or no such directory.
     #[error("there is no such file")]
     Missing,
     /// The permissions forbid it.
     #[error("permission is denied")]
     Denied,
-    /// It is a folder.
+    /// It is a directory.
     #[error("it is a folder")]
     Folder,
-    /// It is neither a regular file nor a folder: a pipe, a socket or a device.
+    /// It is neither a regular file nor a directory: a pipe, a socket or a device.
     #[error("it is no regular file")]
     Special,
     /// The file system is full. Only `create` answers this.
@@ -40,7 +40,8 @@ pub enum FileFault {
     /// Another has its lock.
     #[error("another process has the file")]
     Busy,
-    /// What an earlier process wrote could not be made durable. Only what opens a disk in a file answers this.
+    /// The bytes that an earlier process wrote could not be made
+    /// durable. Only functions that open a disk in a file answer this.
     #[error("what was written before could not be made durable")]
     Settle,
     /// There is no memory for the bytes of its writes.

@@ -33,7 +33,7 @@ impl Gathered {
         })
     }
 
-    /// Takes bytes that are to be written from place `at` on. Those that were gathered are written before, where these do
+    /// Takes bytes that are to be written from place `at` on. Those that were gathered are written before, if these do
     /// not adjoin them or have no room after them; bytes that have no room at all are written now.
     pub(crate) fn write<D: Backing>(
         &mut self,
@@ -59,7 +59,7 @@ impl Gathered {
         disk.put(at, from)
     }
 
-    /// Writes what was gathered. Where that fails it is kept, to be written by a later call.
+    /// Writes the gathered bytes. If that fails they are kept, to be written by a later call.
     pub(crate) fn write_out<D: Backing>(&mut self, disk: &mut D) -> Result<(), DiskFault>
         requires { self.old.at + length self.old.bytes.items ≤ D.size disk.old }
         ensures quiet { IsQuiet D.Disk (laden disk.old self.old.at self.old.bytes.items)
@@ -75,7 +75,7 @@ impl Gathered {
         Ok(())
     }
 
-    // Gathers these bytes where they adjoin the others and have room after them. Says whether they do.
+    // Gathers these bytes if they adjoin the others and have room after them. Returns whether they do.
     fn takes(&mut self, at: u64, from: &[u8]) -> bool
         ensures taken { OnTrue result (self.new.bytes.items ≡ self.old.bytes.items ++ from.now) }
         ensures placed { OnTrue result (self.new.at + length self.old.bytes.items ≡ at) }
@@ -98,7 +98,7 @@ impl Gathered {
         true
     }
 
-    /// Lays what was gathered over bytes that were read from place `at` of the disk on.
+    /// Lays the gathered bytes over bytes that were read from place `at` of the disk on.
     pub(crate) fn lay_over(&self, at: u64, into: &mut [u8])
         ensures laid { (l : List ℕ) → at + length into.old ≤ length l → self.now.at + length self.now.bytes.items ≤ length l
             → into.old ≡ part l at (length into.old)

@@ -15,30 +15,31 @@ use crate::{Backing, Disk, DiskFault};
 use diagnostics::after_failure;
 use std::alloc::{AllocError, Global};
 
-// What of a disk's bytes is known to be stable.
+// The part of a disk's bytes that is known to be stable.
 #[derive(Clone, Copy, Debug, PartialEq, Eq)]
 pub(crate) enum Durability {
     // All that reads give.
     Synced,
-    // All but what was written since the last sync.
+    // All but the bytes that were written since the last sync.
     Written,
-    // A sync failed. Linux then keeps what was written in memory as if it were on the device, and tells of it once.
+    // A sync failed. Linux then keeps the written bytes in memory as if they were on the device, and reports that once.
     Unknown,
 }
 
-/// A disk that gathers writes that adjoin, and hands them to the one below as one: before a write that does not adjoin,
-/// before they are too many, and before a sync. Reads give what was gathered too. A write that the disk below refuses is
-/// told by the call that met it, which may be a later write or a sync, and what was gathered is kept to be written again.
+/// A disk that gathers adjoining writes, and hands them to the one below as one: before a write
+/// that does not adjoin, before they are too many, and before a sync. Reads give the gathered
+/// bytes too. If the disk below refuses a write, the call that met the refusal reports it,
+/// which may be a later write or a sync, and the gathered bytes are kept to be written again.
 ///
 /// A sync with nothing written since the last one asks nothing of the disk below. After a sync that failed no sync
-/// succeeds: nobody knows what there is to do.
+/// succeeds: nobody knows which bytes are left to sync.
 ///
-/// It is honest where the disk below is. What a crash may leave is what it may leave of the disk below, with any bytes in the
-/// range that is gathered.
+/// It is honest if the disk below is. A crash may leave of it the bytes that it may leave of the disk below, with any bytes
+/// in the range that is gathered.
 #[derive(Drop)]
 pub struct Gathering<D: Backing> {
     disk: D,
-    // None where writes are not gathered.
+    // None if writes are not gathered.
     gathered: Option<Gathered>,
     durability: Durability,
     // How often a sync was refused after one that failed.
@@ -82,7 +83,7 @@ impl<D: Backing> Gathering<D> {
         }
     }
 
-    /// A disk of which all that reads give is stable, where it is honest.
+    /// A disk whose bytes that reads give are all stable, if it is honest.
     pub(crate) fn synced(disk: D, gathered: Option<Gathered>) -> Gathering<D>
         requires none { (place_of gathered ≡ 0) × (bytes_of gathered ≡ []) }
         requires settled { IsTrue (D.is_honest disk) → IsSettled D.Disk disk }
@@ -104,7 +105,7 @@ impl<D: Backing> Gathering<D> {
         &self.disk
     }
 
-    // Writes what was gathered, and syncs the disk below.
+    // Writes the gathered bytes, and syncs the disk below.
     fn sync_written(&mut self) -> Result<(), DiskFault>
         ensures quiet { IsQuiet D.Disk (with_gathered self.old.disk self.old.gathered)
             (with_gathered self.new.disk self.new.gathered) }
@@ -120,7 +121,7 @@ impl<D: Backing> Gathering<D> {
         Ok(())
     }
 
-    // Writes what was gathered before a sync.
+    // Writes the gathered bytes before a sync.
     fn flush(&mut self) -> Result<(), DiskFault>
         ensures quiet { IsQuiet D.Disk (with_gathered self.old.disk self.old.gathered)
             (with_gathered self.new.disk self.new.gathered) }
@@ -180,7 +181,7 @@ fn after_write(durability: Durability) -> Durability
     }
 }
 
-// Writes what was gathered.
+// Writes the gathered bytes.
 fn write_out<D: Backing>(disk: &mut D, gathered: &mut Option<Gathered>) -> Result<(), DiskFault>
     requires { place_of gathered.old + length (bytes_of gathered.old) ≤ D.size disk.old }
     ensures quiet { IsQuiet D.Disk (with_gathered disk.old gathered.old) (with_gathered disk.new gathered.new) }
@@ -215,7 +216,7 @@ fn take<D: Backing>(
     }
 }
 
-// Lays what was gathered over bytes that were read from place `at` of the disk on.
+// Lays the gathered bytes over bytes that were read from place `at` of the disk on.
 fn lay_over(gathered: &Option<Gathered>, at: u64, into: &mut [u8])
     ensures laid { (l : List ℕ) → at + length into.old ≤ length l
         → place_of gathered.now + length (bytes_of gathered.now) ≤ length l

@@ -1,4 +1,4 @@
-// What is known of a file that is open, by the calls that were made on it.
+// The known facts about an open file, by the calls that were made on it.
 
 /// How a file's advisory lock (flock(2)) is had.
 #[derive(Clone, Copy, Debug, PartialEq, Eq)]
@@ -9,19 +9,19 @@ pub enum Hold {
     Alone,
 }
 
-/// What is known of a file that is open, by the calls that were made on it.
+/// The known facts about an open file, by the calls that were made on it.
 #[derive(Clone, Copy)]
 pub struct HeldFacts {
     /// How its lock is had, if it is.
     pub lock: Option<Hold>,
     /// It was seen to be a regular file, or made as one.
     pub is_regular: bool,
-    /// What earlier processes wrote is durable: a sync succeeded under its lock, or it was made here.
+    /// The bytes that earlier processes wrote are durable: a sync succeeded under its lock, or it was made here.
     pub is_settled: bool,
-    /// The first sync under its lock failed. Then the system told of a write of an earlier process that was lost.
+    /// The first sync under its lock failed. Then the system reported that a write of an earlier process was lost.
     pub has_lost_writes: bool,
-    /// Another sync failed. Then no later one tells whether its bytes are durable.
+    /// Another sync failed. Then no later one can show whether its bytes are durable.
     pub has_failed_sync: bool,
-    /// How many of the reads, writes and syncs of a disk in it failed. At the greatest number of 64 bits it stays.
+    /// How many of the reads, writes and syncs of a disk in it failed. It stays at the highest number of 64 bits.
     pub failures: u64,
 }

@@ -9,21 +9,22 @@ use crate::file_fault::FileFault;
 use crate::held_facts::{HeldFacts, Hold};
 use std::io;
 
-/// A file that is open. Each method is one call of the operating system on it. A `requires` says what has to have come before the call, and a
-/// clause what is known of the file after it. So whoever reads and writes a file by these calls can't make them in another order.
+/// A file that is open. Each method is one call of the operating system on it. A `requires` names
+/// the calls that must come before, and a clause gives the known facts about the file after the
+/// call. So code that reads and writes a file by these calls can't make them in another order.
 pub trait HeldFile {
-    /// What is known of the file.
+    /// The known facts about the file.
     ghost facts: { Self → HeldFacts };
 
     /// That this one call was made on the file, which was so before it and is so after it.
     ghost made: { Self → Call → Self → Type 0 };
 
-    /// What is known of the file. No call is made.
+    /// The known facts about the file. No call is made.
     fn known(&self) -> HeldFacts
         ensures { result ≡ facts self.now };
 
-    /// Looks what the file is, and answers its length. A folder, which may be opened for reading, is refused as `Folder`, and what is no regular
-    /// file as `Special`. Answers `Length` if the system doesn't tell.
+    /// Checks the kind of the file, and returns its length. A directory, which may be opened for reading, is refused as `Folder`, and any other
+    /// file that is not regular as `Special`. Answers `Length` if the system doesn't give the length.
     fn look_at_kind(&mut self) -> Result<u64, FileFault>
         ensures regular { OnOk result (facts self.new ≡ regular (facts self.old)) };
 
@@ -36,8 +37,8 @@ pub trait HeldFile {
     fn unlock(&mut self) -> io::Result<()>
         ensures facts { facts self.new ≡ unlocked (facts self.old) };
 
-    /// Makes durable what earlier processes left to be written. The first such sync may fail, and tells of a write that nobody was told of
-    /// then: the second one decides.
+    /// Makes durable the bytes that earlier processes left to be written. The first such sync may fail, to report a lost write that
+    /// was not reported to any process; the second one decides.
     fn settle(&mut self) -> io::Result<()>
         requires locked { is_some (facts self.old).lock ≡ true }
         requires unsettled { (facts self.old).is_settled ≡ false }
@@ -58,7 +59,7 @@ pub trait HeldFile {
         ensures facts { facts self.new ≡ counted_if (is_ok result) (facts self.old) }
         ensures made { made self.old (wrote at (is_ok result) from.now) self.new };
 
-    /// Makes durable what was written.
+    /// Makes the written bytes durable.
     fn sync(&mut self) -> io::Result<()>
         requires settled { (facts self.old).is_settled ≡ true }
         requires good { (facts self.old).has_failed_sync ≡ false }

@@ -1,4 +1,4 @@
-//! Disks as an archive sees them: the bytes that reads give, and what a crash may leave of them.
+//! Disks as an archive sees them: the bytes that reads give, and those that a crash may leave.
 #![tactic(auto)]
 
 mod agree;

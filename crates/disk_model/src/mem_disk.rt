@@ -1,4 +1,5 @@
-// A disk in memory. It keeps each write and each sync since it was made, so that it can tell what a crash may leave.
+// A disk in memory. It keeps each write and each sync since it
+// was made, so that the bytes that a crash may leave are known.
 ghost use Rattle.std.specs.Prelude.{◌≡◌, ◌+◌, ◌^◌, ◌<◌, ◌≤◌, ℕ, Bool, true, false, List, length, IsTrue, IsOk, IfOk, OnOk, OnErr, IsOkUnless, replicate, vec_len, vec_capacity};
 ghost use Rattle.disk_model.specs.Places.{AreBytes, part, overwritten, SameOutside};
 ghost use Rattle.disk_model.specs.Disk.{Follows, Only, Elapses, HasCause};
@@ -51,8 +52,8 @@ impl MemDisk {
         MemDisk::holding(alloc, vec![in alloc; 0u8; length as usize]?)
     }
 
-    /// A disk of the bytes that a crash now leaves of this one: the last synced bytes, with what `pick` says of each
-    /// write since then, in order.
+    /// A disk of the bytes that a crash now leaves of this one: the last synced bytes, with the part of each write since
+    /// then that `pick` selects, in order.
     pub fn after_crash(&self, pick: Pick) -> Result<MemDisk, AllocError>
         ensures leaves { IfOk result (λ d.
             ⟦<MemDisk as Disk>⟧.seen d ≡ crashed pick (held_by self.now)) }
@@ -106,7 +107,7 @@ fn prepare_write(alloc: Global, notes: &mut Vec<Note>, from: &[u8]) -> Result<Ve
     Vec::from_slice(alloc, from)
 }
 
-// Puts these bytes in place of those from place `at` on.
+// Replaces the bytes from place `at` on by these bytes.
 pub(crate) fn overwrite(bytes: &mut [u8], at: usize, from: &[u8])
     requires { at + length from.now ≤ length bytes.old }
     ensures { bytes.new ≡ overwritten bytes.old at from.now }
@@ -176,7 +177,7 @@ impl Disk for MemDisk {
         Ok(())
     }
 
-    /// Answers `Write` where it finds no memory for its notes, and then no byte has changed.
+    /// Answers `Write` if it finds no memory for its notes, and then no byte has changed.
     fn write_at(&mut self, at: u64, from: &[u8]) -> Result<(), DiskFault>
         requires { at + length from.now ≤ ⟦<MemDisk as Disk>⟧.size self.old }
         ensures held { OnOk result (held_by self.new ≡ written (held_by self.old) at from.now) }

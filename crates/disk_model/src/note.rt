@@ -1,8 +1,8 @@
-/// What a disk in memory keeps of a call that changed what a crash may leave.
+/// A disk in memory's record of one call that changed the bytes that a crash may leave.
 #[derive(Drop)]
 pub enum Note {
     /// These bytes were written from that place on.
     Wrote(u64, Vec<u8>),
-    /// What was written until then was made stable.
+    /// The bytes that were written until then were made stable.
     Synced,
 }

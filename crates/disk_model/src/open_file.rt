@@ -1,5 +1,5 @@
-// A file of the operating system that is open. No clause says what a call of the system does: so this file has to be read. Each method of
-// `HeldFile` makes one call, and notes what is known then.
+// A file of the operating system that is open. No clause can describe a call of the system, so this file must be read with care. Each
+// method of `HeldFile` makes one call, and notes the facts that are known then.
 ghost use Rattle.std.specs.Prelude.{◌≡◌, is_ok, IfOk};
 ghost use Rattle.disk_model.specs.Holding.{just_opened, made_alone, beside, counted_if};
 
@@ -46,8 +46,8 @@ impl OpenFile {
         }
     }
 
-    /// Makes a file of `length` bytes for its owner alone, and takes its lock. It never waits. A file that was made stays where a later step
-    /// fails.
+    /// Makes a file of `length` bytes for its owner alone, and takes its lock.
+    /// It never waits. If a later step fails, the file that was made stays.
     pub(crate) fn make<R: Files<File = File>>(
         rt: &R,
         path: &str,
@@ -63,7 +63,7 @@ impl OpenFile {
             .open(rt, path)?;
         let mut made = OpenFile::new(file);
         made.lock(Hold::Alone, false)?;
-        // The mode that a file is made with loses what the process masks.
+        // A new file's mode lacks the bits that the process masks.
         made.file
             .set_permissions(Permissions::from_mode(OWNER_ALONE))
             .map_err(|_| FileFault::Length)?;
@@ -83,7 +83,7 @@ impl OpenFile {
         Ok(other)
     }
 
-    /// The file, for looks at what it is and whose. Whoever has it must neither let its lock go nor write it.
+    /// The file, to look up its kind and its owner. A caller must neither release its lock nor write it.
     pub fn file(&self) -> &File {
         &self.file
     }
@@ -93,7 +93,7 @@ impl OpenFile {
         self.trouble
     }
 
-    // Counts a failure where the call failed.
+    // Counts a failure if the call failed.
     fn counted(&mut self, outcome: io::Result<()>, call: Call) -> io::Result<()>
         ensures outcome { is_ok result ≡ is_ok outcome }
         ensures facts { self.new.facts ≡ counted_if (is_ok result) self.old.facts }
@@ -113,7 +113,7 @@ impl OpenFile {
 impl HeldFile for OpenFile {
     ghost facts = { λ f. f.facts };
 
-    // That a method makes its call has to be read.
+    // Only a reader can check that a method makes its call.
     ghost made = { λ old call new. Unit {0} };
 
     fn known(&self) -> HeldFacts {

@@ -17,9 +17,9 @@ use std::io;
 // The bytes of one write of bytes that are written again.
 const PIECE: usize = 65_536;
 
-/// A regular file as a disk, of the length that it had when it was looked at. Its lock is had, and what earlier processes wrote is durable, as
-/// far as the system tells. Each of its methods as a disk makes the one call on the file that it is named after, at the place and with the
-/// bytes that it was given. A write is refused unless the lock is had alone, and a sync after one that failed.
+/// A regular file as a disk, of the length that it had when it was examined. The process holds its lock, and the bytes that earlier processes
+/// wrote are durable, as far as the system reports. Each of its methods as a disk makes the one call on the file that it is named after, at
+/// the place and with the bytes that it was given. A write is refused unless the lock is exclusive, and so is a sync after one that failed.
 #[derive(Drop)]
 pub struct RawFile<F: HeldFile> {
     file: F,
@@ -33,12 +33,13 @@ pub struct RawFile<F: HeldFile> {
 }
 
 impl<F: HeldFile + Drop> RawFile<F> {
-    /// The disk in a file that was opened and locked, and no more. Its first sync may fail: then the system told of a write that was lost
-    /// (`has_lost_writes`).
+    /// The disk in a file that was opened and locked, and no more. Its first sync
+    /// may fail: then the system reported that a write was lost (`has_lost_writes`).
     ///
     /// # Errors
     ///
-    /// `Folder` and `Special` if it is no regular file, `Length` if the system doesn't tell, `Settle` if the second sync fails too.
+    /// `Folder` and `Special` if it is no regular file, `Length` if the
+    /// system doesn't give its length, `Settle` if the second sync fails too.
     pub fn settled(file: F) -> Result<RawFile<F>, FileFault>
         requires locked { IsJustLocked (F.facts file) }
         ensures lock { IfOk result (λ d. (F.facts d.file).lock ≡ (F.facts file).lock) }
@@ -50,9 +51,9 @@ impl<F: HeldFile + Drop> RawFile<F> {
         Ok(RawFile::new(file, length))
     }
 
-    /// Writes the first `length` bytes of the file again, as they read, and makes them durable. So the device has what
-    /// reads give of them, even if an earlier process failed to write them. Bytes that the device has already are
-    /// overwritten by themselves. Answers `Settle` if a call fails, the lock is shared, or a sync failed before.
+    /// Writes the first `length` bytes of the file again, as they read, and makes them durable. So the device has the
+    /// bytes that reads give there, even if an earlier process failed to write them. Bytes that the device has already
+    /// are overwritten by themselves. Answers `Settle` if a call fails, the lock is shared, or a sync failed before.
     pub fn write_again(self, length: u64) -> Result<RawFile<F>, FileFault>
         ensures again { IfOk result (λ d. WritesAgain F.made (min length self.length) self.file d.file) }
         ensures alone { IfOk result (λ d. (F.facts d.file).lock ≡ Some Alone) }
@@ -106,8 +107,8 @@ impl<F: HeldFile> RawFile<F> {
     }
 }
 
-// Makes durable what an earlier process has left to be written. The first sync may tell of a write that it never saw synced:
-// nothing was promised of it, so the second one decides.
+// Makes durable the bytes that an earlier process has left to be written. The first sync may report a lost write that the
+// earlier process never saw synced: nothing was promised of it, so the second one decides.
 fn settle<F: HeldFile>(file: &mut F) -> Result<(), FileFault>
     requires locked { IsJustLocked (F.facts file.old) }
     ensures settled { OnOk result (IsSettledFrom (F.facts file.old) (F.facts file.new)) }

@@ -1,4 +1,4 @@
-// A write that is made stable: what every change of an archive is made of.
+// A write that is made stable: every change of an archive consists of such writes.
 ghost use Rattle.std.specs.Prelude.{◌≡◌, ◌≢◌, ◌+◌, ◌≤◌, length, IsTrue, OnOk, Err};
 ghost use Rattle.disk_model.specs.Places.{overwritten, SameOutside};
 ghost use Rattle.disk_model.specs.Disk.{ChangedIn, HasCause};
@@ -6,10 +6,10 @@ ghost use Rattle.disk_model.specs.Moments.{LeavesOnly, IsSettled};
 
 use crate::{Disk, DiskFault};
 
-/// Writes all of `from` from place `at` on and makes it stable. Answers `Write` or `Sync` where the disk failed.
+/// Writes all of `from` from place `at` on and makes it stable. Answers `Write` or `Sync` if the disk failed.
 ///
-/// On an honest disk a crash at any moment of the call leaves what a crash before it could have left, but for any bytes
-/// in the range. After `Ok` a crash leaves the bytes that reads give, and these are as before but for the range.
+/// On an honest disk a crash at any moment of the call leaves bytes that a crash before it could have left, but with any
+/// bytes in the range. After `Ok` a crash leaves the bytes that reads give, and these are as before except in the range.
 pub fn write_stable<D: Disk>(disk: &mut D, at: u64, from: &[u8]) -> Result<(), DiskFault>
     requires { at + length from.now ≤ D.size disk.old }
     ensures any_moment { IsTrue (D.is_honest disk.old)

@@ -1,4 +1,4 @@
--- What a front of an image shows of the whole.
+-- The facts about a whole image that a front of it determines.
 use Rattle.std.specs.Prelude.{[]}
 use Rattle.elf_view.specs.Header.{SegmentView}
 

@@ -37,11 +37,12 @@ e_shentsize b = field b 58 2
 abbrev pub e_shnum : List ℕ → ℕ
 e_shnum b = field b 60 2
 
--- The number of program headers: where it does not fit e_phnum, that is PN_XNUM (0xffff), and the number is in sh_info of section header 0, taken as it is.
+-- The number of program headers: if it does not fit e_phnum, that is PN_XNUM (0xffff),
+-- and the number is in sh_info of section header 0, taken as it is.
 unfoldable pub segment_count : List ℕ → ℕ
 segment_count b = if e_phnum b == 65535 then field b (e_shoff b + 44) 4 else e_phnum b
 
--- a program header with what of its file range lies in the image
+-- a program header with the part of its file range that lies in the image
 pub record SegmentView : Type 0 where
   pub kind : ℕ
   pub flags : ℕ

@@ -1,4 +1,4 @@
--- What the code's PT_LOADs, and an iterator over them, mean.
+-- The meaning of the code's PT_LOADs, and of an iterator over them.
 use Rattle.std.specs.Prelude.{List}
 use Rattle.elf_view.specs.Header.{LoadView, loads_from}
 use Rattle.elf_view.specs.SegmentWords.{segment_view, segments_left}

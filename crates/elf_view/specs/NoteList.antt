@@ -43,8 +43,8 @@ note_at bytes = record {
   desc = part bytes (desc_at bytes) (n_descsz bytes);
 }
 
--- What is left of the bytes from each note on, where the first note begins k places on. Where a note's
--- last padding is missing, nothing is left after it.
+-- The bytes that are left from each note on, if the first note starts k
+-- places on. If a note's last padding is missing, nothing is left after it.
 unfoldable pub rests_past : ℕ → List ℕ → List (List ℕ)
 rests_past k [] = []
 rests_past zero (x ∷ xs) = (x ∷ xs) ∷ rests_past (note_len (x ∷ xs) - 1) xs

@@ -1,4 +1,4 @@
--- What the code's notes, and an iterator over them, mean.
+-- The meaning of the code's notes, and of an iterator over them.
 use Rattle.std.specs.Prelude.{List, map}
 use Rattle.elf_view.specs.NoteList.{NoteView, note_at, rests_left}
 use Rattle.elf_view.specs.SegmentWords.{segments_left}

@@ -5,7 +5,7 @@ use Rattle.elf_view.specs.Header.{e_shoff, e_shentsize, e_shnum}
 use Rattle.elf_view.specs.declared.faults.SectionFault.{SectionFault}
 use Rattle.elf_view.specs.declared.faults.SectionFault.TheVariants.{EShentsize, EShoff, NoSection}
 
--- a section header with its bytes, where they all lie in the image
+-- a section header with its bytes, if they all lie in the image
 pub record SectionView : Type 0 where
   pub name : ℕ
   pub kind : ℕ
@@ -19,7 +19,7 @@ pub record SectionView : Type 0 where
   pub entsize : ℕ
   pub bytes : Option (List ℕ)
 
--- the n bytes from place p on, where all of them lie in the image
+-- the n bytes from place p on, if all of them lie in the image
 abbrev pub whole_part : List ℕ → ℕ → ℕ → Option (List ℕ)
 whole_part b p n = if nat_le (p + n) (length b) then Some (part b p n) else None
 
@@ -39,7 +39,7 @@ section_from b p = record {
   bytes = whole_part b (field b (p + 24) 8) (field b (p + 32) 8);
 }
 
--- The number of sections that the headers tell: where it does not fit e_shnum, that is 0, and the number is in sh_size of section header 0.
+-- The number of sections by the headers: if it does not fit e_shnum, that is 0, and the number is in sh_size of section header 0.
 unfoldable pub told_sections : List ℕ → ℕ
 told_sections b = if e_shnum b == 0 then field b (e_shoff b + 32) 8 else e_shnum b
 

@@ -1,4 +1,4 @@
--- What the code's sections mean.
+-- The meaning of the code's sections.
 use Rattle.std.specs.Prelude.{Result, Ok, Err}
 use Rattle.std.specs.Option.{option_map}
 use Rattle.elf_view.specs.SectionTable.{SectionView}

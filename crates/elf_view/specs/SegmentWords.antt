@@ -1,4 +1,4 @@
--- What the code's segments, and an iterator over them, mean.
+-- The meaning of the code's segments, and of an iterator over them.
 use Rattle.std.specs.Prelude.{List}
 use Rattle.elf_view.specs.Header.{SegmentView, segments_between}
 use Rattle.elf_view.specs.declared.program_headers.Segment.{Segment}

@@ -11,7 +11,7 @@ use Rattle.elf_view.specs.declared.faults.ElfFault.{ElfFault}
 use Rattle.elf_view.specs.declared.faults.ElfField.{ElfField}
 use Rattle.elf_view.specs.declared.faults.ElfField.TheVariants as fields
 
--- a check: whether it fails, and the field that is then at fault
+-- a check: whether it fails, and the field that is bad if it does
 abbrev pub Check : Type 0
 Check = Bool × ElfField
 
@@ -74,15 +74,14 @@ segment_checks want b s =
     ∷ (is_core want && s.kind == 4 && not (is_within b s.offset s.filesz), fields.POffset)
     ∷ []
 
--- The note at the front of what is left of its segment: its 12 bytes and its name with the padding are there, and
--- its descriptor is.
+-- The note at the front of the rest of its segment: its 12 bytes and its name with the padding are there, and its descriptor is.
 abbrev pub note_checks : List ℕ → List Check
 note_checks bytes =
     (nat_lt (length bytes) 12 || nat_lt (length bytes) (12 + padded (n_namesz bytes)), fields.NNamesz)
     ∷ (nat_lt (length bytes) (desc_at bytes + n_descsz bytes), fields.NDescsz)
     ∷ []
 
--- The first fault among items from number i on. A number is a u64: past the greatest it stays there.
+-- The first fault among items from number i on. A number is a u64: it stays at the highest one.
 abbrev pub next_index : ℕ → ℕ
 next_index i = min (i + 1) (2 ^ 64 - 1)
 
@@ -146,7 +145,7 @@ IsFirstFailing rows fault k =
 abbrev pub is_passed : Check → Bool
 is_passed check = not check.0
 
--- What a passed header gives: the file header is there, at PN_XNUM section header 0 is, and so is the table of program headers.
+-- The parts that are whole if the header passes: the file header, at PN_XNUM section header 0, and the table of program headers.
 pub record IsHeaderWhole (b : List ℕ) : Type 0 where
   pub header : 64 ≤ length b
   pub section_zero : e_phnum b ≡ 65535 → e_shoff b + 64 ≤ length b
@@ -159,7 +158,7 @@ is_note_whole bytes = is_none (first_failing (note_checks bytes))
 abbrev pub AreNotesWhole : List (List ℕ) → Type 0
 AreNotesWhole rests = IsTrue (list_all is_note_whole rests)
 
--- what a PT_LOAD that passes its checks keeps to: it has no more bytes than it takes, and it ends with the address space
+-- the properties of a PT_LOAD that passes its checks: it has no more bytes than it takes, and it ends within the address space
 pub record IsLoadable (s : SegmentView) : Type 0 where
   pub filled : s.filesz ≤ s.memsz
   pub ends : s.vaddr + s.memsz ≤ 2 ^ 64

@@ -1,4 +1,4 @@
--- What the code's view of an image means.
+-- The meaning of the code's view of an image.
 use Rattle.std.specs.Prelude.{ℕ, List, [], map}
 use Rattle.elf_view.specs.Header.{e_type, e_entry, e_flags, segment_count, segments_of}
 use Rattle.elf_view.specs.NoteList.{NoteView, note_at, all_rests}
@@ -7,7 +7,7 @@ use Rattle.elf_view.specs.declared.faults.Want.TheVariants.{Core, Exec}
 use Rattle.elf_view.specs.declared.view.Elf.{Elf}
 use Rattle.elf_view.specs.declared.view.Header.{Header}
 
--- the image that is viewed, and what it was read as
+-- the image that is viewed, and the kind that it was read as
 abbrev pub image_of : Elf → List ℕ
 image_of elf = elf.image.now
 

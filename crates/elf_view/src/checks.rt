@@ -193,7 +193,7 @@ fn check_segments(image: &[u8], want: Want) -> Result<(), ElfFault>
     Ok(())
 }
 
-/// The checks of the note at the front of the bytes. It answers what is left after it.
+/// The checks of the note at the front of the bytes. Returns the bytes that are left after it.
 #[tactic(auto, unfolding(crate::specs::NoteList::note_len))]
 fn check_note(bytes: &[u8]) -> Result<&[u8], ElfField>
     ensures fault { result_err result ≡ sound.first_failing (sound.note_checks bytes.now) }

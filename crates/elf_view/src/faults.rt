@@ -1,10 +1,10 @@
-// What an image is read as, and why it is refused.
+// The kind that an image is read as, and why it is refused.
 ghost use Rattle.std.specs.Prelude.{◌≡◌};
 ghost use Rattle.elf_view.specs.FieldNames as names;
 
 use thiserror::Error;
 
-/// What an image is read as.
+/// The kind that an image is read as.
 #[derive(Clone, Copy, Debug, PartialEq, Eq)]
 pub enum Want {
     /// A core file, ET_CORE.
@@ -94,10 +94,10 @@ impl ElfField {
 #[derive(Clone, Copy, Debug, PartialEq, Eq, Error)]
 #[error("{field:?} {index}")]
 pub struct ElfFault {
-    /// The field at fault.
+    /// The bad field.
     pub field: ElfField,
     /// The number of the program header or of the note (counted over all PT_NOTE segments), else 0. It stays at the
-    /// greatest u64 where there are more.
+    /// highest u64 if there are more.
     pub index: u64,
 }
 

@@ -1,4 +1,4 @@
-// What the definitions that the contracts cite say together.
+// Consequences of the definitions that the contracts cite.
 ghost use Rattle.std.specs.Prelude.{◌≡◌, ◌↔◌, ◌+◌, ◌≤◌, ℕ, List, IsTrue, None, Some, length, map, slice_get, take};
 ghost use Rattle.std.specs.List.{AllByRecursion, flat_map, list_all};
 ghost use Rattle.std.specs.List.Sorted.{IsPermutation};
@@ -23,8 +23,8 @@ pub fn notes_are_the_grammar()
         → AreNotesWhole (note_rests bytes) × (notes_in bytes ≡ notes) }
 {}
 
-/// The fault of an image is that of a row of its table, and every row before it passes; and where there is such a row,
-/// its fault is the image's. It does nothing.
+/// The fault of an image is that of a row of its table, and every row before it passes; and if there is such a row, its
+/// fault is the image's. This function does nothing.
 pub fn the_fault_is_the_first()
     ensures row { (want : Want) (b : List ℕ) (fault : ElfFault) → first_fault want b ≡ Some fault
         → (k : ℕ) × IsFirstFailing (table_rows want b) fault k }
@@ -32,16 +32,16 @@ pub fn the_fault_is_the_first()
         → first_fault want b ≡ Some fault }
 {}
 
-/// An image is sound exactly where it has no fault, whatever the order of its table's rows. Only which fault is told
-/// depends on the order. It does nothing.
+/// An image is sound if and only if it has no fault, whatever the order of its table's rows. Only the choice of the fault
+/// that is reported depends on the order. This function does nothing.
 pub fn soundness_has_no_order()
     ensures accepted { (want : Want) (b : List ℕ) → IsSound want b ↔ (first_fault want b ≡ None) }
     ensures order { (want : Want) (b : List ℕ) (rows : List Row) → IsPermutation (table_rows want b) rows
         → IsSound want b ↔ IsTrue (list_all passes rows) }
 {}
 
-/// A core is sound where its header and its program headers pass and the bytes of each PT_NOTE have a note list. It does
-/// nothing.
+/// A core is sound if its header and its program headers pass and the
+/// bytes of each PT_NOTE have a note list. This function does nothing.
 pub fn note_lists_make_a_core_sound()
     ensures { (b : List ℕ) → IsTrue (list_all is_passed (header_checks Want.Core b))
         → AllByRecursion (λ (s : SegmentView). IsTrue (list_all is_passed (segment_checks Want.Core b s))) (segments_of b)
@@ -49,7 +49,7 @@ pub fn note_lists_make_a_core_sound()
         → IsSound Want.Core b }
 {}
 
-/// What the program headers of an accepted image keep to. It does nothing.
+/// The properties of the program headers of an accepted image. This function does nothing.
 pub fn accepted_segments_fit()
     ensures loads { (want : Want) (b : List ℕ) → IsSound want b
         → AllByRecursion (λ (s : SegmentView). s.kind ≡ 1 → IsLoadable s) (segments_of b) }

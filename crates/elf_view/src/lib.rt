@@ -1,7 +1,7 @@
 //! Borrowed views of ELF64 images of RISC-V 64 Linux: core files and executables.
 //!
-//! [`Elf::read`] accepts an image exactly where its table of checks passes, or names the first field that is at
-//! fault. The views that it gives are slices of the image and numbers read from it; nothing is copied.
+//! [`Elf::read`] accepts an image if and only if its table of checks passes, and otherwise names the first bad field. The
+//! views that it gives are slices of the image and numbers read from it; nothing is copied.
 #![tactic(auto)]
 
 mod checks;

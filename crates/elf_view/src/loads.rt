@@ -1,4 +1,4 @@
-// The program headers of what lies in memory, with their numbers.
+// The program headers of segments in memory, with their numbers.
 ghost use Rattle.std.specs.Prelude.{◌≡◌, ◌+◌, ◌≤◌, ◌^◌, [], ◌∷◌, MatchOption, length};
 ghost use Rattle.elf_view.specs.Header.{loads_from};
 ghost use Rattle.elf_view.specs.SegmentWords.{segments_left};

@@ -65,7 +65,7 @@ impl<'a> Note<'a> {
     }
 }
 
-/// What is left after the note at the front of the bytes.
+/// The bytes that are left after the note at the front of the bytes.
 #[tactic(auto, unfolding(crate::specs::NoteList::note_len))]
 pub(crate) fn behind_first(bytes: &[u8]) -> &[u8]
     requires { 12 ≤ length bytes.now }

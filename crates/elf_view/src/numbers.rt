@@ -1,4 +1,4 @@
-// Numbers and stretches of bytes, as every structure of ELF64 is read.
+// Numbers and ranges of bytes, as every structure of ELF64 is read.
 ghost use Rattle.std.specs.Prelude.{◌≡◌, ◌+◌, ◌≤◌, ◌^◌, ◌<◌, length};
 ghost use Rattle.elf_view.specs.Field as spec;
 
@@ -32,7 +32,7 @@ pub fn u64_at(bytes: &[u8], at: usize) -> u64
     LittleEndian::read_u64(&bytes[at..])
 }
 
-/// What the slice has of the `size` bytes from place `at` on: fewer where it ends before.
+/// Those of the `size` bytes from place `at` on that the slice has: fewer if it ends before.
 pub fn part(bytes: &[u8], at: u64, size: u64) -> &[u8]
     ensures { result.now ≡ spec.part bytes.now at size }
 {
@@ -43,7 +43,7 @@ pub fn part(bytes: &[u8], at: u64, size: u64) -> &[u8]
     &rest[..end]
 }
 
-/// The bytes before the first NUL, or all of them where there is none.
+/// The bytes before the first NUL, or all of them if there is no NUL.
 pub fn text_before_nul(bytes: &[u8]) -> &[u8]
     ensures { result.now ≡ spec.text_before_nul bytes.now }
 {

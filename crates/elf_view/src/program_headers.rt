@@ -26,7 +26,7 @@ pub struct Segment<'a> {
     pub filesz: u64,
     /// p_memsz: how many bytes the segment takes in memory.
     pub memsz: u64,
-    /// What of the `filesz` bytes from `offset` on lies in the image.
+    /// Those of the `filesz` bytes from `offset` on that lie in the image.
     pub bytes: &'a [u8],
 }
 
@@ -84,7 +84,7 @@ impl<'a> Segment<'a> {
         self.vaddr <= address && u128::from(address) < self.past()
     }
 
-    /// The bytes of its notes: none where it is no PT_NOTE.
+    /// The bytes of its notes, or no bytes if it is no PT_NOTE.
     #[tactic(auto, unfolding(crate::specs::NoteList::rests_past))]
     pub(crate) fn note_bytes(&self) -> &'a [u8]
         ensures { note_rests result.now ≡ segment_rests (segment_view self.now) }

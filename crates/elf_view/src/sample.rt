@@ -1,4 +1,4 @@
-//! Images made from parts, and a few whole ones, for tests. What they hold is shown by tests alone.
+//! Images made from parts, and a few whole ones, for tests. Only tests show their content.
 
 use byteorder::{ByteOrder, LittleEndian};
 use std::alloc::{AllocError, Global};
@@ -77,7 +77,7 @@ fn push_fields(out: &mut Vec<u8>, fields: &[(usize, u64)]) -> Result<(), AllocEr
     Ok(())
 }
 
-/// What a file header tells.
+/// The fields of a file header.
 #[derive(Clone, Copy)]
 struct FileParts {
     kind: u64,
@@ -158,7 +158,7 @@ struct SectionParts {
     entry: u64,
 }
 
-/// Section header 0, and what the other headers are made from.
+/// Section header 0, and the base of the other headers.
 const NO_SECTION: SectionParts = SectionParts {
     kind: 0,
     offset: 0,
@@ -228,8 +228,8 @@ fn core_parts(count: u64, end: u64) -> FileParts {
     }
 }
 
-/// A core: its file header, its program headers, its notes in one PT_NOTE (none where there are no notes), and the bytes of
-/// its PT_LOAD segments. From 65,535 program headers on, a section header at the end holds their number.
+/// A core: its file header, its program headers, its notes in one PT_NOTE (which is left out if there are no notes), and
+/// the bytes of its PT_LOAD segments. From 65,535 program headers on, a section header at the end holds their number.
 ///
 /// Refused only if there is no memory.
 pub fn core_image(

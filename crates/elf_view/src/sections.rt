@@ -12,7 +12,7 @@ use crate::numbers::{part, u16_at, u32_at, u64_at};
 /// A section header (System V gABI, "Section Header"), with its bytes.
 #[derive(Clone, Copy, Debug)]
 pub struct Section<'a> {
-    /// sh_name: where the name begins in the section names' string table.
+    /// sh_name: the place in the section names' string table at which the name begins.
     pub name: u32,
     /// sh_type: 2 is SHT_SYMTAB, 3 is SHT_STRTAB, 11 is SHT_DYNSYM.
     pub kind: u32,
@@ -20,7 +20,7 @@ pub struct Section<'a> {
     pub flags: u64,
     /// sh_addr.
     pub addr: u64,
-    /// sh_offset: where the bytes begin in the image.
+    /// sh_offset: the place in the image at which the bytes begin.
     pub offset: u64,
     /// sh_size: how many bytes there are.
     pub size: u64,
@@ -32,11 +32,11 @@ pub struct Section<'a> {
     pub addralign: u64,
     /// sh_entsize: how many bytes an entry has, in a table.
     pub entsize: u64,
-    /// The `size` bytes from `offset` on, where all of them lie in the image.
+    /// The `size` bytes from `offset` on, if all of them lie in the image.
     pub bytes: Option<&'a [u8]>,
 }
 
-/// The `size` bytes from place `at` on, where all of them lie in the image.
+/// The `size` bytes from place `at` on, if all of them lie in the image.
 fn whole_part(image: &[u8], at: u64, size: u64) -> Option<&[u8]>
     ensures { option_map (λ bytes. bytes.now) result ≡ spec.whole_part image.now at size }
 {
@@ -70,7 +70,7 @@ fn section_from(image: &[u8], at: usize) -> Section<'_>
     }
 }
 
-/// The number of sections that the headers tell.
+/// The number of sections by the headers.
 #[tactic(auto, unfolding(crate::specs::SectionTable::told_sections))]
 fn told_sections(image: &[u8], table: u64) -> u64
     requires header { 64 ≤ length image.now }

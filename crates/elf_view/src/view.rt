@@ -26,7 +26,7 @@ pub struct Header {
     pub segments: u64,
 }
 
-/// A view of an image that has passed all checks. What it gives may be kept as long as the image.
+/// A view of an image that has passed all checks. The values that it returns may be kept as long as the image.
 #[derive(Clone, Copy, Debug)]
 pub struct Elf<'a> {
     image: &'a [u8],
@@ -78,7 +78,7 @@ impl<'a> Elf<'a> {
         self.image
     }
 
-    /// Program header `i`, or `None` where there are fewer.
+    /// Program header `i`, or `None` if there are fewer.
     pub fn segment(&self, i: u64) -> Option<Segment<'a>>
         ensures { option_map segment_view result ≡ slice_get (segments_of (image_of self.now)) i }
     {
@@ -102,7 +102,7 @@ impl<'a> Elf<'a> {
         Loads::new(self.segments())
     }
 
-    /// The notes of all PT_NOTE segments of a core, in table order. An executable has none here.
+    /// The notes of all PT_NOTE segments of a core, in table order. An executable has no notes here.
     pub fn notes(&self) -> Notes<'a>
         ensures { notes_left result ≡ notes_of (want_of self.now) (image_of self.now) }
     {
@@ -112,7 +112,7 @@ impl<'a> Elf<'a> {
         }
     }
 
-    /// The number of sections, which is 0 where e_shoff is 0.
+    /// The number of sections, which is 0 if e_shoff is 0.
     pub fn section_count(&self) -> Result<u64, SectionFault>
         ensures { result ≡ section_count_of (image_of self.now) }
     {
@@ -128,8 +128,8 @@ impl<'a> Elf<'a> {
     }
 
     /// The first section with a name whose bytes can be taken: they are in the file (it is no SHT_NOBITS), not compressed
-    /// (SHF_COMPRESSED), and all of them lie in the image. There is none where the section headers have a fault, or where
-    /// the section of the names, that of number e_shstrndx, is not there or not all in the image.
+    /// (SHF_COMPRESSED), and all of them lie in the image. `None` if the section headers have a fault, or if the section
+    /// of the names, that of number e_shstrndx, is missing or not all in the image.
     pub fn named_section(&self, name: &[u8]) -> Option<Section<'a>>
         ensures { option_map section_view result ≡ named_section_of (image_of self.now) name.now }
     {

@@ -22,7 +22,7 @@ pub length_flags_by : (n : ℕ) (test : ℕ → Bool) → length (flags_by n tes
 unfolding flags_by
 length_flags_by n test = length-map-range_with_len test 0 n
 
--- block k is free where it is one of the n and passes the test
+-- one of the n blocks is free if and only if it passes the test
 pub flag_below : (n : ℕ) (test : ℕ → Bool) (k : ℕ) → k < n → is_free (flags_by n test) k ≡ test k
 unfolding flags_by
 flag_below n test k below = get_or-map-range_with_len test 0 n k k false below (omega arith)
@@ -63,7 +63,7 @@ pub length_without : (flags : List Bool) (run : Run) → length (without flags r
 unfolding without
 length_without flags run = length_flags_by (length flags) (λ k. is_free flags k && not (is_within run k))
 
--- a block is free then where it was and is not one of the run's
+-- a block is free then if and only if it was free and is not one of the run's
 pub free_without : (flags : List Bool) (run : Run) (k : ℕ) → is_free (without flags run) k ≡ (is_free flags k && not (is_within run k))
 unfolding without
 free_without flags run k =
@@ -94,7 +94,7 @@ pub length_with : (flags : List Bool) (blocks : List ℕ) → length (with_block
 unfolding with_blocks
 length_with flags blocks = length_flags_by (length flags) (λ k. is_free flags k || ltb 0 (uses blocks k))
 
--- a block of the set is free then where it was or is one of these
+-- a block of the set is free then if and only if it was free or is one of these
 pub free_with : (flags : List Bool) (blocks : List ℕ) (k : ℕ) → k < length flags → is_free (with_blocks flags blocks) k ≡ (is_free flags k || ltb 0 (uses blocks k))
 unfolding with_blocks
 free_with flags blocks k below = flag_below (length flags) (λ j. is_free flags j || ltb 0 (uses blocks j)) k below
@@ -180,7 +180,7 @@ or_true : (t : Bool) → (t || true) ≡ true
 or_true true = refl
 or_true false = refl
 
--- a block that is none of those is free where it was
+-- a block outside the list is free if and only if it was
 pub free_with_other : (flags : List Bool) (blocks : List ℕ) (k : ℕ) → uses blocks k ≡ 0 → is_free (with_blocks flags blocks) k ≡ is_free flags k
 free_with_other flags blocks k none =
     elim (cases_lt k (length flags)) as (λ _. is_free (with_blocks flags blocks) k ≡ is_free flags k) [
@@ -280,7 +280,7 @@ count_some flags k free =
     let e : one_if (is_free flags k) ≡ 1 = rw free refl in
     omega (arith, s, e)
 
--- where the count is 0, no block is free
+-- if the count is 0, no block is free
 pub count_none : (flags : List Bool) → free_count flags ≡ 0 → NoneFree flags
 count_none flags none k =
     elim (is_free flags k) as (λ t. is_free flags k ≡ t → is_free flags k ≡ false) [
@@ -345,7 +345,7 @@ count_with_run flags run fits none =
     (uses_once run)
     ∙ ap (λ n. free_count flags + n) (length-range_with_len run.start run.count)
 
--- The counts of a block: where it is free and how often it is used add up as before.
+-- The counts of a block: whether it is free and how often it is used add up as before.
 
 pub one_free_without : (flags : List Bool) (run : Run) → AllFree flags run → (k : ℕ) → one_if (is_free (without flags run) k) + uses (run_blocks run) k ≡ one_if (is_free flags k)
 one_free_without flags run free k =
@@ -381,7 +381,7 @@ used_runs flags blocks used different = record {
 pub with_their_runs : (flags : List Bool) (blocks : List ℕ) → with_runs flags (runs_of blocks) ≡ with_blocks flags blocks
 with_their_runs flags blocks = ap (with_blocks flags) (blocks_of_runs blocks)
 
--- What a call does to the counts of a block and of all blocks.
+-- The effect of a call on the counts of a block and of all blocks.
 
 pub marked_one : (old new : List Bool) (run : Run) → AllFree old run → new ≡ without old run → (k : ℕ) → one_if (is_free new k) + uses (run_blocks run) k ≡ one_if (is_free old k)
 marked_one old new run free is k = ap (λ f. one_if (is_free f k) + uses (run_blocks run) k) is ∙ one_free_without old run free k

@@ -1,4 +1,4 @@
--- Sets of free blocks: one flag for each block, which is true where the block is free.
+-- Sets of free blocks: one flag for each block, which is true if the block is free.
 use Rattle.std.specs.Prelude.{◌≡◌, ◌⊎◌, ℕ, ◌+◌, ◌<◌, ◌≤◌, Bool, true, false, not, ◌&&◌, ◌||◌, cond, List, length, map, Result, Ok, Err, Option, Some, None, slice_index_or, nat_lt, nat_le, nat_eq}
 use Rattle.std.specs.List.{range_with_len, count_by, All}
 use Rattle.extents.specs.declared.run_list.Run.{Run}
@@ -18,7 +18,7 @@ free_count flags = count_by (λ free. free) flags
 abbrev pub uses : List ℕ → ℕ → ℕ
 uses blocks k = count_by (λ b. nat_eq b k) blocks
 
--- 1 where it is so, otherwise 0
+-- 1 if it holds, otherwise 0
 abbrev pub one_if : Bool → ℕ
 one_if t = cond t 1 0
 
@@ -61,13 +61,13 @@ pub record HasUsed (flags : List Bool) (run : Run) : Type 0 where
 abbrev pub NoneFree : List Bool → Type 0
 NoneFree flags = (k : ℕ) → is_free flags k ≡ false
 
--- What marking a run as used answers and leaves, by cases on the answer.
+-- The answer and the flags after marking a run as used, by cases on the answer.
 abbrev pub Marks : List Bool → Run → Result (Unit {0}) UseFault → List Bool → Type 0
 Marks old run (Ok _) new = (run.start + run.count ≤ length old) × AllFree old run × (new ≡ without old run)
 Marks old run (Err OutOfRange) new = (length old < run.start + run.count) × (new ≡ old)
 Marks old run (Err InUse) new = (run.start + run.count ≤ length old) × HasUsed old run × (new ≡ old)
 
--- The run is the longest stretch of free blocks from the lowest one on, at most `want` blocks, and it is free no longer.
+-- The run is the longest sequence of free blocks from the lowest one on, at most `want` blocks, and it is free no longer.
 pub record Takes (old : List Bool) (want : ℕ) (run : Run) (new : List Bool) : Type 0 where
   pub some : 1 ≤ run.count
   pub at_most : run.count ≤ want
@@ -77,7 +77,7 @@ pub record Takes (old : List Bool) (want : ℕ) (run : Run) (new : List Bool) : 
   pub longest : (run.count ≡ want) ⊎ (is_free old (run.start + run.count) ≡ false)
   pub taken : new ≡ without old run
 
--- What taking at most `want` blocks answers and leaves.
+-- The answer and the flags after taking at most `want` blocks.
 abbrev pub TakesOrNone : List Bool → ℕ → Option Run → List Bool → Type 0
 TakesOrNone old want (Some run) new = Takes old want run new
 TakesOrNone old want None new = NoneFree old × (new ≡ old)

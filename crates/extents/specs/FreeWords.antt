@@ -1,4 +1,4 @@
--- A set of free blocks in words of 64 bits, with a second level that tells which words have a bit.
+-- A set of free blocks in words of 64 bits, with a second level that shows which words have a bit.
 use Rattle.std.specs.Prelude.{◌≡◌, ◌⊎◌, ℕ, ◌+◌, ◌*◌, ◌/◌, ◌%◌, ◌<◌, ◌≤◌, Bool, false, cond, List, length, slice_index, nat_eq, nat_lt}
 use Rattle.std.specs.Int.{bit_at}
 use Rattle.extents.specs.declared.run_list.Run.{Run}
@@ -12,13 +12,12 @@ bit_of words k = bit_at (slice_index words (k / 64)) (k % 64)
 unfoldable pub flags_of : List ℕ → ℕ → List Bool
 flags_of words n = flags_by n (λ k. nat_eq (bit_of words k) 1)
 
--- The second level: one bit for each word, and no other, set exactly where the word has a bit that is set.
+-- The second level: one bit for each word, and no other, set if and only if the word has a bit that is set.
 abbrev pub IsSecondLevel : List ℕ → List ℕ → Type 0
 IsSecondLevel groups words = (place : ℕ) → bit_of groups place ≡ one_if (nat_lt 0 (slice_index words place))
 
--- What holds of each map: the words are as many as n blocks need, and no bit is set past the last block; the second level
--- tells exactly which of them have a free block; the free blocks are counted, and none of them lies in the words of the
--- first groups.
+-- The invariants of each map: the words are as many as n blocks need, and no bit is set past the last block; the second level shows exactly
+-- which of them have a free block; the free blocks are counted, and none of them lies in the words of the first groups.
 pub record IsMap (words groups : List ℕ) (n free first : ℕ) : Type 0 where
   pub limit : n ≤ 16777216
   pub enough : n ≤ 64 * length words
@@ -38,7 +37,7 @@ pub record IsFirstNotZero (words : List ℕ) (from place : ℕ) : Type 0 where
   pub zeros : (k : ℕ) → from ≤ k → k < place → slice_index words k ≡ 0
   pub not_zero : place < length words → 0 < slice_index words place
 
--- The bits of the first `count` blocks of a run are set, and the one after them is not, or there is none in the run.
+-- The bits of the first `count` blocks of a run are set, and the one after them is not, or the run ends there.
 pub record IsFreeStart (words : List ℕ) (run : Run) (count : ℕ) : Type 0 where
   pub at_most : count ≤ run.count
   pub free : (k : ℕ) → run.start ≤ k → k < run.start + count → bit_of words k ≡ 1

@@ -1,4 +1,4 @@
--- Run lists: a run is a stretch of blocks, and a run list is seen as the list of its blocks.
+-- Run lists: a run is a sequence of adjoining blocks, and a run list is seen as the list of its blocks.
 use Rattle.std.specs.Prelude.{◌≢◌, ◌≤◌, ◌+◌, ℕ, List, [], ◌∷◌, ◌++◌, if◌then◌else◌, ◌==◌}
 use Rattle.std.specs.List.{range_with_len}
 use Rattle.extents.specs.declared.run_list.Run.{Run}
@@ -12,7 +12,7 @@ abbrev pub blocks_of : List Run → List ℕ
 blocks_of [] = []
 blocks_of (r ∷ rest) = run_blocks r ++ blocks_of rest
 
--- a block before a list of runs: it joins the first one where it is right before it
+-- a block before a list of runs: it joins the first one if it is right before it
 abbrev pub with_first : ℕ → List Run → List Run
 with_first b [] = record { start = b; count = 1 } ∷ []
 with_first b (r ∷ rest) =

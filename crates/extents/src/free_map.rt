@@ -20,14 +20,14 @@ pub enum UseFault {
     InUse,
 }
 
-/// Which of an archive's data blocks are free. Contracts see it as a list of flags, one for each block, true where it is
-/// free.
+/// The free blocks among an archive's data blocks. Contracts see it
+/// as a list of flags, one for each block, true if the block is free.
 #[derive(Drop)]
 pub struct FreeMap {
-    // A bit for each block, the lowest bit of the first word first, set where the block is free. The last word's bits past
+    // A bit for each block, the lowest bit of the first word first, set if the block is free. The last word's bits past
     // the last block are not set.
     words: Vec<u64>,
-    // The second level: a bit for each of the words, set where it has a free block.
+    // The second level: a bit for each of the words, set if the word has a free block.
     groups: Vec<u64>,
     // The number of blocks.
     blocks: u32,
@@ -117,7 +117,7 @@ impl FreeMap {
         *free
     }
 
-    // The lowest free block: the second level tells the first word that has one. The next search begins at the group where
+    // The lowest free block: the second level shows the first word that has one. The next search starts at the group where
     // this one ended.
     fn lowest(&mut self) -> Option<u32>
         ensures same { self.new ≡ self.old }

@@ -1,5 +1,5 @@
-// The two levels of a free map: one bit for each block, in words of 64, and one bit for each of these words, which is set
-// where the word is not 0.
+// The two levels of a free map: one bit for each block, in words of 64,
+// and one bit for each of these words, which is set if the word is not 0.
 ghost use Rattle.std.specs.Prelude.{◌≡◌, ◌+◌, ◌*◌, ◌<◌, ◌≤◌, ℕ, length, set};
 ghost use Rattle.std.specs.Int.{bit_at};
 ghost use Rattle.extents.specs.FreeSet.{is_within, one_if};
@@ -7,7 +7,7 @@ ghost use Rattle.extents.specs.FreeWords.{IsFirstNotZero, IsFreeStart, IsSecondL
 
 use crate::Run;
 
-/// The place of the first word from place `from` on that is not 0, or the number of words where there is none.
+/// The place of the first word from place `from` on that is not 0, or the number of words if all of them are 0.
 pub(crate) fn first_not_zero(words: &[u64], from: usize) -> usize
     requires { from ≤ length words.now }
     ensures { IsFirstNotZero words.now from result }

@@ -1,4 +1,4 @@
-//! Where an image's blocks lie: runs of blocks, lists of runs, the set of free blocks, and a block's bytes on a disk.
+//! The blocks of an image: runs of blocks, lists of runs, the set of free blocks, and a block's bytes on a disk.
 #![tactic(auto)]
 
 mod block;

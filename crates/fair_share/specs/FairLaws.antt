@@ -1,4 +1,4 @@
--- The core that goes is not pinned, and none goes where all are. It is of the heaviest user.
+-- The core that goes is not pinned, and none goes if all are. It belongs to the heaviest user.
 use Rattle.std.proofs.Common.{◌≡◌, ℕ, zero, suc, ◌-◌, ◌≤◌, Bool, true, false, ◌&&◌, cond, List, [], ◌∷◌, length, Option, None, Some, refl, sym, ap, subst, ◌∙◌, arith}
 use Rattle.std.proofs.lemmas.Bool.{false≢true, ltb-true, ltb-false}
 use Rattle.std.proofs.lemmas.Slice.Eq.{bytes_eq-Decides}
@@ -28,7 +28,7 @@ both_true false b is = absurd (false≢true is)
 same_bytes : (a b : List ℕ) → bytes_eq a b ≡ true → a ≡ b
 same_bytes a b is = (bytes_eq-Decides a b).0 is
 
--- what is at a place of the cases that are so is so
+-- a case at a place of the cases that pass the test passes it
 at_step : (p : Case → Bool) (x c : Case) (rest : List Case) (t : Bool) → p x ≡ t → (k : ℕ) → at_place k (cond t (x ∷ rest) rest) ≡ Some c → ((j : ℕ) → at_place j rest ≡ Some c → p c ≡ true) → p c ≡ true
 at_step p x c rest true so zero is more = ap p (sym (some_same x c is)) ∙ so
 at_step p x c rest true so (suc k) is more = more k is
@@ -64,7 +64,7 @@ none_of : (cases : List Case) → filter may_go_first cases ≡ [] → cores_of 
 none_of [] is = refl
 none_of (x ∷ xs) is = none_step x xs (may_go_first x) refl is (λ e. none_of xs e)
 
--- Where all cores are pinned, none goes.
+-- If all cores are pinned, none goes.
 pub none_fair : (cases : List Case) → filter may_go_first cases ≡ [] → fairest cases ≡ None
 none_fair cases none = ap (λ (l : List Case). of_user (first_heaviest (weight User cases) l) cases) (none_of cases none)
 

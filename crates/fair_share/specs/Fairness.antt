@@ -1,4 +1,4 @@
--- Which core goes where users share an archive fairly: one of the user whose cores have the most blocks.
+-- Which core goes if users share an archive fairly: one of the user whose cores have the most blocks.
 use Rattle.std.specs.Prelude.{ℕ, zero, suc, ◌-◌, Bool, true, false, not, ◌&&◌, nat_lt, List, [], ◌∷◌, length, sum_by, Option, None, Some, if◌then◌else◌}
 use Rattle.std.specs.List.{best_of, filter}
 use Rattle.std.specs.Str.{bytes_eq}

@@ -1,4 +1,4 @@
--- What holds of the core that goes where users share an archive fairly.
+-- Laws of the core that goes if users share an archive fairly.
 use Rattle.std.specs.Prelude.{◌≡◌, ◌≤◌, List, [], ◌∷◌, Some}
 use Rattle.std.specs.List.{AllByRecursion}
 use Rattle.journal_layout.specs.Case.{Case}
@@ -16,7 +16,7 @@ abbrev pub NoProgramHasMore : Type 0
 NoProgramHasMore = (cases : List Case) (c : Case) → fairest cases ≡ Some c
     → AllByRecursion (λ d. weight Program cases d ≤ weight Program cases c) (cores_of User (user_of c.origin.name) cases)
 
--- The first unpinned core of a program, which is none of the others, goes only if there are no others.
+-- The first unpinned core of a program, which differs from the others, goes only if there are no others.
 abbrev pub TheFirstStays : Type 0
 TheFirstStays = (cases : List Case) (c : Case) (rest : List Case) → fairest cases ≡ Some c
     → cores_of Program (program_of c.origin.name) cases ≡ c ∷ rest → AllByRecursion (λ d. d ≡ c → ⊥) rest → rest ≡ []

@@ -38,7 +38,7 @@ program_of name = before_both name (before_number name)
 abbrev pub digits_or_none : List ℕ → List ℕ
 digits_or_none text = if are_digits text then text else []
 
--- the digits before the first dot, or to the end, if there is none; nothing, if other bytes are among them
+-- the digits before the first dot, or to the end, if there is no dot; nothing, if other bytes are among them
 abbrev pub up_to_dot : List ℕ → Option ℕ → List ℕ
 up_to_dot text None = digits_or_none text
 up_to_dot text (Some n) = digits_or_none (take n text)
@@ -51,6 +51,6 @@ dot_in text = position (λ b. b == 46) text
 abbrev pub user_in : List ℕ → List ℕ
 user_in front = if starts_with nat_eq front (codes "core.") then up_to_dot (drop 5 front) (dot_in (drop 5 front)) else []
 
--- The user of a name. It is empty where the name has none: all such names are as of one user.
+-- The user of a name. It is empty if the name has none: all such names count as one user's.
 abbrev pub user_of : List ℕ → List ℕ
 user_of name = user_in (program_of name)

@@ -33,7 +33,7 @@ abbrev pub best_from : (Case → ℕ) → Option Case → List Case → Option C
 best_from weigh None rest = first_heaviest weigh rest
 best_from weigh (Some c) rest = Some (best_of (λ d best. nat_lt (weigh best) (weigh d)) c rest)
 
--- What is the heaviest of these and of the cores that follow one, is so with that one too.
+-- `new` counts the core c in addition to `old`: whichever cores follow, the heaviest of all is the same.
 abbrev pub TakesUp : Scope → List ℕ → Scope → List Case → Option Weighed → Case → Option Weighed → Type 0
 TakesUp wide owner narrow cases old c new = (rest : List Case)
     → best_from (weight narrow cases) (best_core old) (cores_of wide owner (c ∷ rest)) ≡ best_from (weight narrow cases) (best_core new) (cores_of wide owner rest)

@@ -25,11 +25,11 @@ pub enum Scope {
     Program,
 }
 
-/// Of cases in the order of their numbers the core that goes next. It is one of the user whose unpinned cores have the most blocks, and of that
-/// user's programs the one of which so it is. Of its cores it is the last but one, if there are three or more, and else the last. None
-/// goes if all cores are pinned.
+/// Of cases in the order of their numbers the core that goes next. It belongs to the user whose unpinned cores have the most blocks, and to
+/// that user's program whose unpinned cores have the most. Of its cores it is the last but one, if there are three or more, and else the last.
+/// `None` if all cores are pinned.
 ///
-/// It goes over the cases a few times, each in n log n steps. Where there is no memory to count all owners' blocks at once, it takes a pass
+/// It passes over the cases a few times, each in n log n steps. If there is no memory to count all owners' blocks at once, it makes a pass
 /// for each owner.
 pub fn fairest(alloc: Global, cases: &[Entry]) -> Option<&Entry>
     ensures { option_map (λ (e : _). case_of e.now) result ≡ spec.fairest (map case_of cases.now) }

@@ -1,4 +1,4 @@
-//! What holds of the core that goes where users share an archive fairly. This function does nothing.
+//! Laws of the core that goes if users share an archive fairly. This function does nothing.
 ghost use Rattle.fair_share.specs.Laws.{NoUserHasMore, NoProgramHasMore, TheFirstStays};
 
 /// No other user has more blocks in unpinned cores than that of the core that goes, and no other program of that user's. The first core of a

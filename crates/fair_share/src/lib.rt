@@ -1,4 +1,4 @@
-//! Which core goes where users share an archive fairly.
+//! Which core goes if users share an archive fairly.
 #![tactic(auto)]
 
 mod choosing;

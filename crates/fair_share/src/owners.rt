@@ -16,8 +16,8 @@ pub fn program_of(name: &[u8]) -> &[u8]
     }
 }
 
-/// The user of such a name: the digits between `core.` and the next dot, or the end, of what `program_of` gives. It is empty if there are none,
-/// or other bytes are among them.
+/// The user of such a name: the digits between `core.` and the next dot, or the end, of the program that `program_of` gives. It is empty if
+/// there are no digits, or other bytes are among them.
 pub fn user_of(name: &[u8]) -> &[u8]
     ensures { result.now ≡ spec.user_of name.now }
 {
@@ -35,7 +35,7 @@ fn user_in(front: &[u8]) -> &[u8]
     }
 }
 
-// The digits before the first dot, or to the end, if there is none; nothing, if other bytes are among them.
+// The digits before the first dot, or to the end, if there is no dot; nothing, if other bytes are among them.
 fn up_to_dot(text: &[u8]) -> &[u8]
     ensures { result.now ≡ spec.up_to_dot text.now (spec.dot_in text.now) }
 {

@@ -5,7 +5,7 @@ use Rattle.std.specs.List.{AllByRecursion, filter}
 use Rattle.std.proofs.lemmas.Bool.{cases_Bool, false≢true}
 use Rattle.std.proofs.lemmas.Slice.Eq.{bytes_eq-Decides}
 use Rattle.elf_view.specs.Header.{segments_of}
-use Rattle.address_space.specs.Source.{ExecutableView, SpotView, is_named}
+use Rattle.address_space.specs.Source.{ExecutableView, SpotView}
 use Rattle.build_replies.specs.Builds.{name_of, once}
 use Rattle.build_replies.specs.Choosing.{Choice, choice_for, core_fronts, debugs_under, told_files, told_id, under_names}
 use Rattle.build_replies.specs.ChoosingLaws.{IsDebugOf, choice_plain, each_debug, each_own, each_with_code}

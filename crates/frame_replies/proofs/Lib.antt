@@ -1,6 +1,7 @@
-pub mod TellLemmas
+pub mod PrintLemmas
 pub mod RegisterLemmas
 pub mod AnswerLemmas
 pub mod LineLemmas
 pub mod ShownLemmas
 pub mod ChoiceLemmas
+pub mod SourceLemmas

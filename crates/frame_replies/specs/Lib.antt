@@ -3,7 +3,10 @@ pub mod ProcessWords
 pub mod Known
 pub mod FrameValues
 pub mod FrameLines
+pub mod SourceTables
 pub mod FrameSources
+pub mod LastSource
+pub mod SourceWords
 pub mod FrameRegisters
 pub mod Shown
 pub mod Walking

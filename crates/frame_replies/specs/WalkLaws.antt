@@ -18,7 +18,7 @@ use Rattle.unwind.specs.Unwinding.{unwound, stop_of}
 use Rattle.unwind.specs.declared.faults.Stop.{Stop}
 use Rattle.unwind.specs.declared.frame.Frame.{Frame}
 use Rattle.frame_replies.specs.FrameLines.{printed, stop_line, unwind_answer, unwound_answer, unwound_lines, value_line}
-use Rattle.frame_replies.specs.FrameSources.{lines_answer, printed_sources, shown_answer, shown_line}
+use Rattle.frame_replies.specs.FrameSources.{frame_source, lines_answer, printed_sources, shown_answer, shown_line, sources_of, sources_with}
 use Rattle.frame_replies.specs.FrameRegisters.{frame_answer, one_frame_answer, registers_of}
 use Rattle.frame_replies.specs.FrameValues.{FrameValue, ThreadFrames, frame_value, frames_of, thread_frames, value_with}
 use Rattle.frame_replies.specs.ProcessWords.{described_view, named_in}
@@ -31,7 +31,7 @@ use Rattle.frame_replies.specs.declared.walk.Walk.{Walk}
 use Rattle.frame_replies.specs.declared.walk.WalkedFrame.{WalkedFrame}
 
 -- lines that are printed from values
-numbered_map : {A B : Type 0} → (line : ℕ → B → List ℕ) (value : A → B) (i : ℕ) (xs : List A) → numbered_lines (λ k x. line k (value x)) i xs ≡ numbered_lines line i (map value xs)
+pub numbered_map : {A B : Type 0} → (line : ℕ → B → List ℕ) (value : A → B) (i : ℕ) (xs : List A) → numbered_lines (λ k x. line k (value x)) i xs ≡ numbered_lines line i (map value xs)
 numbered_map line value i [] = refl
 numbered_map line value i (x ∷ xs) = ap (λ (t : List ℕ). line i (value x) ++ t) (numbered_map line value (i + 1) xs)
 
@@ -75,6 +75,18 @@ module _ (image : List ℕ) (xs : List ExecutableView) (t : ℕ) (p : UnwoundPro
       ∙ ap (λ (fs : List Frame). made (map (frame_value q.space (named_among choice)) fs) stop) (sym (all_found q is.desc w stop is.walked ended))
       ∙ ap (λ s. made (map (frame_value q.space (named_among choice)) (unwound q is.desc)) s) (sym (is.walked.stops ∙ (ended q).stop))
       ∙ sym (ap (option_map (thread_frames q (named_among choice))) is.state)
+
+  -- their source lines are those of the thread
+  pub walk_sources : map (frame_source (space_of p.space).files (named_in p.executables.now.images)) (map (walked_value (space_of p.space).files (named_in p.executables.now.images)) w.frames.items) ≡ sources_of image xs t
+  unfolding sources_of
+  walk_sources =
+      let q = process_in image (choice_for image xs) in
+      let files = (space_of p.space).files in
+      let named = named_in p.executables.now.images in
+      let same : files ≡ q.space.files = ap (λ (r : ProcessView). r.space.files) is.process in
+      ap (sources_with files named) walk_values
+      ∙ ap (λ (fs : List FileView). sources_with fs named (frames_of image xs t)) same
+      ∙ ap (λ (ns : List NamedFile). sources_with q.space.files ns (frames_of image xs t)) is.named
 
   -- and their lines are those of the answer
   lines_told : Ok (numbered_lines (walked_line Source (space_of p.space).files (named_in p.executables.now.images)) 0 w.frames.items ++ stop_line stop) ≡ lines_answer image xs t

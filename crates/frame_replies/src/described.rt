@@ -2,8 +2,9 @@
 ghost use Rattle.std.specs.Prelude.{◌≡◌};
 ghost use Rattle.std.specs.Option.{option_map};
 ghost use Rattle.elf_view.specs.ViewWords.{image_of};
-ghost use Rattle.call_frames.specs.FindingWords.{debug_frame_in, eh_frame_in};
+ghost use Rattle.call_frames.specs.FindingWords.{debug_frame_in, eh_frame_in, is_unread_in};
 ghost use Rattle.call_frames.specs.Tables.{debug_frame_of, eh_frame_of};
+ghost use Rattle.call_frames.specs.Unread.{have_unread_frames};
 
 use call_frames::CallFrames;
 use elf_view::Elf;
@@ -18,4 +19,5 @@ pub(crate) struct Described<'a> {
     pub frames: CallFrames<'a>,
     ghost eh_frame: { eh_frame_in frames ≡ eh_frame_of (image_of elf) },
     ghost debug_frame: { debug_frame_in frames ≡ debug_frame_of (image_of elf) (option_map image_of debug) },
+    ghost unread: { is_unread_in frames ≡ have_unread_frames (image_of elf) (option_map image_of debug) },
 }

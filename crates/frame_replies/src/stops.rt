@@ -2,7 +2,7 @@
 ghost use Rattle.std.specs.Prelude.{◌≡◌, ℕ, List};
 ghost use Rattle.std.specs.Borrow.{Bor};
 ghost use Rattle.std.specs.Option.{option_map};
-ghost use Rattle.script_streams.specs.Replies.{TellsText, telling};
+ghost use Rattle.script_streams.specs.Replies.{PrintsText, printing};
 ghost use Rattle.frame_replies.specs.FrameLines as spec;
 
 use script_streams::{Output, Reply};
@@ -41,24 +41,31 @@ pub fn stop_fault(stop: Stop) -> Option<(&'static str, u64)>
     }
 }
 
-/// Tells an entry that is at fault, if one is.
-fn tell_fault<O: Output>(reply: &mut Reply<'_, O>, fault: Option<(&str, u64)>)
-    ensures { TellsText (telling O.Output reply.old reply.new) (spec.fault_words (option_map (λ (x : Bor (List ℕ) × ℕ). (x.0.now, x.1)) fault.entry)) }
+/// Prints an entry that is at fault, if one is.
+fn print_fault<O: Output>(reply: &mut Reply<'_, O>, fault: Option<(&str, u64)>)
+    ensures { PrintsText (printing O.Output reply.old reply.new) (spec.fault_words (option_map (λ (x : Bor (List ℕ) × ℕ). (x.0.now, x.1)) fault.entry)) }
 {
     if let Some((name, index)) = fault {
-        reply.tell(b" ");
-        reply.tell(name.as_bytes());
-        reply.tell(b" ");
-        reply.tell_decimal(u128::from(index));
+        reply.print(b" ");
+        reply.print(name.as_bytes());
+        reply.print(b" ");
+        reply.print_decimal(u128::from(index));
     }
 }
 
-/// Tells why frames end: `stop NAME`, or `stop Faulty FIELD INDEX`.
-pub fn tell_stop<O: Output>(reply: &mut Reply<'_, O>, stop: Stop)
-    ensures { TellsText (telling O.Output reply.old reply.new) (spec.stop_line stop) }
+/// Prints the reason why frames end: `NAME`, or `Faulty FIELD INDEX`.
+pub fn print_stop_words<O: Output>(reply: &mut Reply<'_, O>, stop: Stop)
+    ensures { PrintsText (printing O.Output reply.old reply.new) (spec.stop_words stop) }
 {
-    reply.tell(b"stop ");
-    reply.tell(stop_name(stop).as_bytes());
-    tell_fault(reply, stop_fault(stop));
-    reply.tell(b"\n");
+    reply.print(stop_name(stop).as_bytes());
+    print_fault(reply, stop_fault(stop));
+}
+
+/// Prints why frames end: `stop NAME`, or `stop Faulty FIELD INDEX`.
+pub fn print_stop<O: Output>(reply: &mut Reply<'_, O>, stop: Stop)
+    ensures { PrintsText (printing O.Output reply.old reply.new) (spec.stop_line stop) }
+{
+    reply.print(b"stop ");
+    print_stop_words(reply, stop);
+    reply.print(b"\n");
 }

@@ -9,8 +9,8 @@ use Rattle.frame_rows.specs.declared.instructions.Instruction.{Instruction}
 use Rattle.frame_rows.specs.declared.instructions.Instruction.TheVariants.{Advance, Set, Restore, Nothing, RememberState, RestoreState, DefineCfa, CfaRegister, CfaOffset, CfaExpression}
 use Rattle.frame_rows.specs.declared.rows.Row.{Row}
 
--- What a program is executed for: the alignment factors, the row that restores go back to, and the address whose row is
--- wanted. The program of a CIE is for none, and has no advance.
+-- The aim of the execution of a program: the alignment factors, the row that restores go back to, and the address whose row is wanted. The
+-- program of a CIE has no address, and has no advance.
 pub record Aim : Type 0 where
   pub code_align : ℕ
   pub data_align : ℕ
@@ -90,8 +90,8 @@ abbrev pub then_do : {A B : Type 0} → Result A RowField → (A → Result B Ro
 then_do (Ok x) next = next x
 then_do (Err f) next = Err f
 
--- A program is executed up to its end, or up to the first advance beyond the address. At most so many instructions are
--- executed; the instruction that would be one more is at fault.
+-- A program is executed up to its end, or up to the first advance beyond the address.
+-- At most so many instructions are executed; one more instruction is a fault.
 unfoldable pub run : ℕ → Aim → State → List ℕ → Result Left RowField
 run count aim s [] = Ok (left s.row count)
 run zero aim s (x ∷ xs) = Err faults.Instructions

@@ -1,4 +1,4 @@
--- The names of what is at fault in call frame instructions.
+-- The names of the faults in call frame instructions.
 use Rattle.std.specs.Prelude.{List, ℕ, codes}
 use Rattle.frame_rows.specs.declared.faults.RowField.{RowField}
 use Rattle.frame_rows.specs.declared.faults.RowField.TheVariants.{Opcode, Operand, Instructions, RememberState, RestoreState}

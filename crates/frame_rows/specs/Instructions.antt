@@ -11,8 +11,8 @@ use Rattle.frame_rows.specs.declared.operands.Shape.{Shape}
 use Rattle.frame_rows.specs.declared.operands.Shape.TheVariants as shapes
 use Rattle.frame_rows.specs.declared.rows.Rule.TheVariants as rules
 
--- What the operands of an opcode are: none, a ULEB128, an SLEB128, two of the first, one of each, a block, a ULEB128 and a
--- block, or a number of 1, 2 or 4 bytes. The highest two bits are DW_CFA_advance_loc (1), offset (2) and restore (3).
+-- The operands of an opcode: nothing, a ULEB128, an SLEB128, two of the first, one of each, a block, a ULEB128 and a block, or a number of
+-- 1, 2 or 4 bytes. The highest two bits are DW_CFA_advance_loc (1), offset (2) and restore (3).
 abbrev pub shape_below : ℕ → Option Shape
 shape_below x =
     if x == 0x00 || x == 0x0a || x == 0x0b then Some shapes.Nothing
@@ -30,7 +30,7 @@ shape_below x =
 unfoldable pub shape_of : ℕ → Option Shape
 shape_of x = if nat_lt x 64 then shape_below x else (if x / 64 == 2 then Some shapes.Unsigned else Some shapes.Nothing)
 
--- the numbers among the operands, 0 if there is none, and the bytes after them
+-- the numbers among the operands, 0 for a missing one, and the bytes after them
 pub record OperandsView : Type 0 where
   pub first : ℕ
   pub second : ℕ
@@ -52,7 +52,7 @@ abbrev pub fixed : ℕ → List ℕ → Option OperandsView
 fixed w bytes =
     if nat_le w (length bytes) then Some (record { first = field bytes 0 w; second = 0; rest = drop w bytes }) else None
 
--- what is after a column: a ULEB128, an SLEB128, or a block
+-- the operand after a column: a ULEB128, an SLEB128, or a block
 abbrev pub behind_column : Shape → ℕ × List ℕ → Option OperandsView
 behind_column shapes.TwoUnsigned n = option_map (two_operands n.0) (uleb n.1)
 behind_column shapes.UnsignedSigned n = option_map (two_operands n.0) (sleb n.1)
@@ -100,7 +100,7 @@ instruction_below align x a b =
     else (if x == 0x14 || x == 0x15 then Set a (rules.Value (factored align b))
     else Nothing)))))))))))))))
 
--- what an opcode below 0x80, with these operands, does; the lowest six bits of the others are an operand
+-- the operation of an opcode below 0x80, with these operands; the lowest six bits of the others are an operand
 unfoldable pub instruction_of : ℕ → ℕ → ℕ → ℕ → Instruction
 instruction_of align x a b =
     if nat_lt x 64 then instruction_below align x a b

@@ -1,4 +1,4 @@
--- Where the execution of a program ends, and so up to where a row lasts.
+-- The location at which the execution of a program ends, and thus the end of a row's range.
 use Rattle.std.specs.Prelude.{ℕ, zero, suc, if◌then◌else◌, List, [], ◌∷◌, Option, None, Some}
 use Rattle.std.specs.Option.{option_and_then}
 use Rattle.std.specs.Result.{result_ok}

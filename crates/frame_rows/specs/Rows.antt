@@ -6,7 +6,7 @@ use Rattle.frame_rows.specs.declared.rows.Row.{Row}
 use Rattle.frame_rows.specs.declared.rows.Rule.{Rule}
 use Rattle.frame_rows.specs.declared.rows.Rule.TheVariants as rules
 
--- a rule in place of that of a column, if it is one of those that are kept
+-- a rule instead of that of a column, if it is one of those that are kept
 unfoldable pub set_rule : List Rule → ℕ → Rule → List Rule
 set_rule rs c rule = if nat_lt c 32 then slice_set rs c rule else rs
 

@@ -1,4 +1,4 @@
--- What the code's operands, instructions and states mean.
+-- The meaning of the code's operands, instructions and states.
 use Rattle.std.specs.Prelude.{Result, Ok, Err}
 use Rattle.frame_rows.specs.Execution.{Aim, State}
 use Rattle.frame_rows.specs.Instructions.{OperandsView, StepView}

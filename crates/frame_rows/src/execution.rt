@@ -13,7 +13,7 @@ use call_frames::Entry;
 /// How many instructions the programs of an entry may have.
 const LIMIT: u32 = 65_536;
 
-/// What a program is executed for.
+/// The aim of the execution of a program.
 #[derive(Clone, Copy, Debug)]
 pub(crate) struct Target {
     /// code_alignment_factor.
@@ -179,8 +179,8 @@ impl Machine {
 
 impl Row {
     /// The row of an address that an entry describes: the program of its CIE is executed, then its own, up to the first
-    /// advance beyond the address. The first instruction that can't be executed is at fault; those after that advance are
-    /// not looked at. It takes no memory.
+    /// advance beyond the address. The error is the first instruction that can't be executed; those after that advance
+    /// are not examined. It takes no memory.
     #[tactic(auto, unfolding(crate::specs::Execution::row_of))]
     pub fn of(entry: &Entry<'_>, address: u64) -> Result<Row, RowField>
         ensures { result ≡ spec.row_of (entry_view entry.now) address }

@@ -2,7 +2,7 @@
 ghost use Rattle.std.specs.Prelude.{◌≡◌};
 ghost use Rattle.frame_rows.specs.FieldNames as names;
 
-/// What the first call frame instruction that can't be executed is refused for (DWARF 5, 6.4.2).
+/// Why the first call frame instruction that can't be executed is refused (DWARF 5, 6.4.2).
 #[derive(Clone, Copy, Debug, PartialEq, Eq)]
 pub enum RowField {
     /// The opcode is not known, or is an advance of the location in the program of a CIE.

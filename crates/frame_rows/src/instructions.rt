@@ -6,7 +6,7 @@ use crate::faults::RowField;
 use crate::operands::{Operands, Shape};
 use crate::rows::Rule;
 
-/// What a call frame instruction does (DWARF 5, 6.4.2). Columns may be any number. Offsets are modulo 2^64.
+/// The operation of a call frame instruction (DWARF 5, 6.4.2). Columns may be any number. Offsets are modulo 2^64.
 #[derive(Clone, Copy, Debug)]
 pub(crate) enum Instruction {
     /// Advances the location by so many code_alignment_factors.
@@ -27,7 +27,7 @@ pub(crate) enum Instruction {
     CfaRegister(u64),
     /// Sets the offset of the CFA.
     CfaOffset(u64),
-    /// An expression tells the CFA.
+    /// An expression gives the CFA.
     CfaExpression,
 }
 
@@ -45,7 +45,7 @@ fn factored(align: u64, operand: u64) -> u64
     operand.wrapping_mul(align)
 }
 
-/// What an opcode below 0x40 does with its operands.
+/// The operation of an opcode below 0x40 with its operands.
 fn instruction_below(align: u64, opcode: u8, first: u64, second: u64) -> Instruction
     ensures { result ≡ spec.instruction_below align opcode first second }
 {
@@ -70,7 +70,7 @@ fn instruction_below(align: u64, opcode: u8, first: u64, second: u64) -> Instruc
     }
 }
 
-/// What an opcode does with its operands.
+/// The operation of an opcode with its operands.
 #[tactic(auto, unfolding(crate::specs::Instructions::instruction_of))]
 fn instruction_of(align: u64, opcode: u8, first: u64, second: u64) -> Instruction
     ensures { result ≡ spec.instruction_of align opcode first second }

@@ -1,4 +1,4 @@
-// What the definitions that the contracts cite say together.
+// Consequences of the definitions that the contracts cite.
 ghost use Rattle.std.specs.Prelude.{◌≡◌, ◌≤◌, ◌<◌, ℕ, IfSome};
 ghost use Rattle.call_frames.specs.Entry.{EntryView};
 ghost use Rattle.frame_rows.specs.Execution.{row_of};

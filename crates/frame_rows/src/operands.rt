@@ -8,7 +8,7 @@ ghost use Rattle.frame_rows.specs.Instructions as spec;
 use call_frames::{sized, sleb, uleb};
 use elf_view::{u16_at, u32_at};
 
-/// What the operands of an opcode are (DWARF 5, 7.24).
+/// The kinds of operands that an opcode has (DWARF 5, 7.24).
 #[derive(Clone, Copy, Debug)]
 pub(crate) enum Shape {
     /// None.
@@ -33,7 +33,7 @@ pub(crate) enum Shape {
     FourBytes,
 }
 
-/// The numbers among the operands, 0 if there is none, and the bytes after them. Signed ones are modulo 2^64.
+/// The numbers among the operands, 0 for a missing one, and the bytes after them. Signed ones are modulo 2^64.
 #[derive(Clone, Copy, Debug)]
 pub(crate) struct Operands<'a> {
     pub(crate) first: u64,
@@ -169,7 +169,7 @@ impl<'a> Operands<'a> {
         })
     }
 
-    /// A ULEB128, and what is read after it: a ULEB128, an SLEB128 or a block.
+    /// A ULEB128, and the operand after it: a ULEB128, an SLEB128 or a block.
     fn with_column(shape: Shape, bytes: &'a [u8]) -> Option<Operands<'a>>
         ensures { option_map operands_view result ≡ spec.column_operands shape bytes.now }
     {

@@ -5,7 +5,7 @@ ghost use Rattle.frame_rows.specs.Rows as spec;
 /// How many columns are kept: those of x0 to x31.
 const COLUMNS: usize = 32;
 
-/// Where the value that a register has in the caller is found (DWARF 5, 6.4.1). Offsets are signed, and modulo 2^64.
+/// How the value that a register has in the caller is found (DWARF 5, 6.4.1). Offsets are signed, and modulo 2^64.
 #[derive(Clone, Copy, Debug, PartialEq, Eq)]
 pub enum Rule {
     /// It is not known.
@@ -18,7 +18,7 @@ pub enum Rule {
     Value(u64),
     /// It is the value of another column.
     Register(u64),
-    /// A DWARF expression tells it.
+    /// A DWARF expression gives it.
     Expression,
 }
 
@@ -27,9 +27,9 @@ pub enum Rule {
 pub struct Cfa {
     /// The column of the register that it is reckoned from.
     pub column: u64,
-    /// What is added to the register, modulo 2^64.
+    /// The number that is added to the register, modulo 2^64.
     pub offset: u64,
-    /// A DWARF expression tells it, and not the two.
+    /// A DWARF expression gives it, instead of the two.
     pub expression: bool,
 }
 
@@ -111,7 +111,7 @@ impl Row {
 }
 
 impl Default for Row {
-    /// A row that tells nothing.
+    /// A row without any rule.
     fn default() -> Row {
         Row {
             cfa: Cfa {

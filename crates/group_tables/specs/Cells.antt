@@ -1,4 +1,4 @@
--- What the tables show of a group and of its cores.
+-- The cells of the tables for a group and for its cores.
 use Rattle.std.specs.Prelude.{ℕ, Bool, nat_lt, List, [], ◌∷◌, ◌++◌, codes, decimal, if◌then◌else◌}
 use Rattle.script_words.specs.Printing.{shown}
 use Rattle.case_tables.specs.Cells.{known_number, signal_text}

@@ -1,4 +1,4 @@
--- What a table says of all cores of a group.
+-- The summary of all cores of a group.
 use Rattle.std.specs.Prelude.{ℕ, ◌==◌, Bool, not, ◌&&◌, nat_le, nat_lt, List, [], ◌∷◌, ◌++◌, codes, decimal, filter, fold, length, map, max, min, if◌then◌else◌}
 use Rattle.std.specs.Str.{bytes_eq}
 use Rattle.script_words.specs.Printing.{shown}
@@ -21,18 +21,18 @@ is_time latest time = nat_le 946_684_800 time && nat_le time latest
 abbrev pub times : ℕ → List MemberSaid → List ℕ
 times latest ms = filter (is_time latest) (map (λ m. m.case.origin.time) ms)
 
--- the last of these times, and the first; 0, if there is none
+-- the last of these times, and the first; 0 if there are no times
 abbrev pub last_time : ℕ → List MemberSaid → ℕ
 last_time latest ms = fold max 0 (times latest ms)
 
 abbrev pub first_time : ℕ → List MemberSaid → ℕ
 first_time latest ms = fold min (last_time latest ms) (times latest ms)
 
--- the greatest number of those that are certain
+-- the highest number of those that are certain
 abbrev pub newest : List MemberSaid → ℕ
 newest ms = fold max 0 (map (λ m. m.case.seq) (filter is_certain ms))
 
--- different texts, each where it is first
+-- different texts, each at its first place
 abbrev pub once : List (List ℕ) → List (List ℕ)
 once [] = []
 once (t ∷ ts) = t ∷ filter (λ u. not (bytes_eq u t)) (once ts)
@@ -54,7 +54,7 @@ labels ms = filter is_label (once (map label_of ms))
 abbrev pub more_text : ℕ → List ℕ
 more_text k = if nat_lt 0 k then codes ",+" ++ decimal k else []
 
--- the first two, and how many more there are; `-`, if there is none
+-- the first two, and how many more there are; `-` if there are no labels
 abbrev pub labels_text : List (List ℕ) → List ℕ
 labels_text [] = codes "-"
 labels_text (a ∷ []) = shown a

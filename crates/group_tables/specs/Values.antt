@@ -7,7 +7,7 @@ use Rattle.group_tables.specs.declared.rows.Crash.{Crash}
 use Rattle.group_tables.specs.declared.rows.GroupMember.{GroupMember}
 use Rattle.group_tables.specs.declared.rows.GroupRow.{GroupRow}
 
--- what all cores of a group have in common
+-- the facts that all cores of a group have in common
 pub record CrashSaid : Type 0 where
   pub program : List ℕ
   pub signal : ℕ
@@ -24,7 +24,7 @@ pub record MemberSaid : Type 0 where
 abbrev pub member_said : GroupMember → MemberSaid
 member_said m = record { case = case_of m.case.now; is_perhaps = m.is_perhaps }
 
--- a group: what its cores have in common, and its cores in the order of their numbers
+-- a group: the facts that its cores have in common, and its cores in the order of their numbers
 pub record RowSaid : Type 0 where
   pub crash : CrashSaid
   pub members : List MemberSaid

@@ -21,7 +21,7 @@ word_text w = if w.is_mark then shown w.text else name_text w.text
 abbrev pub others_text : List WordSaid → List ℕ
 others_text ws = flat_map (λ w. codes " " ++ word_text w) ws
 
--- the words with a space between two of them; `-`, if there is none
+-- the words with a space between two of them; `-` if there are no words
 abbrev pub words_text : List WordSaid → List ℕ
 words_text [] = codes "-"
 words_text (w ∷ ws) = word_text w ++ others_text ws

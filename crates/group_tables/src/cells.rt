@@ -1,17 +1,17 @@
-//! What the tables show of a group and of its cores.
+//! The cells of the tables for a group and for its cores.
 ghost use Rattle.std.specs.Prelude.{◌≡◌, IfOk, codes, map, if◌then◌else◌};
-ghost use Rattle.script_streams.specs.Replies.{TellsText, telling};
+ghost use Rattle.script_streams.specs.Replies.{PrintsText, printing};
 ghost use Rattle.case_tables.specs.Cells.{known_number};
 ghost use Rattle.group_tables.specs.Cells as spec;
 ghost use Rattle.group_tables.specs.Summary.{certain_count, labels as labels_of, perhaps_count};
 ghost use Rattle.group_tables.specs.Values.{member_said, row_said};
 
 use crate::kept::KeptText;
-use crate::labels::tell_labels;
+use crate::labels::print_labels;
 use crate::rows::{GroupMember, GroupRow};
 use crate::summary::{certain_count, first_time, last_time, newest, perhaps_count};
-use crate::words::tell_frames;
-use case_tables::{tell_signal, tell_size, tell_time};
+use crate::words::print_frames;
+use case_tables::{print_signal, print_size, print_time};
 use script_streams::{Output, Reply};
 use std::alloc::{AllocError, Global};
 
@@ -88,14 +88,14 @@ pub(crate) fn group_cell(
 {
     let mut text = KeptText::new(alloc);
     let mut reply = Reply::new(&mut text);
-    tell_group_cell(&mut reply, latest, row, labels, column);
+    print_group_cell(&mut reply, latest, row, labels, column);
     match reply.finish() {
         Ok(()) => Ok(text.into_text()),
         Err(_) => Err(AllocError),
     }
 }
 
-fn tell_group_cell<O: Output>(
+fn print_group_cell<O: Output>(
     reply: &mut Reply<'_, O>,
     latest: u64,
     row: &GroupRow<'_>,
@@ -103,29 +103,29 @@ fn tell_group_cell<O: Output>(
     column: GroupColumn,
 )
     requires { map (λ l. l.now) labels.now ≡ labels_of (row_said row.now).members }
-    ensures { TellsText (telling O.Output reply.old reply.new) (spec.group_cell latest (row_said row.now) column) }
+    ensures { PrintsText (printing O.Output reply.old reply.new) (spec.group_cell latest (row_said row.now) column) }
 {
     match column {
-        GroupColumn::Cores => tell_counts(reply, &row.members),
-        GroupColumn::First => tell_time(reply, first_time(latest, &row.members)),
-        GroupColumn::Last => tell_time(reply, last_time(latest, &row.members)),
-        GroupColumn::Signal => tell_signal(reply, row.crash.signal),
-        GroupColumn::Newest => reply.tell_decimal(u128::from(newest(&row.members))),
-        GroupColumn::Labels => tell_labels(reply, labels),
-        GroupColumn::Program => reply.tell_text(&row.crash.program),
-        GroupColumn::Frames => tell_frames(reply, &row.crash.signature),
+        GroupColumn::Cores => print_counts(reply, &row.members),
+        GroupColumn::First => print_time(reply, first_time(latest, &row.members)),
+        GroupColumn::Last => print_time(reply, last_time(latest, &row.members)),
+        GroupColumn::Signal => print_signal(reply, row.crash.signal),
+        GroupColumn::Newest => reply.print_decimal(u128::from(newest(&row.members))),
+        GroupColumn::Labels => print_labels(reply, labels),
+        GroupColumn::Program => reply.print_text(&row.crash.program),
+        GroupColumn::Frames => print_frames(reply, &row.crash.signature),
     }
 }
 
-// Tells how many cores are certain, and behind a plus how many are perhaps of the group.
-fn tell_counts<O: Output>(reply: &mut Reply<'_, O>, members: &[GroupMember<'_>])
-    ensures { TellsText (telling O.Output reply.old reply.new) (spec.counts_text (certain_count (map member_said members.now)) (perhaps_count (map member_said members.now))) }
+// Prints how many cores are certain, and behind a plus how many perhaps belong to the group.
+fn print_counts<O: Output>(reply: &mut Reply<'_, O>, members: &[GroupMember<'_>])
+    ensures { PrintsText (printing O.Output reply.old reply.new) (spec.counts_text (certain_count (map member_said members.now)) (perhaps_count (map member_said members.now))) }
 {
     let perhaps = perhaps_count(members);
-    reply.tell_decimal(certain_count(members) as u128);
+    reply.print_decimal(certain_count(members) as u128);
     if perhaps > 0 {
-        reply.tell(b"+");
-        reply.tell_decimal(perhaps as u128);
+        reply.print(b"+");
+        reply.print_decimal(perhaps as u128);
     }
 }
 
@@ -139,37 +139,41 @@ pub(crate) fn case_cell(
 {
     let mut text = KeptText::new(alloc);
     let mut reply = Reply::new(&mut text);
-    tell_case_cell(&mut reply, member, column);
+    print_case_cell(&mut reply, member, column);
     match reply.finish() {
         Ok(()) => Ok(text.into_text()),
         Err(_) => Err(AllocError),
     }
 }
 
-fn tell_case_cell<O: Output>(reply: &mut Reply<'_, O>, member: &GroupMember<'_>, column: CaseColumn)
-    ensures { TellsText (telling O.Output reply.old reply.new) (spec.case_cell (member_said member.now) column) }
+fn print_case_cell<O: Output>(
+    reply: &mut Reply<'_, O>,
+    member: &GroupMember<'_>,
+    column: CaseColumn,
+)
+    ensures { PrintsText (printing O.Output reply.old reply.new) (spec.case_cell (member_said member.now) column) }
 {
     let case = member.case;
     match column {
-        CaseColumn::Number => reply.tell_decimal(u128::from(case.seq)),
-        CaseColumn::Time => tell_time(reply, case.time),
-        CaseColumn::Pid => tell_known(reply, case.pid),
-        CaseColumn::Signal => tell_signal(reply, case.signal),
-        CaseColumn::Size => tell_size(reply, case.length),
-        CaseColumn::Kept => reply.tell(kept_word(case.pinned)),
-        CaseColumn::Name => reply.tell_text(case.name.as_slice()),
-        CaseColumn::Label => tell_label(reply, case.label.as_slice(), member.is_perhaps),
+        CaseColumn::Number => reply.print_decimal(u128::from(case.seq)),
+        CaseColumn::Time => print_time(reply, case.time),
+        CaseColumn::Pid => print_known(reply, case.pid),
+        CaseColumn::Signal => print_signal(reply, case.signal),
+        CaseColumn::Size => print_size(reply, case.length),
+        CaseColumn::Kept => reply.print(kept_word(case.pinned)),
+        CaseColumn::Name => reply.print_text(case.name.as_slice()),
+        CaseColumn::Label => print_label(reply, case.label.as_slice(), member.is_perhaps),
     }
 }
 
-// Tells a number that is known, or `-`.
-fn tell_known<O: Output>(reply: &mut Reply<'_, O>, number: u32)
-    ensures { TellsText (telling O.Output reply.old reply.new) (known_number number) }
+// Prints a number if it is known, else `-`.
+fn print_known<O: Output>(reply: &mut Reply<'_, O>, number: u32)
+    ensures { PrintsText (printing O.Output reply.old reply.new) (known_number number) }
 {
     if number == 0 {
-        reply.tell(b"-");
+        reply.print(b"-");
     } else {
-        reply.tell_decimal(u128::from(number));
+        reply.print_decimal(u128::from(number));
     }
 }
 
@@ -179,12 +183,12 @@ fn kept_word(pinned: bool) -> &'static [u8]
     if pinned { b"pinned" } else { b"-" }
 }
 
-// Tells a label, and whether the core is perhaps of the group.
-fn tell_label<O: Output>(reply: &mut Reply<'_, O>, label: &[u8], is_perhaps: bool)
-    ensures { TellsText (telling O.Output reply.old reply.new) (spec.label_text label.now is_perhaps) }
+// Prints a label, and whether the core perhaps belongs to the group.
+fn print_label<O: Output>(reply: &mut Reply<'_, O>, label: &[u8], is_perhaps: bool)
+    ensures { PrintsText (printing O.Output reply.old reply.new) (spec.label_text label.now is_perhaps) }
 {
-    reply.tell_text(label);
+    reply.print_text(label);
     if is_perhaps {
-        reply.tell(b" ?");
+        reply.print(b" ?");
     }
 }

@@ -1,13 +1,13 @@
 //! Texts in columns.
 ghost use Rattle.std.specs.Prelude.{◌≡◌, map};
-ghost use Rattle.script_streams.specs.Replies.{TellsText, telling};
+ghost use Rattle.script_streams.specs.Replies.{PrintsText, printing};
 ghost use Rattle.group_tables.specs.Columns as spec;
 ghost use Rattle.group_tables.specs.Columns.{texts};
 
-use case_tables::tell_spaces;
+use case_tables::print_spaces;
 use script_streams::{Output, Reply};
 
-// Where the texts of a column stand.
+// The alignment of the texts of a column.
 #[derive(Clone, Copy)]
 pub(crate) enum Side {
     Left,
@@ -16,7 +16,7 @@ pub(crate) enum Side {
     End,
 }
 
-// A column: which text of a row it has, where that stands, and how wide the column is.
+// A column: which text of a row it has, how that is aligned, and how wide the column is.
 #[derive(Clone, Copy)]
 pub(crate) struct Column {
     at: usize,
@@ -45,43 +45,43 @@ fn text_at(row: &Vec<Vec<u8>>, at: usize) -> &[u8]
     }
 }
 
-// Tells rows, each text in its column.
-pub(crate) fn tell_rows<O: Output>(
+// Prints rows, each text in its column.
+pub(crate) fn print_rows<O: Output>(
     reply: &mut Reply<'_, O>,
     columns: &[Column],
     rows: &[Vec<Vec<u8>>],
 )
-    ensures { TellsText (telling O.Output reply.old reply.new) (spec.rows_text columns.now (map texts rows.now)) }
+    ensures { PrintsText (printing O.Output reply.old reply.new) (spec.rows_text columns.now (map texts rows.now)) }
 {
     for row in rows {
-        tell_row(reply, columns, row);
+        print_row(reply, columns, row);
     }
 }
 
-fn tell_row<O: Output>(reply: &mut Reply<'_, O>, columns: &[Column], row: &Vec<Vec<u8>>)
-    ensures { TellsText (telling O.Output reply.old reply.new) (spec.row_text columns.now (texts row.now)) }
+fn print_row<O: Output>(reply: &mut Reply<'_, O>, columns: &[Column], row: &Vec<Vec<u8>>)
+    ensures { PrintsText (printing O.Output reply.old reply.new) (spec.row_text columns.now (texts row.now)) }
 {
     for column in columns {
-        tell_placed(reply, *column, text_at(row, column.at));
+        print_placed(reply, *column, text_at(row, column.at));
     }
-    reply.tell(b"\n");
+    reply.print(b"\n");
 }
 
-fn tell_placed<O: Output>(reply: &mut Reply<'_, O>, column: Column, text: &[u8])
-    ensures { TellsText (telling O.Output reply.old reply.new) (spec.by_side column.side column.width text.now) }
+fn print_placed<O: Output>(reply: &mut Reply<'_, O>, column: Column, text: &[u8])
+    ensures { PrintsText (printing O.Output reply.old reply.new) (spec.by_side column.side column.width text.now) }
 {
     let left = column.width.saturating_sub(text.len());
     match column.side {
         Side::Left => {
-            reply.tell(text);
-            tell_spaces(reply, left);
-            reply.tell(b"  ");
+            reply.print(text);
+            print_spaces(reply, left);
+            reply.print(b"  ");
         }
         Side::Right => {
-            tell_spaces(reply, left);
-            reply.tell(text);
-            reply.tell(b"  ");
+            print_spaces(reply, left);
+            reply.print(text);
+            reply.print(b"  ");
         }
-        Side::End => reply.tell(text),
+        Side::End => reply.print(text),
     }
 }

@@ -1,16 +1,16 @@
 //! The name of a group.
 ghost use Rattle.std.specs.Prelude.{◌≡◌, IfOk, length, map};
 ghost use Rattle.sha2.specs.Sha256.{sha256};
-ghost use Rattle.script_streams.specs.Replies.{TellsText, telling};
+ghost use Rattle.script_streams.specs.Replies.{PrintsText, printing};
 ghost use Rattle.crash_signatures.specs.WordViews.{said};
 ghost use Rattle.group_tables.specs.Identity as spec;
 ghost use Rattle.group_tables.specs.Values.{crash_said};
 
 use crate::kept::KeptText;
 use crate::rows::Crash;
-use crate::words::tell_word;
+use crate::words::print_word;
 use arrayvec::ArrayVec;
-use case_tables::tell_signal;
+use case_tables::print_signal;
 use crash_signatures::Word;
 use script_streams::{Output, Reply};
 use script_words::print_hex_row;
@@ -31,44 +31,44 @@ pub fn group_name(alloc: Global, crash: &Crash) -> Result<ArrayVec<u8, 32>, Allo
     Ok(print_hex_row(&digest[..8]))
 }
 
-// What the name is made of.
+// The lines that the name is computed from.
 fn crash_lines(alloc: Global, crash: &Crash) -> Result<Vec<u8>, AllocError>
     ensures { IfOk result (λ lines. lines.items ≡ spec.crash_lines (crash_said crash.now)) }
 {
     let mut text = KeptText::new(alloc);
     let mut reply = Reply::new(&mut text);
-    tell_lines(&mut reply, crash);
+    print_lines(&mut reply, crash);
     match reply.finish() {
         Ok(()) => Ok(text.into_text()),
         Err(_) => Err(AllocError),
     }
 }
 
-fn tell_lines<O: Output>(reply: &mut Reply<'_, O>, crash: &Crash)
-    ensures { TellsText (telling O.Output reply.old reply.new) (spec.crash_lines (crash_said crash.now)) }
+fn print_lines<O: Output>(reply: &mut Reply<'_, O>, crash: &Crash)
+    ensures { PrintsText (printing O.Output reply.old reply.new) (spec.crash_lines (crash_said crash.now)) }
 {
-    reply.tell_text(&crash.program);
-    reply.tell(b"\n");
-    tell_signal(reply, crash.signal);
-    reply.tell(b"\n");
-    tell_word_lines(reply, crash.signature.words.as_slice());
-    tell_end(reply, crash.signature.is_missing);
+    reply.print_text(&crash.program);
+    reply.print(b"\n");
+    print_signal(reply, crash.signal);
+    reply.print(b"\n");
+    print_word_lines(reply, crash.signature.words.as_slice());
+    print_end(reply, crash.signature.is_missing);
 }
 
-// Tells a line for each word.
-fn tell_word_lines<O: Output>(reply: &mut Reply<'_, O>, words: &[Word])
-    ensures { TellsText (telling O.Output reply.old reply.new) (spec.word_lines (map said words.now)) }
+// Prints a line for each word.
+fn print_word_lines<O: Output>(reply: &mut Reply<'_, O>, words: &[Word])
+    ensures { PrintsText (printing O.Output reply.old reply.new) (spec.word_lines (map said words.now)) }
 {
     for word in words {
-        tell_word(reply, word);
-        reply.tell(b"\n");
+        print_word(reply, word);
+        reply.print(b"\n");
     }
 }
 
-fn tell_end<O: Output>(reply: &mut Reply<'_, O>, is_missing: bool)
-    ensures { TellsText (telling O.Output reply.old reply.new) (spec.missing_line is_missing) }
+fn print_end<O: Output>(reply: &mut Reply<'_, O>, is_missing: bool)
+    ensures { PrintsText (printing O.Output reply.old reply.new) (spec.missing_line is_missing) }
 {
     if is_missing {
-        reply.tell(b"..\n");
+        reply.print(b"..\n");
     }
 }

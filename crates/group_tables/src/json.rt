@@ -4,7 +4,7 @@ use crate::kept::KeptText;
 use crate::labels::labels_of;
 use crate::rows::{GroupMember, GroupRow};
 use crate::summary::{first_time, last_time};
-use crate::words::tell_word;
+use crate::words::print_word;
 use case_tables::{case_value, json_text};
 use crash_signatures::Word;
 use script_streams::{Output, Reply};
@@ -13,11 +13,11 @@ use std::alloc::{AllocError, Global};
 use std::str;
 use thread_regs::signal_name;
 
-// The first number that a JSON number may not be told as.
+// The first number that is too large for a JSON number.
 const FIRST_LARGE: u64 = 1 << 53;
 
-/// Groups as a JSON array of objects, in their order. If a text of an object can't be told as it is, all its texts are as a table prints
-/// them, and `escaped` says so.
+/// Groups as a JSON array of objects, in their order. If a text of an object can't be printed as it is, all its texts are as a table
+/// prints them, and `escaped` says so.
 ///
 /// # Errors
 ///
@@ -34,12 +34,12 @@ pub fn groups_json(
     json_text(alloc, &Value::Array(values))
 }
 
-/// Tells a line of JSON for each group: its object, and nothing else.
+/// Prints a line of JSON for each group: its object, and nothing else.
 ///
 /// # Errors
 ///
-/// There is no memory: some lines may be told.
-pub fn tell_group_lines<O: Output>(
+/// There is no memory: some lines may be printed.
+pub fn print_group_lines<O: Output>(
     alloc: Global,
     reply: &mut Reply<'_, O>,
     latest: u64,
@@ -47,8 +47,8 @@ pub fn tell_group_lines<O: Output>(
 ) -> Result<(), AllocError> {
     for row in rows {
         let text = json_text(alloc, &group_value(alloc, latest, row)?)?;
-        reply.tell(text.as_bytes());
-        reply.tell(b"\n");
+        reply.print(text.as_bytes());
+        reply.print(b"\n");
     }
     Ok(())
 }
@@ -70,7 +70,7 @@ pub fn group_json(alloc: Global, latest: u64, row: &GroupRow<'_>) -> Result<Stri
     json_text(alloc, &value)
 }
 
-// What is told of a group.
+// The fields of a group.
 fn group_value(alloc: Global, latest: u64, row: &GroupRow<'_>) -> Result<Value, AllocError> {
     let labels = labels_of(alloc, &row.members)?;
     let escaped = is_escaped(row, &labels);
@@ -89,7 +89,7 @@ fn group_value(alloc: Global, latest: u64, row: &GroupRow<'_>) -> Result<Value, 
     })
 }
 
-// Whether a text of a group can't be told as it is.
+// Whether a text of a group can't be printed as it is.
 fn is_escaped(row: &GroupRow<'_>, labels: &[&[u8]]) -> bool {
     !is_plain(&row.crash.program)
         || row
@@ -126,7 +126,7 @@ fn text_value(alloc: Global, text: &[u8], escaped: bool) -> Result<Value, AllocE
     }
     let mut kept = KeptText::new(alloc);
     let mut reply = Reply::new(&mut kept);
-    reply.tell_text(text);
+    reply.print_text(text);
     match reply.finish() {
         Ok(()) => string_value(alloc, &kept.into_text()),
         Err(_) => Err(AllocError),
@@ -139,7 +139,7 @@ fn word_value(alloc: Global, word: &Word, escaped: bool) -> Result<Value, AllocE
     }
     let mut kept = KeptText::new(alloc);
     let mut reply = Reply::new(&mut kept);
-    tell_word(&mut reply, word);
+    print_word(&mut reply, word);
     match reply.finish() {
         Ok(()) => string_value(alloc, &kept.into_text()),
         Err(_) => Err(AllocError),

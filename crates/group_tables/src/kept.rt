@@ -5,7 +5,7 @@ use diagnostics::after_failure;
 use script_streams::{Output, StreamFault};
 use std::alloc::Global;
 
-// An output that keeps what it is told, as far as there is memory.
+// An output that keeps the printed text, as far as there is memory.
 #[derive(Drop)]
 pub(crate) struct KeptText {
     text: Vec<u8>,
@@ -22,7 +22,7 @@ impl KeptText {
         }
     }
 
-    // What it was told.
+    // The text that was printed.
     pub(crate) fn into_text(self) -> Vec<u8>
         ensures { ⟦<KeptText as Output>⟧.taken self ≡ Some result.items }
     {

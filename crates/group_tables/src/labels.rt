@@ -2,7 +2,7 @@
 ghost use Rattle.std.specs.Prelude.{◌≡◌, ◌<◌, ◌||◌, [], IfOk, get_or, length, map};
 ghost use Rattle.std.specs.List.{list_any};
 ghost use Rattle.std.specs.Str.{bytes_eq};
-ghost use Rattle.script_streams.specs.Replies.{TellsText, telling};
+ghost use Rattle.script_streams.specs.Replies.{PrintsText, printing};
 ghost use Rattle.group_tables.specs.Summary as spec;
 ghost use Rattle.group_tables.specs.Values.{member_said};
 
@@ -56,27 +56,27 @@ fn has_label(members: &[GroupMember<'_>], label: &[u8]) -> bool
         .any(|member| member.case.label.as_slice() == label)
 }
 
-// Tells the first two labels, and how many more there are.
-pub(crate) fn tell_labels<O: Output>(reply: &mut Reply<'_, O>, labels: &[&[u8]])
-    ensures { TellsText (telling O.Output reply.old reply.new) (spec.labels_text (map (λ l. l.now) labels.now)) }
+// Prints the first two labels, and how many more there are.
+pub(crate) fn print_labels<O: Output>(reply: &mut Reply<'_, O>, labels: &[&[u8]])
+    ensures { PrintsText (printing O.Output reply.old reply.new) (spec.labels_text (map (λ l. l.now) labels.now)) }
 {
     match labels {
-        [] => reply.tell(b"-"),
-        [one] => reply.tell_text(one),
+        [] => reply.print(b"-"),
+        [one] => reply.print_text(one),
         [one, two, others @ ..] => {
-            reply.tell_text(one);
-            reply.tell(b",");
-            reply.tell_text(two);
-            tell_more(reply, others.len());
+            reply.print_text(one);
+            reply.print(b",");
+            reply.print_text(two);
+            print_more(reply, others.len());
         }
     }
 }
 
-fn tell_more<O: Output>(reply: &mut Reply<'_, O>, count: usize)
-    ensures { TellsText (telling O.Output reply.old reply.new) (spec.more_text count) }
+fn print_more<O: Output>(reply: &mut Reply<'_, O>, count: usize)
+    ensures { PrintsText (printing O.Output reply.old reply.new) (spec.more_text count) }
 {
     if count > 0 {
-        reply.tell(b",+");
-        reply.tell_decimal(count as u128);
+        reply.print(b",+");
+        reply.print_decimal(count as u128);
     }
 }

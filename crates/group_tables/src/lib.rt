@@ -15,10 +15,10 @@ mod wanted;
 mod words;
 
 pub use identity::group_name;
-pub use json::{group_json, groups_json, tell_group_lines};
+pub use json::{group_json, groups_json, print_group_lines};
 pub use labels::labels_of;
 pub use numbers::{CrashPlace, CrashedCore, numbered};
 pub use rows::{Crash, GroupMember, GroupRow, rows_of};
 pub use summary::{certain_count, last_time, newest, perhaps_count};
-pub use table::{tell_group, tell_groups};
+pub use table::{print_group, print_groups};
 pub use wanted::wanted_cores;

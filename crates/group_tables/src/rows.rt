@@ -1,4 +1,4 @@
-//! What is known of a group.
+//! The facts about a group.
 ghost use Rattle.std.specs.Prelude.{◌≡◌, ◌++◌, ◌∷◌, [], IfOk, OnOk, map};
 ghost use Rattle.crash_signatures.specs.Grouping.{group_said};
 ghost use Rattle.journal_layout.specs.Case.{case_of};
@@ -10,7 +10,7 @@ use crash_signatures::{Group, Signature};
 use journal_layout::Entry;
 use std::alloc::{AllocError, Global};
 
-/// What all cores of a group have in common.
+/// The facts that all cores of a group have in common.
 #[derive(Drop)]
 pub struct Crash {
     /// The program: a path or a name.
@@ -33,7 +33,7 @@ pub struct GroupMember<'a> {
 /// A group of cores.
 #[derive(Drop)]
 pub struct GroupRow<'a> {
-    /// What they have in common.
+    /// The crash that they have in common.
     pub crash: &'a Crash,
     /// The cores, in the order of their numbers.
     pub members: Vec<GroupMember<'a>>,

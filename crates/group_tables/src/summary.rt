@@ -1,4 +1,4 @@
-//! What is said of all cores of a group.
+//! The summary of all cores of a group.
 ghost use Rattle.std.specs.Prelude.{◌≡◌, map};
 ghost use Rattle.group_tables.specs.Summary as spec;
 ghost use Rattle.group_tables.specs.Values.{member_said};
@@ -34,7 +34,7 @@ pub fn perhaps_count(members: &[GroupMember<'_>]) -> usize
     count
 }
 
-/// The greatest number of those that are certain.
+/// The highest number of those that are certain.
 pub fn newest(members: &[GroupMember<'_>]) -> u32
     ensures { result ≡ spec.newest (map member_said members.now) }
 {
@@ -47,7 +47,7 @@ pub fn newest(members: &[GroupMember<'_>]) -> u32
     newest
 }
 
-/// The last of the times that may be right; 0, if there is none.
+/// The last of the times that may be right; 0 if there are no such times.
 pub fn last_time(latest: u64, members: &[GroupMember<'_>]) -> u64
     ensures { result ≡ spec.last_time latest (map member_said members.now) }
 {

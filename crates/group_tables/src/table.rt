@@ -1,13 +1,13 @@
 //! The tables of groups.
 ghost use Rattle.std.specs.Prelude.{◌≡◌, ◌++◌, ◌∷◌, [], IfOk, OnErr, OnOk, filter, map};
-ghost use Rattle.script_streams.specs.Replies.{TellsText, telling};
+ghost use Rattle.script_streams.specs.Replies.{PrintsText, printing};
 ghost use Rattle.group_tables.specs.Cells.{case_columns, case_heading, group_cell, group_columns, group_heading};
 ghost use Rattle.group_tables.specs.Columns.{texts};
 ghost use Rattle.group_tables.specs.Table as spec;
 ghost use Rattle.group_tables.specs.Values.{member_said, row_said};
 
 use crate::cells::{CaseColumn, GroupColumn, case_cell, group_cell};
-use crate::columns::{Column, Side, column_of, tell_rows};
+use crate::columns::{Column, Side, column_of, print_rows};
 use crate::labels::labels_of;
 use crate::rows::{GroupMember, GroupRow};
 use script_streams::{Output, Reply};
@@ -36,47 +36,47 @@ static CASE_COLUMNS: [CaseColumn; 8] = [
     CaseColumn::Label,
 ];
 
-/// Tells groups as a table: its heads, and a row for each. Times before the year 2000 and those after LATEST, in seconds since the epoch,
-/// count as none.
+/// Prints groups as a table: its heads, and a row for each. Times before the
+/// year 2000 and those after LATEST, in seconds since the epoch, do not count.
 ///
 /// # Errors
 ///
-/// There is no memory: nothing is told.
-pub fn tell_groups<O: Output>(
+/// There is no memory: nothing is printed.
+pub fn print_groups<O: Output>(
     alloc: Global,
     reply: &mut Reply<'_, O>,
     latest: u64,
     rows: &[GroupRow<'_>],
 ) -> Result<(), AllocError>
-    ensures told { OnOk result (TellsText (telling O.Output reply.old reply.new) (spec.groups_table latest (map row_said rows.now))) }
+    ensures told { OnOk result (PrintsText (printing O.Output reply.old reply.new) (spec.groups_table latest (map row_said rows.now))) }
     ensures refused { OnErr result (reply.new ≡ reply.old) }
 {
     let texts = group_rows(alloc, latest, rows)?;
     let columns = group_layout(&texts);
-    tell_rows(reply, &columns, &texts);
+    print_rows(reply, &columns, &texts);
     Ok(())
 }
 
-/// Tells one group: its row, an empty line, and its cores as a list of cases; those that are perhaps of it come last, with ` ?` behind
-/// their labels.
+/// Prints one group: its row, an empty line, and its cores as a list of cases;
+/// those that perhaps belong to it come last, with ` ?` behind their labels.
 ///
 /// # Errors
 ///
-/// There is no memory: nothing is told.
-pub fn tell_group<O: Output>(
+/// There is no memory: nothing is printed.
+pub fn print_group<O: Output>(
     alloc: Global,
     reply: &mut Reply<'_, O>,
     latest: u64,
     row: &GroupRow<'_>,
 ) -> Result<(), AllocError>
-    ensures told { OnOk result (TellsText (telling O.Output reply.old reply.new) (spec.group_screen latest (row_said row.now))) }
+    ensures told { OnOk result (PrintsText (printing O.Output reply.old reply.new) (spec.group_screen latest (row_said row.now))) }
     ensures refused { OnErr result (reply.new ≡ reply.old) }
 {
     let head = group_row(alloc, latest, row)?;
     let cores = case_rows(alloc, &row.members)?;
-    tell_rows(reply, &group_layout(&head), &head);
-    reply.tell(b"\n");
-    tell_rows(reply, &case_layout(&cores), &cores);
+    print_rows(reply, &group_layout(&head), &head);
+    reply.print(b"\n");
+    print_rows(reply, &case_layout(&cores), &cores);
     Ok(())
 }
 

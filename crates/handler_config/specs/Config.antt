@@ -1,4 +1,4 @@
--- What a configuration says. A key that is missing, or whose value is faulty, says nothing.
+-- The fields of a configuration. A key that is missing, or whose value is invalid, sets nothing.
 use Rattle.std.specs.Prelude.{◌≡◌}
 use Rattle.std.specs.Option.{option_copied}
 use Rattle.toml.specs.Data.{Data}

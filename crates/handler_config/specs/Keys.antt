@@ -1,4 +1,4 @@
--- The keys of a configuration, and what the value of each has to be.
+-- The keys of a configuration, and the type that the value of each must have.
 use Rattle.std.specs.Prelude.{ℕ, Bool, List, Option, None, Some, is_some, codes, if◌then◌else◌}
 use Rattle.std.specs.Str.{bytes_eq}
 use Rattle.toml.specs.Data.{Data, as_str, as_bool}
@@ -62,7 +62,7 @@ unless fault there = if there then None else Some fault
 abbrev pub unless_there : {A : Type 0} → Fault → Option A → Option Fault
 unless_there fault value = unless fault (is_some value)
 
--- What is wrong with the value of a key: it is of another type than the key's.
+-- The fault of a key's value: it is of another type than the key's.
 abbrev pub value_fault : Key → Data → Option Fault
 value_fault Archive d = unless_there NotText (as_str d)
 value_fault Keep d = unless_there NotNumber (natural_in d)
@@ -87,6 +87,6 @@ abbrev pub fault_by : Option Key → Data → Option Fault
 fault_by None d = Some Unknown
 fault_by (Some key) d = value_fault key d
 
--- what is wrong with an entry, if anything is
+-- the fault of an entry, if it has any
 abbrev pub entry_fault : List ℕ → Data → Option Fault
 entry_fault word d = fault_by (key_of word) d

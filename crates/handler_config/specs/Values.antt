@@ -1,4 +1,4 @@
--- What the values of a configuration are read as.
+-- The meaning of the values of a configuration.
 use Rattle.std.specs.Prelude.{ℕ, ℤ, pos, negsuc, ◌*◌, ◌^◌, ◌-◌, ◌==◌, nat_lt, Bool, false, List, length, take, slice_index, codes, Option, None, Some, if◌then◌else◌}
 use Rattle.std.specs.Option.{option_and_then}
 use Rattle.script_words.specs.Number.{number_of}

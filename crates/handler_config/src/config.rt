@@ -14,7 +14,7 @@ pub struct Burst {
     pub seconds: u64,
 }
 
-/// What a configuration says. A key that is missing, or whose value is faulty, says nothing.
+/// The fields of a configuration. A key that is missing, or whose value is invalid, sets nothing.
 #[derive(Clone, Copy)]
 pub struct Config<'t> {
     /// The archive's file.
@@ -29,7 +29,7 @@ pub struct Config<'t> {
     pub limit: Option<u64>,
     /// Cases go so that a core finds room, the oldest cores first, unless `fair` says otherwise.
     pub fit: bool,
-    /// Where cases go so, it is first a core of the user whose cores have the most blocks.
+    /// If cases go so, the first is a core of the user whose cores have the most blocks.
     pub fair: bool,
     /// A core that has more bytes than the limit, or finds no room, is cut.
     pub cut: bool,
@@ -47,16 +47,16 @@ pub struct Config<'t> {
     pub stall: Option<u64>,
     /// The label of each new case.
     pub label: Option<&'t str>,
-    /// The file to which each outcome is told; none if it is empty.
+    /// The file to which each outcome is logged; no file if it is empty.
     pub log: Option<&'t str>,
-    /// The folder into which a core goes first.
+    /// The directory into which a core goes first.
     pub spool: Option<&'t str>,
-    /// The most bytes of the cores in that folder.
+    /// The most bytes of the cores in that directory.
     pub spool_bytes: Option<u64>,
 }
 
 impl<'t> Config<'t> {
-    /// What a document says. Of a value that is no table nothing is said.
+    /// The fields that a document sets. A value that is no table sets nothing.
     pub fn of(document: &'t Value) -> Config<'t>
         ensures { Says (view document.entry.now) result }
     {

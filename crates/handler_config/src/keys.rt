@@ -21,7 +21,7 @@ pub enum Key {
     Limit,
     /// Cases go so that a core finds room, the oldest cores first: true or false.
     Fit,
-    /// Where cases go so, it is first a core of the user whose cores have the most blocks: true or false.
+    /// If cases go so, the first is a core of the user whose cores have the most blocks: true or false.
     Fair,
     /// A core that is too large, or finds no room, is cut: true or false.
     Cut,
@@ -39,15 +39,15 @@ pub enum Key {
     Stall,
     /// The label of each new case: a text.
     Label,
-    /// The file to which each outcome is told: a text.
+    /// The file to which each outcome is logged: a text.
     Log,
-    /// The folder into which a core goes first: a text.
+    /// The directory into which a core goes first: a text.
     Spool,
-    /// The most bytes of the cores in that folder: a number.
+    /// The most bytes of the cores in that directory: a number.
     SpoolBytes,
 }
 
-/// What is wrong with an entry of a configuration.
+/// The fault of an entry of a configuration.
 #[derive(Clone, Copy, Debug, PartialEq, Eq)]
 pub enum Fault {
     /// There is no such key.
@@ -98,7 +98,7 @@ fn unless_there(fault: Fault, is_there: bool) -> Option<Fault>
     if is_there { None } else { Some(fault) }
 }
 
-/// What is wrong with an entry, if anything is: there is no such key, or its value is of another type.
+/// The fault of an entry, if it has any: there is no such key, or its value is of another type.
 pub fn entry_fault(word: &str, value: &Value) -> Option<Fault>
     ensures { result ≡ spec.entry_fault word.now (view value.now) }
 {

@@ -1,6 +1,6 @@
-//! What controls a handler of core files: the keys and values of its configuration, a TOML document.
+//! The controls of a handler of core files: the keys and values of its configuration, a TOML document.
 //!
-//! [`Config::of`] reads the keys that a document has. [`entry_fault`] says what is wrong with one of them.
+//! [`Config::of`] reads the keys that a document has. [`entry_fault`] gives the fault of one of them.
 #![tactic(auto)]
 
 mod config;

@@ -2,8 +2,8 @@
 use Rattle.std.specs.Prelude.{ℕ, Bool, false, not, ◌==◌, ◌&&◌, ◌||◌, List, [], ◌∷◌, ◌++◌, Option, None, Some, codes, if◌then◌else◌}
 use Rattle.std.specs.Str.{bytes_eq}
 
--- What is read of a page, one after the other: a tag by its name and the bytes of its attributes, where the name of an end tag has a `/`
--- before it; or a character.
+-- The tokens that are read of a page, one after the other: a tag by its name and the bytes of its attributes, where the name of an end tag
+-- has a `/` before it; or a character.
 pub data Token : Type 0 where
   tag : List ℕ → List ℕ → Token
   char : ℕ → Token
@@ -18,10 +18,10 @@ pub data Place : Type 0 where
   in_name : List ℕ → Place
   -- behind `<`, this name, a space and these bytes; and whether that is between quotes
   in_attributes : List ℕ → Bool → List ℕ → Place
-  -- behind a reference that is none of the five
+  -- after a reference that isn't one of the five
   nowhere : Place
 
--- where a reader is behind a byte, and what it has read by it
+-- the place of a reader after a byte, and the tokens that it has read with it
 abbrev pub Step : Type 0
 Step = Place × List Token
 
@@ -50,11 +50,11 @@ step (in_attributes n quoted a) c =
     else (if c == 62 && not quoted then (in_text, tag n a ∷ []) else (in_attributes n quoted (a ++ c ∷ []), []))
 step nowhere c = (nowhere, [])
 
--- what is read behind a byte
+-- the tokens after one more step
 abbrev pub onward : List Token → Step → Step
 onward ts s = (s.0, ts ++ s.1)
 
--- where a reader is behind bytes, and what it has read by them
+-- the place of a reader after bytes, and the tokens that it has read with them
 abbrev pub read : Place → List ℕ → Step
 read p [] = (p, [])
 read p (c ∷ cs) = onward (step p c).1 (read (step p c).0 cs)

@@ -35,7 +35,7 @@ pub record IsPage (text : List ℕ) : Type 0 where
   pub reads : read in_text text ≡ (in_text, tokens)
   pub nests : nested (Some []) tokens ≡ Some []
 
--- what is read where the innermost element ends
+-- the token that ends the innermost element
 abbrev pub end_of_first : List (List ℕ) → List Token
 end_of_first [] = []
 end_of_first (name ∷ others) = tag (47 ∷ name) [] ∷ []
@@ -47,6 +47,6 @@ end_tokens outer = end_of_first (names outer)
 abbrev pub is_style_byte : ℕ → Bool
 is_style_byte c = not (c == 60) && not (c == 38)
 
--- what is written of a style: nothing, if it has a byte that could end it
+-- the text of a style that is written: nothing, if it has a byte that could end it
 abbrev pub style : List ℕ → List ℕ
 style text = if list_all is_style_byte text then text else []

@@ -23,7 +23,7 @@ tenths_bytes n = digits (n / 10) ++ (codes "." ++ digits (n % 10))
 abbrev pub triangle_bytes : ℕ → ℕ → List ℕ
 triangle_bytes right down = codes "M" ++ (tenths_bytes right ++ (codes " " ++ (tenths_bytes down ++ codes "l-5 -7 h10 z")))
 
--- what the value of an attribute is
+-- the bytes of the value of an attribute
 abbrev pub value_bytes : Value → List ℕ
 value_bytes (Constant text) = text.now
 value_bytes (Number n) = digits n

@@ -16,8 +16,8 @@ use script_streams::{Output, StreamFault};
 use script_words::{print_decimal, print_hexadecimal};
 use std::alloc::{AllocError, Global};
 
-/// A page that is written token by token. What was written is always read back as these tokens, whatever the texts are: a text begins and ends
-/// no tag. The end tags are those of the elements that are open. Once there was no memory nothing more is written, and `finish` says so.
+/// A page that is written token by token. The written bytes always read back as these tokens, whatever the texts are: a text starts and ends
+/// no tag. The end tags are those of the elements that are open. Once there was no memory nothing more is written, and `finish` reports it.
 #[derive(Drop)]
 pub struct Page {
     text: Vec<u8>,
@@ -169,7 +169,7 @@ impl Page {
     }
 }
 
-// A text that is told to a page is written on it.
+// A text that is printed to a page is written on it.
 impl Output for Page {
     ghost taken = { λ _. None };
 

@@ -1,4 +1,4 @@
--- What the code's view of a core means.
+-- The meaning of the code's view of a core.
 use Rattle.std.specs.Prelude.{ℕ, List}
 use Rattle.elf_view.specs.ViewWords.{image_of}
 use Rattle.image_replies.specs.declared.core_image.CoreImage.{CoreImage}

@@ -1,4 +1,4 @@
--- What replies are made of that read one image.
+-- The parts of replies that read one image.
 use Rattle.std.specs.Prelude.{ℕ, ◌+◌, List, [], ◌∷◌, ◌++◌, Option, None, Some, Result, Ok, Err, codes, decimal}
 use Rattle.std.specs.Option.{option_map}
 use Rattle.elf_view.specs.NoteList.{NoteView}
@@ -22,7 +22,7 @@ abbrev pub numbered_lines : {A : Type 0} → (ℕ → A → List ℕ) → ℕ �
 numbered_lines line i [] = []
 numbered_lines line i (x ∷ xs) = line i x ++ numbered_lines line (i + 1) xs
 
--- an answer, unless there is a reason why there is none
+-- an answer, or the reason why there is no answer
 abbrev pub unless : Option (List ℕ) → Result (List ℕ) (List ℕ) → Result (List ℕ) (List ℕ)
 unless None answer = answer
 unless (Some reason) answer = Err reason
@@ -31,7 +31,7 @@ unless (Some reason) answer = Err reason
 abbrev pub if_sound : Want → List ℕ → List ℕ → Result (List ℕ) (List ℕ)
 if_sound want b lines = unless (option_map elf_reason (first_fault want b)) (Ok lines)
 
--- what is answered of the notes of a core, or the first fault of the core and its typed notes
+-- the answer from the notes of a core, or the first fault of the core and its typed notes
 abbrev pub in_core : List ℕ → (List NoteView → Result (List ℕ) (List ℕ)) → Result (List ℕ) (List ℕ)
 in_core b answer = unless (option_map core_reason (core_fault_of b)) (answer (notes_of Core b))
 

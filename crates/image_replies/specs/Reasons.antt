@@ -1,6 +1,5 @@
--- The reasons that replies give for an image that is refused: the field at fault, by its name in the System V gABI
--- ("ELF Header", "Program Header", "Note Section"), and where that is a field of a program header or of a note, or a
--- descriptor, its number after it.
+-- The reasons that replies give for an image that is refused: the bad field, by its name in the System V gABI ("ELF Header", "Program
+-- Header", "Note Section"), and its number after it if it is a field of a program header or of a note, or a descriptor.
 use Rattle.std.specs.Prelude.{ℕ, List, [], ◌∷◌, ◌++◌, decimal, if◌then◌else◌}
 use Rattle.core_notes.specs.FieldNames.{note_field_name}
 use Rattle.core_notes.specs.declared.faults.NoteFault.{NoteFault}

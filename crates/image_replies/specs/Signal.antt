@@ -18,14 +18,14 @@ cause_line d =
     codes "signo " ++ (signed_decimal (si_signo d) ++ (32 ∷ [] ++ (name_or_dash (name_of_signal (si_signo d))
     ++ (codes " errno " ++ (signed_decimal (si_errno d) ++ (codes " code " ++ (signed_decimal (si_code d) ++ 10 ∷ [])))))))
 
--- `pid P uid U`, where the sender is told
+-- `pid P uid U`, if the core gives the sender
 abbrev pub sender_line : Option ℤ → Option ℕ → List ℕ
 sender_line None user = []
 sender_line (Some process) None = []
 sender_line (Some process) (Some user) =
     codes "pid " ++ (signed_decimal process ++ (codes " uid " ++ (decimal user ++ 10 ∷ [])))
 
--- `addr h`, where an address is told
+-- `addr h`, if the core gives an address
 abbrev pub address_line : Option ℕ → List ℕ
 address_line None = []
 address_line (Some address) = codes "addr " ++ (hexadecimal address ++ 10 ∷ [])

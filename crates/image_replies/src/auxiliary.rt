@@ -3,74 +3,74 @@ ghost use Rattle.std.specs.Prelude.{◌≡◌, is_ok};
 ghost use Rattle.std.specs.List.{flat_map};
 ghost use Rattle.std.specs.Option.{option_map, option_copied};
 ghost use Rattle.core_notes.specs.DescriptorWords.{auxv_bytes, pairs_left};
-ghost use Rattle.script_streams.specs.Replies.{TellsText, telling, reply_of};
+ghost use Rattle.script_streams.specs.Replies.{PrintsText, printing, reply_of};
 ghost use Rattle.image_replies.specs.Lines.{if_there};
 ghost use Rattle.image_replies.specs.Auxv as spec;
 
 use crate::core_image::CoreImage;
-use crate::faults::tell_core_fault;
+use crate::faults::print_core_fault;
 use core_notes::{Auxv, AuxvPair, AuxvPairs};
-use script_streams::{Output, Reply, tell_no, tell_ok};
+use script_streams::{Output, Reply, print_no, print_ok};
 
-/// Tells the auxiliary vector of the process of a core, or the first that holds of: the core or a typed note is at fault,
-/// it has no NT_AUXV (`no Missing`). Says whether it is told; if not, the reply is `no REASON`.
-pub fn tell_auxv<O: Output>(reply: &mut Reply<'_, O>, image: &[u8]) -> bool
-    ensures tells { TellsText (telling O.Output reply.old reply.new) (reply_of (spec.auxv_answer image.now)) }
+/// Prints the auxiliary vector of the process of a core, or the first of these that holds: the core or a typed note is
+/// bad, it has no NT_AUXV (`no Missing`). Returns whether it is printed; if not, the reply is `no REASON`.
+pub fn print_auxv<O: Output>(reply: &mut Reply<'_, O>, image: &[u8]) -> bool
+    ensures states { PrintsText (printing O.Output reply.old reply.new) (reply_of (spec.auxv_answer image.now)) }
     ensures done { result ≡ is_ok (spec.auxv_answer image.now) }
 {
     match CoreImage::read(image) {
-        Ok(core) => tell_found(reply, core.notes().auxv()),
+        Ok(core) => print_found(reply, core.notes().auxv()),
         Err(fault) => {
-            tell_core_fault(reply, fault);
+            print_core_fault(reply, fault);
             false
         }
     }
 }
 
-/// Tells an auxiliary vector, if it is there. Says whether it is.
-fn tell_found<O: Output>(reply: &mut Reply<'_, O>, auxv: Option<Auxv<'_>>) -> bool
-    ensures tells { TellsText (telling O.Output reply.old reply.new) (reply_of (if_there (option_map auxv_bytes auxv.entry) spec.pair_lines)) }
+/// Prints an auxiliary vector, if it is there. Returns whether it is.
+fn print_found<O: Output>(reply: &mut Reply<'_, O>, auxv: Option<Auxv<'_>>) -> bool
+    ensures states { PrintsText (printing O.Output reply.old reply.new) (reply_of (if_there (option_map auxv_bytes auxv.entry) spec.pair_lines)) }
     ensures done { result ≡ is_ok (if_there (option_map auxv_bytes auxv.entry) spec.pair_lines) }
 {
     match auxv {
         Some(auxv) => {
-            tell_pair_lines(reply, auxv.pairs());
-            tell_ok(reply);
+            print_pair_lines(reply, auxv.pairs());
+            print_ok(reply);
             true
         }
         None => {
-            tell_no(reply, b"Missing");
+            print_no(reply, b"Missing");
             false
         }
     }
 }
 
-/// Tells a line for each pair.
-fn tell_pair_lines<O: Output>(reply: &mut Reply<'_, O>, pairs: AuxvPairs<'_>)
-    ensures { TellsText (telling O.Output reply.old reply.new) (flat_map spec.pair_line (pairs_left pairs.entry)) }
+/// Prints a line for each pair.
+fn print_pair_lines<O: Output>(reply: &mut Reply<'_, O>, pairs: AuxvPairs<'_>)
+    ensures { PrintsText (printing O.Output reply.old reply.new) (flat_map spec.pair_line (pairs_left pairs.entry)) }
 {
     let mut rest = pairs;
     while let Some(pair) = rest.next() {
-        tell_pair_line(reply, pair);
+        print_pair_line(reply, pair);
     }
 }
 
-fn tell_pair_line<O: Output>(reply: &mut Reply<'_, O>, pair: AuxvPair)
-    ensures { TellsText (telling O.Output reply.old reply.new) (spec.pair_line pair) }
+fn print_pair_line<O: Output>(reply: &mut Reply<'_, O>, pair: AuxvPair)
+    ensures { PrintsText (printing O.Output reply.old reply.new) (spec.pair_line pair) }
 {
-    tell_type(reply, pair.kind);
-    reply.tell(b" ");
-    reply.tell_hexadecimal(u128::from(pair.value));
-    reply.tell(b"\n");
+    print_type(reply, pair.kind);
+    reply.print(b" ");
+    reply.print_hexadecimal(u128::from(pair.value));
+    reply.print(b"\n");
 }
 
-/// Tells the name of a type, or its number.
-fn tell_type<O: Output>(reply: &mut Reply<'_, O>, kind: u64)
-    ensures { TellsText (telling O.Output reply.old reply.new) (spec.name_or_number (spec.auxv_name kind) kind) }
+/// Prints the name of a type, or its number.
+fn print_type<O: Output>(reply: &mut Reply<'_, O>, kind: u64)
+    ensures { PrintsText (printing O.Output reply.old reply.new) (spec.name_or_number (spec.auxv_name kind) kind) }
 {
     match auxv_name(kind) {
-        Some(name) => reply.tell(name.as_bytes()),
-        None => reply.tell_decimal(u128::from(kind)),
+        Some(name) => reply.print(name.as_bytes()),
+        None => reply.print_decimal(u128::from(kind)),
     }
 }
 

@@ -12,13 +12,14 @@ use elf_view::{Elf, ElfFault, Want};
 /// Why a core is not shown: the first fault of its headers and notes, or else that of its typed notes.
 #[derive(Clone, Copy, Debug, PartialEq, Eq)]
 pub enum CoreFault {
-    /// A field of a header, of a program header or of a note is at fault.
+    /// A field of a header, of a program header or of a note is bad.
     Elf(ElfFault),
-    /// The descriptor of a typed note is at fault.
+    /// The descriptor of a typed note is bad.
     Note(NoteFault),
 }
 
-/// A core whose headers, notes and typed notes pass their checks. What it gives may be kept as long as the image.
+/// A core whose headers, notes and typed notes pass their checks.
+/// The values that it gives may be kept as long as the image.
 #[derive(Clone, Copy, Debug)]
 pub struct CoreImage<'a> {
     elf: Elf<'a>,

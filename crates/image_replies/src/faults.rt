@@ -1,48 +1,48 @@
-// Why an image is refused, as replies tell it.
+// The text of the reason for which an image is refused.
 ghost use Rattle.image_replies.specs.Reasons as reasons;
-ghost use Rattle.script_streams.specs.Replies.{TellsText, telling, no_reply};
+ghost use Rattle.script_streams.specs.Replies.{PrintsText, printing, no_reply};
 
 use crate::core_image::CoreFault;
 use core_notes::NoteFault;
 use elf_view::ElfFault;
-use script_streams::{Output, Reply, tell_no};
+use script_streams::{Output, Reply, print_no};
 
-/// Tells `no`, the name of a field and a number.
-fn tell_indexed<O: Output>(reply: &mut Reply<'_, O>, name: &[u8], index: u64)
-    ensures { TellsText (telling O.Output reply.old reply.new) (no_reply (reasons.indexed name.now index)) }
+/// Prints `no`, the name of a field and a number.
+fn print_indexed<O: Output>(reply: &mut Reply<'_, O>, name: &[u8], index: u64)
+    ensures { PrintsText (printing O.Output reply.old reply.new) (no_reply (reasons.indexed name.now index)) }
 {
-    reply.tell(b"no ");
-    reply.tell(name);
-    reply.tell(b" ");
-    reply.tell_decimal(u128::from(index));
-    reply.tell(b"\n");
+    reply.print(b"no ");
+    reply.print(name);
+    reply.print(b" ");
+    reply.print_decimal(u128::from(index));
+    reply.print(b"\n");
 }
 
-/// Tells why an image is not accepted: `no FIELD`, or `no FIELD INDEX` for a field of a program header or of a note.
-pub fn tell_elf_fault<O: Output>(reply: &mut Reply<'_, O>, fault: ElfFault)
-    ensures { TellsText (telling O.Output reply.old reply.new) (no_reply (reasons.elf_reason fault)) }
+/// Prints why an image is not accepted: `no FIELD`, or `no FIELD INDEX` for a field of a program header or of a note.
+pub fn print_elf_fault<O: Output>(reply: &mut Reply<'_, O>, fault: ElfFault)
+    ensures { PrintsText (printing O.Output reply.old reply.new) (no_reply (reasons.elf_reason fault)) }
 {
     let name = fault.field.name().as_bytes();
     if fault.field.has_index() {
-        tell_indexed(reply, name, fault.index);
+        print_indexed(reply, name, fault.index);
     } else {
-        tell_no(reply, name);
+        print_no(reply, name);
     }
 }
 
-/// Tells which descriptor of a typed note is at fault: `no FIELD INDEX`.
-pub fn tell_note_fault<O: Output>(reply: &mut Reply<'_, O>, fault: NoteFault)
-    ensures { TellsText (telling O.Output reply.old reply.new) (no_reply (reasons.note_reason fault)) }
+/// Prints which descriptor of a typed note is bad: `no FIELD INDEX`.
+pub fn print_note_fault<O: Output>(reply: &mut Reply<'_, O>, fault: NoteFault)
+    ensures { PrintsText (printing O.Output reply.old reply.new) (no_reply (reasons.note_reason fault)) }
 {
-    tell_indexed(reply, fault.field.name().as_bytes(), fault.index);
+    print_indexed(reply, fault.field.name().as_bytes(), fault.index);
 }
 
-/// Tells why a core is not shown: `no FIELD`, or `no FIELD INDEX`.
-pub fn tell_core_fault<O: Output>(reply: &mut Reply<'_, O>, fault: CoreFault)
-    ensures { TellsText (telling O.Output reply.old reply.new) (no_reply (reasons.core_reason fault)) }
+/// Prints why a core is not shown: `no FIELD`, or `no FIELD INDEX`.
+pub fn print_core_fault<O: Output>(reply: &mut Reply<'_, O>, fault: CoreFault)
+    ensures { PrintsText (printing O.Output reply.old reply.new) (no_reply (reasons.core_reason fault)) }
 {
     match fault {
-        CoreFault::Elf(fault) => tell_elf_fault(reply, fault),
-        CoreFault::Note(fault) => tell_note_fault(reply, fault),
+        CoreFault::Elf(fault) => print_elf_fault(reply, fault),
+        CoreFault::Note(fault) => print_note_fault(reply, fault),
     }
 }

@@ -3,97 +3,97 @@ ghost use Rattle.std.specs.Prelude.{◌≡◌, ◌<◌, ◌++◌, ◌^◌, lengt
 ghost use Rattle.elf_view.specs.Header.{segments_of};
 ghost use Rattle.elf_view.specs.ViewWords.{header_of, image_of};
 ghost use Rattle.elf_view.specs.SegmentWords.{segment_view, segments_left};
-ghost use Rattle.script_streams.specs.Replies.{TellsText, telling, reply_of};
+ghost use Rattle.script_streams.specs.Replies.{PrintsText, printing, reply_of};
 ghost use Rattle.image_replies.specs.Header as spec;
 
-use crate::faults::tell_elf_fault;
-use crate::words::{tell_address, tell_number};
+use crate::faults::print_elf_fault;
+use crate::words::{print_address, print_number};
 use elf_view::{Elf, Header, Segment, Segments, Want};
-use script_streams::{Output, Reply, tell_ok};
+use script_streams::{Output, Reply, print_ok};
 
-/// Tells the file header of an image and a line for each of its program headers, or the first of its checks that fails. Says
-/// whether they are told; if not, the reply is `no REASON`.
-pub fn tell_header<O: Output>(reply: &mut Reply<'_, O>, image: &[u8], want: Want) -> bool
-    ensures tells { TellsText (telling O.Output reply.old reply.new) (reply_of (spec.header_answer want image.now)) }
+/// Prints the file header of an image and a line for each of its program headers, or the first of its checks that fails.
+/// Returns whether they are printed; if not, the reply is `no REASON`.
+pub fn print_header<O: Output>(reply: &mut Reply<'_, O>, image: &[u8], want: Want) -> bool
+    ensures states { PrintsText (printing O.Output reply.old reply.new) (reply_of (spec.header_answer want image.now)) }
     ensures done { result ≡ is_ok (spec.header_answer want image.now) }
 {
     match Elf::read(image, want) {
         Ok(elf) => {
-            tell_headers(reply, &elf);
+            print_headers(reply, &elf);
             true
         }
         Err(fault) => {
-            tell_elf_fault(reply, fault);
+            print_elf_fault(reply, fault);
             false
         }
     }
 }
 
-/// Tells the headers of an image, and `ok`.
-fn tell_headers<O: Output>(reply: &mut Reply<'_, O>, elf: &Elf<'_>)
-    ensures { TellsText (telling O.Output reply.old reply.new)
+/// Prints the headers of an image, and `ok`.
+fn print_headers<O: Output>(reply: &mut Reply<'_, O>, elf: &Elf<'_>)
+    ensures { PrintsText (printing O.Output reply.old reply.new)
         (reply_of (Ok (spec.header_line (header_of (image_of elf.now)) ++ spec.segment_lines (segments_of (image_of elf.now))))) }
 {
-    tell_header_line(reply, elf.header());
-    tell_segment_lines(reply, elf.segments());
-    tell_ok(reply);
+    print_header_line(reply, elf.header());
+    print_segment_lines(reply, elf.segments());
+    print_ok(reply);
 }
 
-fn tell_header_line<O: Output>(reply: &mut Reply<'_, O>, header: Header)
-    ensures { TellsText (telling O.Output reply.old reply.new) (spec.header_line header) }
+fn print_header_line<O: Output>(reply: &mut Reply<'_, O>, header: Header)
+    ensures { PrintsText (printing O.Output reply.old reply.new) (spec.header_line header) }
 {
-    reply.tell(b"type ");
-    reply.tell_decimal(u128::from(header.kind));
-    reply.tell(b" entry ");
-    reply.tell_hexadecimal(u128::from(header.entry));
-    reply.tell(b" flags ");
-    reply.tell_hexadecimal(u128::from(header.flags));
-    reply.tell(b" segments ");
-    reply.tell_decimal(u128::from(header.segments));
-    reply.tell(b"\n");
+    reply.print(b"type ");
+    reply.print_decimal(u128::from(header.kind));
+    reply.print(b" entry ");
+    reply.print_hexadecimal(u128::from(header.entry));
+    reply.print(b" flags ");
+    reply.print_hexadecimal(u128::from(header.flags));
+    reply.print(b" segments ");
+    reply.print_decimal(u128::from(header.segments));
+    reply.print(b"\n");
 }
 
-/// Tells a line for each program header, the first being number 0.
-fn tell_segment_lines<O: Output>(reply: &mut Reply<'_, O>, segments: Segments<'_>)
+/// Prints a line for each program header, the first being number 0.
+fn print_segment_lines<O: Output>(reply: &mut Reply<'_, O>, segments: Segments<'_>)
     requires { length (segments_left segments) < 2 ^ 32 }
-    ensures { TellsText (telling O.Output reply.old reply.new) (spec.segment_lines (segments_left segments.entry)) }
+    ensures { PrintsText (printing O.Output reply.old reply.new) (spec.segment_lines (segments_left segments.entry)) }
 {
     let mut rest = segments;
     let mut index: u64 = 0;
     while let Some(segment) = rest.next() {
-        tell_segment_line(reply, index, &segment);
+        print_segment_line(reply, index, &segment);
         index += 1;
     }
 }
 
-fn tell_segment_line<O: Output>(reply: &mut Reply<'_, O>, index: u64, segment: &Segment<'_>)
-    ensures { TellsText (telling O.Output reply.old reply.new)
+fn print_segment_line<O: Output>(reply: &mut Reply<'_, O>, index: u64, segment: &Segment<'_>)
+    ensures { PrintsText (printing O.Output reply.old reply.new)
         (spec.segment_line index (segment_view segment.now)) }
 {
-    tell_number(reply, u128::from(index));
-    tell_type(reply, segment.kind);
-    reply.tell(b" ");
-    reply.tell(&flag_letters(segment.flags));
-    reply.tell(b" ");
-    tell_address(reply, segment.offset);
-    tell_address(reply, segment.vaddr);
-    tell_address(reply, segment.filesz);
-    reply.tell_hexadecimal(u128::from(segment.memsz));
-    reply.tell(b"\n");
+    print_number(reply, u128::from(index));
+    print_type(reply, segment.kind);
+    reply.print(b" ");
+    reply.print(&flag_letters(segment.flags));
+    reply.print(b" ");
+    print_address(reply, segment.offset);
+    print_address(reply, segment.vaddr);
+    print_address(reply, segment.filesz);
+    reply.print_hexadecimal(u128::from(segment.memsz));
+    reply.print(b"\n");
 }
 
-/// Tells a p_type: `load`, `note` or its number.
-fn tell_type<O: Output>(reply: &mut Reply<'_, O>, kind: u32)
-    ensures { TellsText (telling O.Output reply.old reply.new) (spec.type_word kind) }
+/// Prints a p_type: `load`, `note` or its number.
+fn print_type<O: Output>(reply: &mut Reply<'_, O>, kind: u32)
+    ensures { PrintsText (printing O.Output reply.old reply.new) (spec.type_word kind) }
 {
     match kind {
-        1 => reply.tell(b"load"),
-        4 => reply.tell(b"note"),
-        _ => reply.tell_hexadecimal(u128::from(kind)),
+        1 => reply.print(b"load"),
+        4 => reply.print(b"note"),
+        _ => reply.print_hexadecimal(u128::from(kind)),
     }
 }
 
-/// How p_flags print: `r`, `w` and `x`, each of them `-` where its flag (PF_R, PF_W, PF_X) is not set.
+/// How p_flags print: `r`, `w` and `x`, each of them `-` if its flag (PF_R, PF_W, PF_X) is not set.
 pub fn flag_letters(flags: u32) -> [u8; 3]
     ensures { result ≡ spec.flag_letters flags }
 {

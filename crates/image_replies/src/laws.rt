@@ -1,4 +1,4 @@
-// What holds of all replies.
+// Laws of all replies.
 ghost use Rattle.std.specs.Prelude.{◌≡◌, ℕ, List, Ok, Err, take};
 ghost use Rattle.elf_view.specs.Sound.{IsHeaderWhole, IsSound};
 ghost use Rattle.elf_view.specs.declared.faults.Want.{Want};
@@ -17,8 +17,8 @@ ghost use Rattle.image_replies.specs.Threads.{threads_answer, regs_answer};
 use elf_view::{Want, a_sound_front_is_enough, soundness_has_no_order};
 use script_streams::lines_are_cut_one_way;
 
-/// No reply is read two ways: it has one answer's lines, or one reason, and where the lines are lines and the reason is in
-/// one line, it has not both. It does nothing.
+/// No reply is read two ways: it has one answer's lines, or one reason; and if the lines are lines and the reason is in
+/// one line, it has not both. This function does nothing.
 pub fn replies_are_read_one_way()
     ensures lines { (lines others : List ℕ) → reply_of (Ok lines) ≡ reply_of (Ok others) → lines ≡ others }
     ensures reason { (reason other : List ℕ) → reply_of (Err reason) ≡ reply_of (Err other) → reason ≡ other }
@@ -28,8 +28,8 @@ pub fn replies_are_read_one_way()
     lines_are_cut_one_way();
 }
 
-/// If the first bytes of an image are sound as an image of their own, these lines answer from them what they answer from the
-/// whole image. It does nothing.
+/// If the first bytes of an image are sound as an image of their own, these lines give the same answer for them as for the
+/// whole image. This function does nothing.
 pub fn a_sound_front_answers()
     ensures header { (want : Want) (b : List ℕ) (n : ℕ) → IsHeaderWhole (take n b) → IsSound want (take n b)
         → header_answer want (take n b) ≡ header_answer want b }

@@ -7,29 +7,29 @@ ghost use Rattle.elf_view.specs.ViewWords.{notes_of};
 ghost use Rattle.elf_view.specs.declared.faults.Want.TheVariants.{Core};
 ghost use Rattle.image_replies.specs.CoreWords.{core_bytes};
 ghost use Rattle.thread_regs.specs.ThreadWords.{thread_bytes, threads_left};
-ghost use Rattle.script_streams.specs.Replies.{TellsText, telling, reply_of};
+ghost use Rattle.script_streams.specs.Replies.{PrintsText, printing, reply_of};
 ghost use Rattle.image_replies.specs.Threads as spec;
 
 use crate::core_image::CoreImage;
-use crate::faults::tell_core_fault;
+use crate::faults::print_core_fault;
 use crate::note_lines::notes_are_few;
-use crate::words::tell_number;
-use script_streams::{Output, Reply, tell_no, tell_ok};
+use crate::words::print_number;
+use script_streams::{Output, Reply, print_no, print_ok};
 use thread_regs::{Reg, Thread, ThreadList, threads};
 
-/// Tells a line for each thread of a core, or the first fault of the core and its typed notes. Says whether they are told; if not,
-/// the reply is `no REASON`.
-pub fn tell_threads<O: Output>(reply: &mut Reply<'_, O>, image: &[u8]) -> bool
-    ensures tells { TellsText (telling O.Output reply.old reply.new) (reply_of (spec.threads_answer image.now)) }
+/// Prints a line for each thread of a core, or the first fault of the core and its typed notes. Returns whether they are printed;
+/// if not, the reply is `no REASON`.
+pub fn print_threads<O: Output>(reply: &mut Reply<'_, O>, image: &[u8]) -> bool
+    ensures states { PrintsText (printing O.Output reply.old reply.new) (reply_of (spec.threads_answer image.now)) }
     ensures done { result ≡ is_ok (spec.threads_answer image.now) }
 {
     match CoreImage::read(image) {
         Ok(core) => {
-            tell_thread_list(reply, threads_of(&core));
+            print_thread_list(reply, threads_of(&core));
             true
         }
         Err(fault) => {
-            tell_core_fault(reply, fault);
+            print_core_fault(reply, fault);
             false
         }
     }
@@ -45,93 +45,93 @@ fn threads_of<'a>(core: &CoreImage<'a>) -> ThreadList<'a>
     threads(core.notes())
 }
 
-/// Tells the threads, and `ok`.
-fn tell_thread_list<O: Output>(reply: &mut Reply<'_, O>, threads: ThreadList<'_>)
+/// Prints the threads, and `ok`.
+fn print_thread_list<O: Output>(reply: &mut Reply<'_, O>, threads: ThreadList<'_>)
     requires { length (threads_left threads) < 2 ^ 128 }
-    ensures { TellsText (telling O.Output reply.old reply.new)
+    ensures { PrintsText (printing O.Output reply.old reply.new)
         (reply_of (Ok (spec.thread_lines (threads_left threads.entry)))) }
 {
-    tell_thread_lines(reply, threads);
-    tell_ok(reply);
+    print_thread_lines(reply, threads);
+    print_ok(reply);
 }
 
-/// Tells a line for each thread, the first being number 0.
-fn tell_thread_lines<O: Output>(reply: &mut Reply<'_, O>, threads: ThreadList<'_>)
+/// Prints a line for each thread, the first being number 0.
+fn print_thread_lines<O: Output>(reply: &mut Reply<'_, O>, threads: ThreadList<'_>)
     requires { length (threads_left threads) < 2 ^ 128 }
-    ensures { TellsText (telling O.Output reply.old reply.new) (spec.thread_lines (threads_left threads.entry)) }
+    ensures { PrintsText (printing O.Output reply.old reply.new) (spec.thread_lines (threads_left threads.entry)) }
 {
     let mut rest = threads;
     let mut index: u128 = 0;
     while let Some(thread) = rest.next() {
-        tell_thread_line(reply, index, &thread);
+        print_thread_line(reply, index, &thread);
         index += 1;
     }
 }
 
-fn tell_thread_line<O: Output>(reply: &mut Reply<'_, O>, index: u128, thread: &Thread<'_>)
-    ensures { TellsText (telling O.Output reply.old reply.new)
+fn print_thread_line<O: Output>(reply: &mut Reply<'_, O>, index: u128, thread: &Thread<'_>)
+    ensures { PrintsText (printing O.Output reply.old reply.new)
         (spec.thread_line index (thread_bytes thread.now)) }
 {
-    tell_number(reply, index);
-    reply.tell_signed(i64::from(thread.tid()));
-    reply.tell(b" ");
-    reply.tell_signed(i64::from(thread.signal()));
-    reply.tell(b" ");
-    reply.tell_hexadecimal(u128::from(word_of(thread, 0)));
-    reply.tell(b"\n");
+    print_number(reply, index);
+    reply.print_signed(i64::from(thread.tid()));
+    reply.print(b" ");
+    reply.print_signed(i64::from(thread.signal()));
+    reply.print(b" ");
+    reply.print_hexadecimal(u128::from(word_of(thread, 0)));
+    reply.print(b"\n");
 }
 
-/// Tells the registers of a thread of a core, or the first that holds of: the core or a typed note is at fault, there are
-/// fewer threads (`no NoThread`). Says whether they are told; if not, the reply is `no REASON`.
-pub fn tell_regs<O: Output>(reply: &mut Reply<'_, O>, image: &[u8], thread: u64) -> bool
-    ensures tells { TellsText (telling O.Output reply.old reply.new) (reply_of (spec.regs_answer image.now thread)) }
+/// Prints the registers of a thread of a core, or the first of these that holds: the core or a typed note is bad, there
+/// are fewer threads (`no NoThread`). Returns whether they are printed; if not, the reply is `no REASON`.
+pub fn print_regs<O: Output>(reply: &mut Reply<'_, O>, image: &[u8], thread: u64) -> bool
+    ensures states { PrintsText (printing O.Output reply.old reply.new) (reply_of (spec.regs_answer image.now thread)) }
     ensures done { result ≡ is_ok (spec.regs_answer image.now thread) }
 {
     match CoreImage::read(image) {
-        Ok(core) => tell_registers_of(reply, threads_of(&core).thread(thread)),
+        Ok(core) => print_registers_of(reply, threads_of(&core).thread(thread)),
         Err(fault) => {
-            tell_core_fault(reply, fault);
+            print_core_fault(reply, fault);
             false
         }
     }
 }
 
-/// Tells the registers of a thread, if it is there. Says whether it is.
-fn tell_registers_of<O: Output>(reply: &mut Reply<'_, O>, thread: Option<Thread<'_>>) -> bool
-    ensures tells { TellsText (telling O.Output reply.old reply.new) (reply_of (spec.registers_of (option_map thread_bytes thread.entry))) }
+/// Prints the registers of a thread, if it is there. Returns whether it is.
+fn print_registers_of<O: Output>(reply: &mut Reply<'_, O>, thread: Option<Thread<'_>>) -> bool
+    ensures states { PrintsText (printing O.Output reply.old reply.new) (reply_of (spec.registers_of (option_map thread_bytes thread.entry))) }
     ensures done { result ≡ is_ok (spec.registers_of (option_map thread_bytes thread.entry)) }
 {
     match thread {
         Some(thread) => {
-            tell_register_lines(reply, &thread);
-            tell_ok(reply);
+            print_register_lines(reply, &thread);
+            print_ok(reply);
             true
         }
         None => {
-            tell_no(reply, b"NoThread");
+            print_no(reply, b"NoThread");
             false
         }
     }
 }
 
-/// Tells a line for each word of a thread's registers.
-fn tell_register_lines<O: Output>(reply: &mut Reply<'_, O>, thread: &Thread<'_>)
-    ensures { TellsText (telling O.Output reply.old reply.new) (spec.register_lines (thread_bytes thread.now)) }
+/// Prints a line for each word of a thread's registers.
+fn print_register_lines<O: Output>(reply: &mut Reply<'_, O>, thread: &Thread<'_>)
+    ensures { PrintsText (printing O.Output reply.old reply.new) (spec.register_lines (thread_bytes thread.now)) }
 {
     for word in 0..32 {
-        tell_register_line(reply, thread, word);
+        print_register_line(reply, thread, word);
     }
 }
 
-fn tell_register_line<O: Output>(reply: &mut Reply<'_, O>, thread: &Thread<'_>, word: usize)
+fn print_register_line<O: Output>(reply: &mut Reply<'_, O>, thread: &Thread<'_>, word: usize)
     requires { word < 32 }
-    ensures { TellsText (telling O.Output reply.old reply.new)
+    ensures { PrintsText (printing O.Output reply.old reply.new)
         (spec.register_line (thread_bytes thread.now) word) }
 {
-    reply.tell(register_name(word).as_bytes());
-    reply.tell(b" ");
-    reply.tell_hexadecimal(u128::from(word_of(thread, word)));
-    reply.tell(b"\n");
+    reply.print(register_name(word).as_bytes());
+    reply.print(b" ");
+    reply.print_hexadecimal(u128::from(word_of(thread, word)));
+    reply.print(b"\n");
 }
 
 /// The name in the psABI of the register that a word of a thread's state holds.

@@ -17,7 +17,7 @@ use Rattle.archive_replies.specs.Texts.{plain_reply, retire_reply, free_reply, l
 use Rattle.script_lines.specs.Said.{said, raw_length, silence}
 use Rattle.script_streams.specs.Lines.{IsLine}
 use Rattle.script_streams.specs.Replies.{IsOutcome, ok_reply}
-use Rattle.script_streams.specs.Telling.{IsDelivered}
+use Rattle.script_streams.specs.Printing.{IsDelivered}
 use Rattle.script_streams.specs.declared.streams.StreamFault.{StreamFault}
 use Rattle.stream_names.specs.declared.naming.Naming.{Naming}
 use Rattle.inspector_cli.specs.Reply.{Replies}

@@ -14,10 +14,10 @@ use Rattle.case_journal.specs.Viewing.{OnlyReads}
 use Rattle.intake.specs.QuietLaws.{quiet_none, quiet_then}
 use Rattle.intake.specs.Ranges.{bytes_in}
 use Rattle.intake.specs.declared.ranges.ByteRange.{ByteRange}
-use Rattle.script_streams.specs.Replies.{Telling}
-use Rattle.script_streams.specs.Telling.{Sink, IsDelivered}
+use Rattle.script_streams.specs.Replies.{Printing}
+use Rattle.script_streams.specs.Printing.{Sink, IsDelivered}
 use Rattle.script_streams.specs.declared.streams.StreamFault.{StreamFault}
-use Rattle.script_streams.specs.TellLaws.{tells_nothing, tells_then}
+use Rattle.script_streams.specs.PrintLaws.{prints_nothing, prints_then}
 use Rattle.intake.specs.Calls.{OpenCall}
 use Rattle.intake.specs.Durable.{durable_of}
 use Rattle.intake.specs.Parts.{Parts}
@@ -34,8 +34,8 @@ front_then (Ok u) a b x y same is = ap (λ l. l ++ b) same ∙ ap (λ l. x ++ l)
 front_then (Err f) a b x y same is = (is.0, append_assoc a b is.0 ∙ ap (λ l. l ++ (b ++ is.0)) same ∙ ap (λ l. x ++ l) is.1)
 
 -- an output before and after
-abbrev pub tells_from : Sink → Sink → Telling
-tells_from a b = record { before = a; after = b }
+abbrev pub prints_from : Sink → Sink → Printing
+prints_from a b = record { before = a; after = b }
 
 abbrev is_given : {A B : Type 0} → Result A B → Bool
 is_given (Ok x) = true
@@ -72,10 +72,10 @@ module _ {D : Type 0} (g : disk.Ghosts D) where
   -- nothing was told yet
   pub copies_none : (d : D) (a : Sink) → ((c : List ℕ) → g.left_since d (g.clock d) c → g.may_leave d c)
       → (whole : List ℕ → List ℕ) → ((b : List ℕ) → [] ≡ whole b)
-      → Copies g d d (tells_from a a) whole (Ok tt)
+      → Copies g d d (prints_from a a) whole (Ok tt)
   copies_none d a only whole none = record {
     text = [];
-    told = tells_nothing;
+    told = prints_nothing;
     front = λ honest. none (g.seen d);
     quiet = quiet_none g d only;
     later = omega arith;
@@ -85,11 +85,11 @@ module _ {D : Type 0} (g : disk.Ghosts D) where
 
   -- one text behind another
   pub copies_then : (old mid new : D) (a b c : Sink) (first second : List ℕ → List ℕ) (r : Result (Unit {0}) Halt)
-      → Copies g old mid (tells_from a b) first (Ok tt) → Copies g mid new (tells_from b c) second r
-      → Copies g old new (tells_from a c) (λ (bytes : List ℕ). first bytes ++ second bytes) r
+      → Copies g old mid (prints_from a b) first (Ok tt) → Copies g mid new (prints_from b c) second r
+      → Copies g old new (prints_from a c) (λ (bytes : List ℕ). first bytes ++ second bytes) r
   copies_then old mid new a b c first second r so_far more = record {
     text = so_far.text ++ more.text;
-    told = tells_then so_far.told more.told;
+    told = prints_then so_far.told more.told;
     front = λ honest.
         let still : IsTrue (g.is_honest mid) = subst IsTrue (sym so_far.quiet.honesty) honest in
         front_then r so_far.text more.text (first (g.seen old)) (second (g.seen old)) (so_far.front honest)
@@ -101,7 +101,7 @@ module _ {D : Type 0} (g : disk.Ghosts D) where
   }
 
   -- the same text by another name
-  pub copies_as : (old new : D) (t : Telling) (one other : List ℕ → List ℕ) (r : Result (Unit {0}) Halt) → ((b : List ℕ) → one b ≡ other b) → Copies g old new t one r → Copies g old new t other r
+  pub copies_as : (old new : D) (t : Printing) (one other : List ℕ → List ℕ) (r : Result (Unit {0}) Halt) → ((b : List ℕ) → one b ≡ other b) → Copies g old new t one r → Copies g old new t other r
   copies_as old new t one other r same so_far = record {
     text = so_far.text;
     told = so_far.told;
@@ -113,7 +113,7 @@ module _ {D : Type 0} (g : disk.Ghosts D) where
   }
 
   -- a front of a text, which goes on
-  pub copies_front : (old new : D) (t : Telling) (one rest whole : List ℕ → List ℕ) (h : Halt) → ((b : List ℕ) → one b ++ rest b ≡ whole b) → Copies g old new t one (Err h) → Copies g old new t whole (Err h)
+  pub copies_front : (old new : D) (t : Printing) (one rest whole : List ℕ → List ℕ) (h : Halt) → ((b : List ℕ) → one b ++ rest b ≡ whole b) → Copies g old new t one (Err h) → Copies g old new t whole (Err h)
   copies_front old new t one rest whole h is so_far = record {
     text = so_far.text;
     told = so_far.told;

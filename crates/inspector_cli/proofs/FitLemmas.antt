@@ -16,9 +16,9 @@ use Rattle.intake.specs.Slots.{stream_at}
 use Rattle.intake.specs.State.{ArchiveState, StreamFacts}
 use Rattle.intake.specs.StayLaws.{stays_none}
 use Rattle.intake.specs.Step.{longer}
-use Rattle.script_streams.specs.Replies.{TellsText}
-use Rattle.script_streams.specs.Telling.{Sink}
-use Rattle.script_streams.specs.TellLaws.{tells_then, tells_as, tells_nothing}
+use Rattle.script_streams.specs.Replies.{PrintsText}
+use Rattle.script_streams.specs.Printing.{Sink}
+use Rattle.script_streams.specs.PrintLaws.{prints_then, prints_as, prints_nothing}
 use Rattle.inspector_cli.specs.declared.session.Order.{Order}
 use Rattle.inspector_cli.specs.declared.session.Order.TheVariants.{Oldest}
 use Rattle.inspector_cli.specs.declared.store.TakeStop.{TakeStop}
@@ -199,16 +199,16 @@ texts_more (x ∷ xs) ys = ap (λ (t : List ℕ). going_text x ++ t) (texts_more
 -- nothing was lacking
 pub room_none : {D : Type 0} (g : disk.Ghosts D) (order : Order) (begun : Parts D) (so_far : List ℕ) (gone : List (Going D)) (a : Sink) (mid : Parts D) → TakesWhile g order begun so_far gone (Ok tt) mid
     → MakesRoom g order begun so_far gone (record { before = a; after = a }) mid (Ok tt)
-room_none {D} g order begun so_far gone a mid takes = ([], tells_nothing, subst (λ (l : List (Going D)). TakesWhile g order begun so_far l (Ok tt) mid) (sym (append-nil gone)) takes)
+room_none {D} g order begun so_far gone a mid takes = ([], prints_nothing, subst (λ (l : List (Going D)). TakesWhile g order begun so_far l (Ok tt) mid) (sym (append-nil gone)) takes)
 
 module _ {D : Type 0} (g : disk.Ghosts D) (order : Order) (begun : Parts D) (so_far : List ℕ) (gone : List (Going D)) (a b : Sink) (mid new : Parts D) (seq : ℕ) (takes : TakesWhile g order begun so_far gone (Ok tt) mid) where
   -- a case goes
   pub one_gone : (u : Unit {0}) → IsGoing g order (record { before = mid; seq = seq; answer = Ok u; after = new })
-      → TellsText (record { before = a; after = b }) (going_text (record { before = mid; seq = seq; answer = Ok u; after = new })) → GoesNext g order begun so_far gone (record { before = a; after = b }) new (Ok true)
-  one_gone u going tells =
+      → PrintsText (record { before = a; after = b }) (going_text (record { before = mid; seq = seq; answer = Ok u; after = new })) → GoesNext g order begun so_far gone (record { before = a; after = b }) new (Ok true)
+  one_gone u going states =
       let l = last_takes g order gone begun mid so_far takes in (
         record { before = mid; seq = seq; answer = Ok u; after = new } ∷ [],
-        tells_as (sym (append-nil (going_text (record { before = mid; seq = seq; answer = Ok u; after = new })))) tells,
+        prints_as (sym (append-nil (going_text (record { before = mid; seq = seq; answer = Ok u; after = new })))) states,
         add_gone g order gone begun new so_far (record { before = mid; seq = seq; answer = Ok u; after = new }) (Ok tt) takes going
             (still_takes g l.0 mid new l.1 seq u l.2 going.deletes),
       )
@@ -218,7 +218,7 @@ module _ {D : Type 0} (g : disk.Ghosts D) (order : Order) (begun : Parts D) (so_
       → GoesNext g order begun so_far gone (record { before = a; after = a }) new (Err (Refused f))
   one_stuck f going = (
     record { before = mid; seq = seq; answer = Err f; after = new } ∷ [],
-    tells_nothing,
+    prints_nothing,
     add_gone g order gone begun new so_far (record { before = mid; seq = seq; answer = Err f; after = new }) (Err f) takes going (refl, refl, refl, refl),
   )
 
@@ -232,7 +232,7 @@ module _ {D : Type 0} (g : disk.Ghosts D) (order : Order) (file file' : Option (
       → ((b : Parts D) (x : List ℕ) → Takes g b 0 x (Ok tt) old → TakesMore file file' fails fails' x A (λ y v. Takes g b 0 y v new) r)
       → TakesNext g order file file' fails fails' begun so_far gone fit A (record { before = a; after = a }) new r
   next_alone a r takes step =
-      ([], tells_nothing, more_as gone (gone ++ []) new (sym (append-nil gone)) so_far r (lift_more g order file file' fails fails' A gone begun old new so_far r takes step), λ no. refl)
+      ([], prints_nothing, more_as gone (gone ++ []) new (sym (append-nil gone)) so_far r (lift_more g order file file' fails fails' A gone begun old new so_far r takes step), λ no. refl)
 
   -- a look at whether more follow, and what it may stop a file for
   abbrev pub StopsBehind : TakeStop → Type 0
@@ -259,7 +259,7 @@ module _ {D : Type 0} (g : disk.Ghosts D) (order : Order) (file file' : Option (
 
   pub look_next : (stop : TakeStop) → StopsBehind stop → A [] → (a : Sink) (r : Result ℕ TakeStop) → TakesWhile g order begun so_far gone (Ok tt) old → LooksPast file file' fails fails' stop r
       → TakesNext g order file file' fails fails' begun so_far gone fit A (record { before = a; after = a }) old r
-  look_next stop behind added a r takes look = ([], tells_nothing, looked stop behind added (gone ++ []) (subst (λ (l : List (Going D)). TakesWhile g order begun so_far l (Ok tt) old) (sym (append-nil gone)) takes) r look, λ no. refl)
+  look_next stop behind added a r takes look = ([], prints_nothing, looked stop behind added (gone ++ []) (subst (λ (l : List (Going D)). TakesWhile g order begun so_far l (Ok tt) old) (sym (append-nil gone)) takes) r look, λ no. refl)
 
   -- cases may go
   pub next_as : (a b : Sink) (r : Result ℕ TakeStop) → fit ≡ true → TakesNext g order file file' fails fails' begun so_far gone true A (record { before = a; after = b }) new r
@@ -289,10 +289,10 @@ module _ {D : Type 0} (g : disk.Ghosts D) (order : Order) (begun : Parts D) (so_
   after_as xs ys is r t = subst (λ (l : List (Going D)). AfterRoom (λ raw v. TakesWhile g order begun raw l v new) so_far r) is t
 
   -- room that is made in two steps
-  pub room_then : (r : Result (Unit {0}) TakeStop) (first : List (Going D)) → TellsText (record { before = a; after = b }) (flat_map going_text first)
+  pub room_then : (r : Result (Unit {0}) TakeStop) (first : List (Going D)) → PrintsText (record { before = a; after = b }) (flat_map going_text first)
       → MakesRoom g order begun so_far (gone ++ first) (record { before = b; after = c }) new r → MakesRoom g order begun so_far gone (record { before = a; after = c }) new r
-  room_then r first tells more = (
+  room_then r first states more = (
     first ++ more.0,
-    tells_as (sym (texts_more first more.0)) (tells_then tells more.1),
+    prints_as (sym (texts_more first more.0)) (prints_then states more.1),
     after_as ((gone ++ first) ++ more.0) (gone ++ (first ++ more.0)) (append_assoc gone first more.0) r more.2,
   )

@@ -46,7 +46,7 @@ use Rattle.inspector_cli.proofs.ClearLemmas.{end_told, line_halts, plain_told}
 use Rattle.inspector_cli.proofs.CaseLemmas.{is_found, briefs_are}
 use Rattle.inspector_cli.proofs.HeldLemmas.{IsHeld, taken_at, none_taken, opening_quiet}
 use Rattle.inspector_cli.proofs.IdleLemmas.{end_idle, lines_idle, opening_idle}
-use Rattle.inspector_cli.proofs.SafeLemmas.{are_safe, leads_on, since_opening}
+use Rattle.inspector_cli.proofs.SafeLemmas.{are_safe, leads_on, since_before, since_opening}
 use Rattle.inspector_cli.proofs.ToldLemmas.{EndsAs, all_told, session_of, whole_told}
 use Rattle.inspector_cli.proofs.KeptLemmas.{LastingLaws}
 use Rattle.inspector_cli.proofs.FoundLemmas.{Stands, answer_stands}
@@ -344,6 +344,12 @@ module _ {D : Type 0} (g : disk.Ghosts D) (naming : Naming) (lasts : LastingLaws
     opening_safe law run before leaves left was =
         ⊎_elim inl (λ found. inr (subst (FindsSince left (moment_at old)) later_is found)) (since_opening g stays end closed honest_end closes law old ss (stands 0).0.honest run before leaves left was)
 
+    pub before_safe : NothingElseIsLeft g → IsRunOfMarks g (mark_at g.seen old) (marks_of g.seen ss end closed) → (before : D) → LeavesOnly g before old.archive.disk (g.may_leave before)
+        → (time : ℕ) (left : List ℕ) → time ≤ g.clock before → g.left_since closed.disk time left → g.left_since before time left ⊎ (g.may_leave before left ⊎ FindsSince left (moment_at old) later)
+    before_safe law run before leaves time left early was =
+        subst (λ (ms : List (Moment D)). g.left_since before time left ⊎ (g.may_leave before left ⊎ FindsSince left (moment_at old) ms)) later_is
+        (since_before g stays end closed honest_end closes law old ss (stands 0).0.honest run before leaves time left early was)
+
 -- the three ways in which a session that was opened ends: its text
 module _ {D : Type 0} (g : disk.Ghosts D) (lasts : LastingLaws g) (stays : (d : D) → IsTrue (g.is_honest d) → g.may_leave d (g.seen d)) (only : (d : D) (c : List ℕ) → g.left_since d (g.clock d) c → g.may_leave d c) (counts : (d : D) (t : ℕ) (c : List ℕ) → t ≤ g.clock d → g.may_leave d c → g.left_since d t c) (nothing_else : NothingElseIsLeft g) (whole_run : WholeIsARun g) (front_run : FrontIsARun g) (limit : ℕ) (naming : Naming) (t : Streams) (before after : D) (opened closed : Parts D)
     (opening : OpenCall g limit before (Ok opened)) (disk : after ≡ closed.disk) (honest : IsTrue (g.is_honest before)) where
@@ -394,6 +400,11 @@ module _ {D : Type 0} (g : disk.Ghosts D) (lasts : LastingLaws g) (stays : (d : 
               (λ (d : D). (left : List ℕ) → g.left_since d (g.clock before) left → g.may_leave before left ⊎ FindsSince left (moment_at g naming lasts stays first)
               (later g naming lasts stays first end closed answers stages last reply is.had.answered is.had.finishes is.had.moves drops.stays begins)) (sym disk)
               (opening_safe g naming lasts stays first end closed answers stages last reply is.had.answered is.had.finishes is.had.moves drops.stays begins nothing_else run before (opening.any_moment honest));
+          earlier =
+              subst
+              (λ (d : D). (time : ℕ) (left : List ℕ) → time ≤ g.clock before → g.left_since d time left → g.left_since before time left ⊎ (g.may_leave before left ⊎ FindsSince left (moment_at g naming lasts stays first)
+              (later g naming lasts stays first end closed answers stages last reply is.had.answered is.had.finishes is.had.moves drops.stays begins))) (sym disk)
+              (before_safe g naming lasts stays first end closed answers stages last reply is.had.answered is.had.finishes is.had.moves drops.stays begins nothing_else run before (opening.any_moment honest));
           safe =
               subst (λ (d : D). AreSafe g d (moment_at g naming lasts stays first) (later g naming lasts stays first end closed answers stages last reply is.had.answered is.had.finishes is.had.moves drops.stays begins)) (sym disk)
               (session_safe g naming lasts stays first end closed answers stages last reply is.had.answered is.had.finishes is.had.moves drops.stays begins settled run (found (opening.honesty ∙ honest) settled));

@@ -3,10 +3,10 @@ use Rattle.std.proofs.Common.{◌≡◌, ℕ, ◌≤◌, List, [], ◌∷◌, �
 use Rattle.std.proofs.KnownBytes.{Appends-nil, Appends-trans}
 use Rattle.std.proofs.lemmas.List.{append-nil, length-append}
 use Rattle.disk_model.specs.declared.disk.Disk as disk
-use Rattle.script_streams.specs.Telling.{Sink, Told, Tells}
-use Rattle.script_streams.specs.TellLaws.{tells_as, tells_then}
+use Rattle.script_streams.specs.Printing.{Sink, Told, Prints}
+use Rattle.script_streams.specs.PrintLaws.{prints_as, prints_then}
 use Rattle.stream_names.specs.declared.naming.Naming.{Naming}
-use Rattle.inspector_cli.specs.Heard.{IsReady, TakesFrontOf, TellsReady}
+use Rattle.inspector_cli.specs.Heard.{IsReady, TakesFrontOf, PrintsReady}
 use Rattle.inspector_cli.specs.Session.{Item, AnswersItems, ButTheLast}
 use Rattle.inspector_cli.specs.Stages.{Stage}
 
@@ -21,9 +21,9 @@ taken_on t u v w x first second = append_assoc t v w ∙ ap (λ (l : List ℕ). 
 pub longer : (a b : List ℕ) → length a ≤ length (a ++ b)
 longer a b = let e = length-append a b in omega (arith, e)
 
-told_on : (start : Option (List ℕ)) (count name : ℕ) (p q : Sink) (all more : List ℕ) (t : Told start count name p all) → Tells p q more → (u : Told start count name q (all ++ more)) × (length t.out ≤ length u.out)
-told_on start count name p q all more t tells =
-    let v = tells p.taken count name t.rest (told_rest start count name p all t) in (
+told_on : (start : Option (List ℕ)) (count name : ℕ) (p q : Sink) (all more : List ℕ) (t : Told start count name p all) → Prints p q more → (u : Told start count name q (all ++ more)) × (length t.out ≤ length u.out)
+told_on start count name p q all more t states =
+    let v = states p.taken count name t.rest (told_rest start count name p all t) in (
       record {
         out = t.out ++ v.out;
         rest = v.rest;
@@ -38,9 +38,9 @@ told_on start count name p q all more t tells =
     )
 
 -- where no write has failed, all was taken but for what is held
-pub ready_front : (o p : Sink) (text : List ℕ) → Tells o p text → IsReady p → TakesFrontOf (record { before = o; after = p }) text text
-ready_front o p text tells ready start count name begun =
-    let t = tells start count name [] begun in
+pub ready_front : (o p : Sink) (text : List ℕ) → Prints o p text → IsReady p → TakesFrontOf (record { before = o; after = p }) text text
+ready_front o p text states ready start count name begun =
+    let t = states start count name [] begun in
     let few = ready.few in
     let held = ap length (t.held ready.unfailed) in
     let whole = ap length t.split in
@@ -48,10 +48,10 @@ ready_front o p text tells ready start count name begun =
     (t, omega (arith, few, held, whole, both))
 
 -- what was taken stays so
-pub front_on : (o p q : Sink) (all more front : List ℕ) → TakesFrontOf (record { before = o; after = p }) all front → Tells p q more → TakesFrontOf (record { before = o; after = q }) (all ++ more) front
-front_on o p q all more front takes tells start count name begun =
+pub front_on : (o p q : Sink) (all more front : List ℕ) → TakesFrontOf (record { before = o; after = p }) all front → Prints p q more → TakesFrontOf (record { before = o; after = q }) (all ++ more) front
+front_on o p q all more front takes states start count name begun =
     let t = takes start count name begun in
-    let u = told_on start count name p q all more t.0 tells in
+    let u = told_on start count name p q all more t.0 states in
     let few = t.1 in
     let more_out = u.1 in
     (u.0, omega (arith, few, more_out))
@@ -62,7 +62,7 @@ module _ {D : Type 0} (g : disk.Ghosts D) (naming : Naming) (old : Stage D) wher
   heard_none o = record { front = []; last = []; all = refl; one = omega arith; before = []; after = []; split = refl; stages = []; run = refl; holds = λ start count name begun. (begun, omega arith) }
 
   -- after one more, before which no write had failed
-  pub heard_one : (o p q : Sink) (items : List Item) (i : Item) (out reply : List ℕ) (stages : List (Stage D)) → AnswersItems g naming old items out stages → Tells o p out → TellsReady (record { before = p; after = q }) reply
+  pub heard_one : (o p q : Sink) (items : List Item) (i : Item) (out reply : List ℕ) (stages : List (Stage D)) → AnswersItems g naming old items out stages → Prints o p out → PrintsReady (record { before = p; after = q }) reply
       → ButTheLast g naming old (items ++ i ∷ []) (out ++ reply) (TakesFrontOf (record { before = o; after = q }) (out ++ reply))
   heard_one o p q items i out reply stages run told ready = record {
     front = items;
@@ -74,18 +74,18 @@ module _ {D : Type 0} (g : disk.Ghosts D) (naming : Naming) (old : Stage D) wher
     split = refl;
     stages = stages;
     run = run;
-    holds = front_on o ready.from q out reply out (ready_front o ready.from out (tells_as (append-nil out) (tells_then told ready.before)) ready.ready) ready.tells;
+    holds = front_on o ready.from q out reply out (ready_front o ready.from out (prints_as (append-nil out) (prints_then told ready.before)) ready.ready) ready.states;
   }
 
   -- at the end of a script, before whose last reply no write had failed
-  pub heard_all : (o p q : Sink) (out reply : List ℕ) → Tells o p out → TellsReady (record { before = p; after = q }) reply → TakesFrontOf (record { before = o; after = q }) (out ++ reply) out
+  pub heard_all : (o p q : Sink) (out reply : List ℕ) → Prints o p out → PrintsReady (record { before = p; after = q }) reply → TakesFrontOf (record { before = o; after = q }) (out ++ reply) out
   heard_all o p q out reply told ready =
-      front_on o ready.from q out reply out (ready_front o ready.from out (tells_as (append-nil out) (tells_then told ready.before)) ready.ready) ready.tells
+      front_on o ready.from q out reply out (ready_front o ready.from out (prints_as (append-nil out) (prints_then told ready.before)) ready.ready) ready.states
 
   -- nothing more is told
-  pub heard_still : (o p q : Sink) (items : List Item) (out : List ℕ) → ButTheLast g naming old items out (TakesFrontOf (record { before = o; after = p }) out) → Tells p q []
+  pub heard_still : (o p q : Sink) (items : List Item) (out : List ℕ) → ButTheLast g naming old items out (TakesFrontOf (record { before = o; after = p }) out) → Prints p q []
       → ButTheLast g naming old items (out ++ []) (TakesFrontOf (record { before = o; after = q }) (out ++ []))
-  heard_still o p q items out heard tells = record {
+  heard_still o p q items out heard states = record {
     front = heard.front;
     last = heard.last;
     all = heard.all;
@@ -95,5 +95,5 @@ module _ {D : Type 0} (g : disk.Ghosts D) (naming : Naming) (old : Stage D) wher
     split = append-nil out ∙ heard.split;
     stages = heard.stages;
     run = heard.run;
-    holds = front_on o p q out [] heard.before heard.holds tells;
+    holds = front_on o p q out [] heard.before heard.holds states;
   }

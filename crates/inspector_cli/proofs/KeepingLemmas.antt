@@ -24,7 +24,7 @@ use Rattle.inspector_cli.specs.declared.session.StoreOutcome.{StoreOutcome}
 use Rattle.inspector_cli.specs.Headline.{HasFlag, Moment, Line, Course, IsCrashSafe, IsCourse, Leads, LeadsOn, WouldLeave, AllLead, FindsMoment, FindsSince, IsSafe, AreSafe, answer_of, moment_of, begins_as, begun_in, last_moment}
 use Rattle.inspector_cli.specs.Kept.{Kept, IsKeptAs, HasThisLabel, HoldsKept, FindsKept, Spares, AllSpare, Command, IsSession, IsStore, IsCommand, AStopIsTakenUp, AReopeningIsTakenUp, AreNext, StaysFound, ASessionKeepsACase, ALineStoresACase, AStoreStoresACase, AStoreKeepsACase, relabelled, ALineLabelsACase, AStoreLabelsACase, AStorePinsACase}
 use Rattle.inspector_cli.specs.Session.{Streams}
-use Rattle.inspector_cli.specs.StoreHeadline.{IsStoreSafe, AddsCase, StoresOrNot, TellsStored, Gone, GoInTurn, StoreCourse, IsStoreCourse, moments_of, no_stream}
+use Rattle.inspector_cli.specs.StoreHeadline.{IsStoreSafe, AddsCase, StoresOrNot, PrintsStored, Gone, GoInTurn, StoreCourse, IsStoreCourse, moments_of, no_stream}
 use Rattle.inspector_cli.specs.Storing.{Options, retire_line, said_pin, said_label, stated_in}
 use Rattle.inspector_cli.specs.Told.{Answer, HasLine, what_of, parts_in}
 use Rattle.inspector_cli.proofs.FoundLemmas.{told_once}
@@ -448,7 +448,7 @@ module _ {D : Type 0} (g : disk.Ghosts D) (numbers : NumbersAreAbove) where
   pub stores_store : AStoreStoresACase g
   stores_store t asked found given before after answer s n stored =
       let a : AddsCase found (stated_in given) t.input t.input' s.course.cut s.course.filled.holds n s.course.ended.holds = subst (λ (o : Option ℕ). StoresOrNot found (stated_in given) t.input t.input' s.course.cut s.course.filled.holds o s.course.ended.holds) stored s.is.stores in
-      let told : s.course.reply ≡ end_reply (Ok n) = subst (λ (o : Option ℕ). TellsStored o s.course.first s.course.reply) stored s.is.tells in
+      let told : s.course.reply ≡ end_reply (Ok n) = subst (λ (o : Option ℕ). PrintsStored o s.course.first s.course.reply) stored s.is.states in
       let none : s.is.doubts ≡ [] = ⊎_elim (λ is. is) (λ may. absurd (stored_apart n (codes "Disk") (sym told ∙ may.0))) s.is.doubted in (
         record { seq = n; stream = a.stream; image = a.image; label = Some [] },
         refl,

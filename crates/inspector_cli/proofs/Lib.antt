@@ -29,6 +29,7 @@ pub mod RetiredLemmas
 pub mod HeadlineLemmas
 pub mod SafeLemmas
 pub mod StoreHeadLemmas
+pub mod SettledLemmas
 pub mod BegunLemmas
 pub mod IdleLemmas
 pub mod CaseLemmas

@@ -5,7 +5,7 @@ use Rattle.intake.specs.Parts.{Parts}
 use Rattle.script_streams.specs.Lines.{IsLine}
 use Rattle.script_streams.specs.Reading.{Gives, Stops}
 use Rattle.diagnostics.specs.Counts.{HasRisen}
-use Rattle.script_streams.specs.Telling.{Sink, Tells}
+use Rattle.script_streams.specs.Printing.{Sink, Prints}
 use Rattle.script_streams.specs.declared.reader.ScriptBuffer.{ScriptBuffer}
 use Rattle.script_streams.specs.declared.reader.ReadStop.{ReadStop}
 use Rattle.script_streams.specs.declared.reader.ReadStop.TheVariants.{ReadFailed, TooManyReads}
@@ -25,11 +25,11 @@ use Rattle.stream_names.specs.Streams.{core_stream}
 use Rattle.script_lines.specs.Queries.{by_build}
 use Rattle.inspector_cli.specs.Reply.{Begins, Replies, RepliesByPath, query_by}
 use Rattle.inspector_cli.specs.Session.{cut_part, LastReplies, Truncates}
-use Rattle.script_streams.specs.Replies.{Telling}
+use Rattle.script_streams.specs.Replies.{Printing}
 use Rattle.inspector_cli.specs.Answering.{Halts, AnswersTo, PartAnswers, LastAnswers, CommandEnds}
 use Rattle.inspector_cli.specs.Asking.{AnswersAsked}
-use Rattle.script_streams.specs.TellLaws.{tells_then}
-use Rattle.inspector_cli.specs.Heard.{IsReady, TellsReady}
+use Rattle.script_streams.specs.PrintLaws.{prints_then}
+use Rattle.inspector_cli.specs.Heard.{IsReady, PrintsReady}
 use Rattle.inspector_cli.proofs.GiveLemmas.{gives_nothing, gives_then, gives_as}
 
 pub last_whole : {D : Type 0} (g : disk.Ghosts D) (naming : Naming) (n : ℕ) (old new : Parts D) (what : Said) (reply : List ℕ) → n ≡ 0 → Replies g naming old what [] reply new → LastReplies g naming n old what reply new
@@ -69,13 +69,13 @@ as_script (Ok more) = Ok more
 as_script (Err stop) = Err (Read stop)
 
 module _ {D : Type 0} (g : disk.Ghosts D) where
-  pub plain_answers : (naming : Naming) (a : Option (List ℕ)) (b : ScriptBuffer) (t : Telling) (old new : Parts D) (r : Request) (what : Said) → asked_by r ≡ what → AnswersTo g naming t old (asked_by r) [] new
+  pub plain_answers : (naming : Naming) (a : Option (List ℕ)) (b : ScriptBuffer) (t : Printing) (old new : Parts D) (r : Request) (what : Said) → asked_by r ≡ what → AnswersTo g naming t old (asked_by r) [] new
       → PartAnswers g naming (record { before = a; after = a; buffer = b; buffer' = b }) t old what new (Ok true)
   plain_answers naming a b t old new r what is answers =
       subst (λ (w : Said). PartAnswers g naming (record { before = a; after = a; buffer = b; buffer' = b }) t old w new (Ok true)) is
       ([], sym (no_raw r), gives_nothing a b, answers)
 
-  pub plain_last : (naming : Naming) (t : Telling) (old new : Parts D) (r : Request) (what : Said) → asked_by r ≡ what → AnswersTo g naming t old (asked_by r) [] new → LastAnswers g naming t old what new
+  pub plain_last : (naming : Naming) (t : Printing) (old new : Parts D) (r : Request) (what : Said) → asked_by r ≡ what → AnswersTo g naming t old (asked_by r) [] new → LastAnswers g naming t old what new
   plain_last naming t old new r what is answers =
       subst (λ (w : Said). LastAnswers g naming t old w new) is
       (answers.0, last_whole g naming (raw_length (asked_by r)) old new (asked_by r) answers.0 (no_raw r) answers.1, answers.2)
@@ -110,33 +110,33 @@ module _ {D : Type 0} (g : disk.Ghosts D) where
       chosen_so naming by_path old new what [] reply is refl (told by_path refl)
 
   -- a question is answered as any line
-  pub question_answers : (naming : Naming) (a : Option (List ℕ)) (b : ScriptBuffer) (t : Telling) (old new : Parts D) (q : Question) (what : Said) (done : Bool) → question_said q ≡ what → AnswersAsked g t old (said_choosing naming.by_build (question_said q)) done new
+  pub question_answers : (naming : Naming) (a : Option (List ℕ)) (b : ScriptBuffer) (t : Printing) (old new : Parts D) (q : Question) (what : Said) (done : Bool) → question_said q ≡ what → AnswersAsked g t old (said_choosing naming.by_build (question_said q)) done new
       → PartAnswers g naming (record { before = a; after = a; buffer = b; buffer' = b }) t old what new (Ok true)
   question_answers naming a b t old new q what done is told =
       subst (λ (w : Said). PartAnswers g naming (record { before = a; after = a; buffer = b; buffer' = b }) t old w new (Ok true)) is
       ([], sym (no_raw_asked q), gives_nothing a b, (told.0, asked_so naming naming.by_build old new (question_said q) told.0 refl told.1, told.3))
 
-  pub question_last : (naming : Naming) (t : Telling) (old new : Parts D) (q : Question) (what : Said) (done : Bool) → question_said q ≡ what → AnswersAsked g t old (said_choosing naming.by_build (question_said q)) done new → LastAnswers g naming t old what new
+  pub question_last : (naming : Naming) (t : Printing) (old new : Parts D) (q : Question) (what : Said) (done : Bool) → question_said q ≡ what → AnswersAsked g t old (said_choosing naming.by_build (question_said q)) done new → LastAnswers g naming t old what new
   question_last naming t old new q what done is told =
       subst (λ (w : Said). LastAnswers g naming t old w new) is
       (told.0, last_whole g naming (raw_length (question_said q)) old new (question_said q) told.0 (no_raw_asked q) (asked_so naming naming.by_build old new (question_said q) told.0 refl told.1), told.3)
 
   module _ (naming : Naming) (a b c : Option (List ℕ)) (buf mid buf' : ScriptBuffer) (old new : Parts D) (line : List ℕ) (one : IsLine line)
-      (gives : Gives a b buf mid (line ++ 10 ∷ [])) (o p q : Sink) (first : Tells o p []) (ready : IsReady p) where
+      (gives : Gives a b buf mid (line ++ 10 ∷ [])) (o p q : Sink) (first : Prints o p []) (ready : IsReady p) where
     with_raw : (raw : List ℕ) → Gives b c mid buf' raw → Gives a c buf buf' (line ++ 10 ∷ raw)
     with_raw raw more =
         gives_as a c buf buf' ((line ++ 10 ∷ []) ++ raw) (line ++ 10 ∷ raw) (append_assoc line (10 ∷ []) raw)
         (gives_then a b c buf mid buf' (line ++ 10 ∷ []) raw gives more)
 
-    readily : (text : List ℕ) → Tells p q text → TellsReady (record { before = o; after = q }) text
-    readily text tells = record { from = p; before = first; ready = ready; tells = tells }
+    readily : (text : List ℕ) → Prints p q text → PrintsReady (record { before = o; after = q }) text
+    readily text states = record { from = p; before = first; ready = ready; states = states }
 
     -- the line was read, and no write had failed by then
     pub line_answered : (r : Result Bool ReadStop) → PartAnswers g naming (record { before = b; after = c; buffer = mid; buffer' = buf' }) (record { before = p; after = q }) old (said line) new r
         → CommandEnds g naming (record { before = a; after = c; buffer = buf; buffer' = buf' }) (record { before = o; after = q }) old new (as_script r)
-    line_answered (Ok true) x = (record { line = line; raw = x.0 }, record { line = one; raw = x.1 }, with_raw x.0 x.2, (x.3.0, x.3.1, tells_then first x.3.2), readily x.3.0 x.3.2)
-    line_answered (Ok false) x = (cut_part line x.0, (one, x.1), with_raw x.0 x.2, x.3, x.4, x.5, tells_then first x.6, readily x.4 x.6)
-    line_answered (Err stop) x = (line ++ 10 ∷ x.0, with_raw x.0 x.2, x.3, inr (line, x.0, refl, one, x.1, x.4), tells_then first x.5)
+    line_answered (Ok true) x = (record { line = line; raw = x.0 }, record { line = one; raw = x.1 }, with_raw x.0 x.2, (x.3.0, x.3.1, prints_then first x.3.2), readily x.3.0 x.3.2)
+    line_answered (Ok false) x = (cut_part line x.0, (one, x.1), with_raw x.0 x.2, x.3, x.4, x.5, prints_then first x.6, readily x.4 x.6)
+    line_answered (Err stop) x = (line ++ 10 ∷ x.0, with_raw x.0 x.2, x.3, inr (line, x.0, refl, one, x.1, x.4), prints_then first x.5)
 
 -- why a script was not read on, told of the script
 pub halts_as : (before mid after : ℕ) (buffer : ScriptBuffer) (stop : ReadStop) → mid ≡ before → Stops {T = Bool} mid after buffer (Err stop) → Halts {T = Bool} before after buffer (Err (Read stop))

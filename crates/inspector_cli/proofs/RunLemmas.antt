@@ -5,7 +5,7 @@ use Rattle.std.specs.List.{flat_map, AllByRecursion}
 use Rattle.disk_model.specs.declared.disk.Disk as disk
 use Rattle.intake.specs.Parts.{Parts}
 use Rattle.script_streams.specs.Reading.{Gives}
-use Rattle.script_streams.specs.Telling.{Sink}
+use Rattle.script_streams.specs.Printing.{Sink}
 use Rattle.script_streams.specs.declared.reader.ScriptBuffer.{ScriptBuffer}
 use Rattle.script_streams.specs.declared.reader.ReadStop.{ReadStop}
 use Rattle.intake.specs.StayLaws.{stays_as}
@@ -17,11 +17,11 @@ use Rattle.inspector_cli.specs.Stages.{Stage}
 use Rattle.inspector_cli.specs.Session.{Item, IsItem, spelled, AnswersItems, ButTheLast, last_stage, ending_text}
 use Rattle.inspector_cli.specs.Heard.{TakesFrontOf}
 use Rattle.inspector_cli.proofs.HeardLemmas.{heard_all, heard_none, heard_one, heard_still}
-use Rattle.script_streams.specs.Replies.{Telling, TellsText}
+use Rattle.script_streams.specs.Replies.{Printing, PrintsText}
 use Rattle.inspector_cli.specs.Answering.{Reading, CommandEnds, ScriptEnds}
 use Rattle.inspector_cli.proofs.GiveLemmas.{gives_nothing, gives_then, gives_as}
 use Rattle.inspector_cli.proofs.StageLemmas.{Laws, stage_of, line_moves, end_moves, still, broken_stays, run_then, last_then}
-use Rattle.script_streams.specs.TellLaws.{tells_nothing, tells_then}
+use Rattle.script_streams.specs.PrintLaws.{prints_nothing, prints_then}
 
 all_then : (is : List Item) (i : Item) → AllByRecursion IsItem is → IsItem i → AllByRecursion IsItem (is ++ i ∷ [])
 all_then [] i all one = (one, tt)
@@ -32,30 +32,30 @@ text_then [] i = sym (append-nil (spelled i))
 text_then (j ∷ js) i = append_assoc (spelled j) (flat_map spelled js) (spelled i) ∙ ap (λ x. spelled j ++ x) (text_then js i)
 
 -- the commands so far, or all of them
-abbrev pub Along : {D : Type 0} → disk.Ghosts D → Naming → Reading → Telling → Stage D → Parts D → Bool → Type 0
+abbrev pub Along : {D : Type 0} → disk.Ghosts D → Naming → Reading → Printing → Stage D → Parts D → Bool → Type 0
 Along {D} g naming r t old new true =
     (items : List Item) × (out : List ℕ) × (stages : List (Stage D)) × AllByRecursion IsItem items × Gives r.before r.after r.buffer r.buffer' (flat_map spelled items)
-    × AnswersItems g naming old items out stages × ((last_stage old stages).archive ≡ new) × TellsText t out
+    × AnswersItems g naming old items out stages × ((last_stage old stages).archive ≡ new) × PrintsText t out
     × ButTheLast g naming old items out (TakesFrontOf t out)
 Along g naming r t old new false = ScriptEnds g naming r t old new (Ok tt)
 
 module _ {D : Type 0} (g : disk.Ghosts D) where
   pub begun : (naming : Naming) (a : Option (List ℕ)) (b : ScriptBuffer) (o : Sink) (s : Stage D)
       → Along g naming (record { before = a; after = a; buffer = b; buffer' = b }) (record { before = o; after = o }) s s.archive true
-  begun naming a b o s = ([], [], [], tt, gives_nothing a b, refl, refl, tells_nothing, heard_none g naming s o)
+  begun naming a b o s = ([], [], [], tt, gives_nothing a b, refl, refl, prints_nothing, heard_none g naming s o)
 
   module _ (laws : Laws g) (naming : Naming) (a b c : Option (List ℕ)) (x y z : ScriptBuffer) (o p q : Sink) (old : Stage D) (mid new : Parts D)
       (so_far : Along g naming (record { before = a; after = b; buffer = x; buffer' = y }) (record { before = o; after = p }) old mid true) where
     abbrev next_reading : Reading
     next_reading = record { before = b; after = c; buffer = y; buffer' = z }
 
-    abbrev next_telling : Telling
+    abbrev next_telling : Printing
     next_telling = record { before = p; after = q }
 
     abbrev all_reading : Reading
     all_reading = record { before = a; after = c; buffer = x; buffer' = z }
 
-    abbrev all_telling : Telling
+    abbrev all_telling : Printing
     all_telling = record { before = o; after = q }
 
     -- where the commands so far have led
@@ -77,7 +77,7 @@ module _ {D : Type 0} (g : disk.Ghosts D) where
               (gives_then a b c x y z (flat_map spelled so_far.0) (spelled e.0) so_far.4 e.2),
           run_then g naming old so_far.0 so_far.1 so_far.2 e.0 e.3.0 s so_far.5 e.3.1 m.1,
           ap (λ (t : Stage D). t.archive) (last_then g old s so_far.2),
-          tells_then so_far.7 e.3.2,
+          prints_then so_far.7 e.3.2,
           heard_one g naming old o p q so_far.0 e.0 so_far.1 e.3.0 so_far.2 so_far.5 so_far.7 e.4,
         )
 
@@ -104,7 +104,7 @@ module _ {D : Type 0} (g : disk.Ghosts D) where
             text = refl;
           },
           refl,
-          tells_then so_far.7 e.6,
+          prints_then so_far.7 e.6,
           heard_all g naming old o p q so_far.1 e.4 so_far.7 e.7,
         )
 
@@ -131,7 +131,7 @@ module _ {D : Type 0} (g : disk.Ghosts D) where
             moves = m.1;
           },
           refl,
-          tells_then so_far.7 e.4,
+          prints_then so_far.7 e.4,
           heard_still g naming old o p q so_far.0 so_far.1 so_far.8 e.4,
         )
 
@@ -156,7 +156,7 @@ module _ {D : Type 0} (g : disk.Ghosts D) where
           refl,
           refl,
           e.3,
-          tells_then so_far.7 e.4,
+          prints_then so_far.7 e.4,
           heard_still g naming old o p q so_far.0 so_far.1 so_far.8 e.4,
         )
 

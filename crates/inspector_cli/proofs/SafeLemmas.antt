@@ -1,5 +1,5 @@
 -- Each stop of the machine leaves what stood behind a stage, or a later one.
-use Rattle.std.proofs.Common.{◌≡◌, ◌⊎◌, inl, inr, ⊎_elim, ℕ, List, [], ◌∷◌, ◌++◌, map, Option, refl, sym, subst, ◌∙◌}
+use Rattle.std.proofs.Common.{◌≡◌, ◌⊎◌, ◌≤◌, inl, inr, ⊎_elim, ℕ, List, [], ◌∷◌, ◌++◌, map, Option, arith, refl, sym, subst, ◌∙◌}
 use Rattle.std.specs.Prelude.{codes, IsTrue}
 use Rattle.std.specs.List.{AllByRecursion}
 use Rattle.disk_model.specs.Moments.{LeavesOnly}
@@ -82,3 +82,12 @@ module _ {D : Type 0} (g : disk.Ghosts D) (stays : (d : D) → IsTrue (g.is_hone
       (λ found. inr (found_since old ss left found))
       (law (mark_at g.seen old) (marks_of g.seen ss end closed) (g.clock before) left honest run leaves.later
       (subst (λ (k : Mark D). g.left_since k.disk (g.clock before) left) (sym (last_mark (mark_at g.seen old) ss)) was))
+
+  -- a crash since a moment before the opening
+  pub since_before : NothingElseIsLeft g → (old : Stage D) (ss : List (Stage D)) → IsTrue (g.is_honest old.archive.disk) → IsRunOfMarks g (mark_at g.seen old) (marks_of g.seen ss end closed) → (before : D) → LeavesOnly g before old.archive.disk (g.may_leave before)
+      → (time : ℕ) (left : List ℕ) → time ≤ g.clock before → g.left_since closed.disk time left → g.left_since before time left ⊎ (g.may_leave before left ⊎ FindsSince left (moment_at old) (map moment_at ss ++ moment_at end ∷ []))
+  since_before law old ss honest run before leaves time left early was =
+      ⊎_elim (λ until. ⊎_elim inl (λ may. inr (inl may)) (leaves.before time left early until))
+      (λ found. inr (inr (found_since old ss left found)))
+      (law (mark_at g.seen old) (marks_of g.seen ss end closed) time left honest run (let later = leaves.later in omega arith)
+      (subst (λ (k : Mark D). g.left_since k.disk time left) (sym (last_mark (mark_at g.seen old) ss)) was))

@@ -9,7 +9,7 @@ use Rattle.intake.specs.Marks.{FoundAfterAStop}
 use Rattle.intake.specs.Parts.{Parts}
 use Rattle.diagnostics.specs.Counts.{HasRisen}
 use Rattle.script_streams.specs.Reading.{Gives, held_bytes, reads_made}
-use Rattle.script_streams.specs.Telling.{Sink, Told, IsDelivered}
+use Rattle.script_streams.specs.Printing.{Sink, Told, IsDelivered}
 use Rattle.script_streams.specs.declared.reader.ScriptBuffer.{ScriptBuffer}
 use Rattle.script_streams.specs.declared.reader.ReadStop.TheVariants as stop
 use Rattle.script_streams.specs.declared.streams.StreamFault.{StreamFault}
@@ -21,7 +21,7 @@ use Rattle.inspector_cli.specs.Stages.{Stage, IsFoundAfterAStop}
 use Rattle.inspector_cli.specs.Heard.{TakesFrontOf}
 use Rattle.inspector_cli.specs.Session.{AnswersAll, AnswersWhole, ButTheLast, DropsStreams, IsHeard, Item, Streams, SessionEnds, complete}
 use Rattle.inspector_cli.proofs.HeardLemmas.{longer, taken_on, told_rest}
-use Rattle.script_streams.specs.Replies.{Telling}
+use Rattle.script_streams.specs.Replies.{Printing}
 use Rattle.inspector_cli.specs.Answering.{Reading, Halts, ScriptEnds, session_fault}
 use Rattle.inspector_cli.proofs.StageLemmas.{Laws, found_after}
 
@@ -42,8 +42,8 @@ module _ {D : Type 0} (g : disk.Ghosts D) (laws : Laws g) (law : FoundAfterAStop
   abbrev pub reading : Reading
   reading = record { before = a; after = b; buffer = x; buffer' = y }
 
-  abbrev pub telling : Telling
-  telling = record { before = o; after = p }
+  abbrev pub printing : Printing
+  printing = record { before = o; after = p }
 
   abbrev pub streams : Streams
   streams = record { input = a; input' = b; fails = fails; fails' = fails'; taken = start; taken' = q; lost = count; lost' = h }
@@ -63,7 +63,7 @@ module _ {D : Type 0} (g : disk.Ghosts D) (laws : Laws g) (law : FoundAfterAStop
   whole_found read out stages end is whole =
       found_after g laws law naming old whole.items out stages end new whole.run whole.moves.passes (closes_from end is).stays
 
-  pub ended : (s : Unit {0}) → ScriptEnds g naming reading telling old mid (Ok tt) → Delivers (Ok s) → SessionEnds g naming streams old new (Ok tt)
+  pub ended : (s : Unit {0}) → ScriptEnds g naming reading printing old mid (Ok tt) → Delivers (Ok s) → SessionEnds g naming streams old new (Ok tt)
   ended s e d = (
     e.0,
     e.1,
@@ -77,7 +77,7 @@ module _ {D : Type 0} (g : disk.Ghosts D) (laws : Laws g) (law : FoundAfterAStop
     all_found e.0 e.1 e.2 e.3 e.7 e.6,
   )
 
-  read_failed : (s : Unit {0}) → ScriptEnds g naming reading telling old mid (Err (Read stop.ReadFailed)) → Delivers (Ok s) → HasRisen fails fails' → SessionEnds g naming streams old new (Err ReadFailed)
+  read_failed : (s : Unit {0}) → ScriptEnds g naming reading printing old mid (Err (Read stop.ReadFailed)) → Delivers (Ok s) → HasRisen fails fails' → SessionEnds g naming streams old new (Err ReadFailed)
   read_failed s e d rose = (
     e.0,
     e.1,
@@ -91,7 +91,7 @@ module _ {D : Type 0} (g : disk.Ghosts D) (laws : Laws g) (law : FoundAfterAStop
     rose,
   )
 
-  too_many : (s : Unit {0}) → ScriptEnds g naming reading telling old mid (Err (Read stop.TooManyReads)) → Delivers (Ok s) → reads_made y ≡ 2 ^ 40
+  too_many : (s : Unit {0}) → ScriptEnds g naming reading printing old mid (Err (Read stop.TooManyReads)) → Delivers (Ok s) → reads_made y ≡ 2 ^ 40
       → SessionEnds g naming streams old new (Err TooManyReads)
   too_many s e d most = (
     e.0,
@@ -120,7 +120,7 @@ module _ {D : Type 0} (g : disk.Ghosts D) (laws : Laws g) (law : FoundAfterAStop
     lost : HasRisen count h
     heard : IsHeard (length out) front
 
-  taken_last : (fault : StreamFault) (all front : List ℕ) → TakesFrontOf telling all front → Delivers (Err fault) → Ends fault all front
+  taken_last : (fault : StreamFault) (all front : List ℕ) → TakesFrontOf printing all front → Delivers (Err fault) → Ends fault all front
   taken_last fault all front takes d =
       let t = takes start count name begun in
       let v = d p.taken t.0.rest (told_rest start count name p all t.0) in
@@ -153,10 +153,10 @@ module _ {D : Type 0} (g : disk.Ghosts D) (laws : Laws g) (law : FoundAfterAStop
       subst (λ (z : List ℕ). (v : AnswersWhole g naming read z old stages end) × ((more ≡ []) ⊎ (v.rest ≡ [])) × ButTheLast g naming old v.items z (IsHeard n)) is (w, none, heard)
 
   -- by what was taken in the end
-  heard_last : (items : List Item) (out : List ℕ) (n : ℕ) (b : ButTheLast g naming old items out (TakesFrontOf telling out)) → IsHeard n b.before → ButTheLast g naming old items out (IsHeard n)
+  heard_last : (items : List Item) (out : List ℕ) (n : ℕ) (b : ButTheLast g naming old items out (TakesFrontOf printing out)) → IsHeard n b.before → ButTheLast g naming old items out (IsHeard n)
   heard_last items out n b heard = record { front = b.front; last = b.last; all = b.all; one = b.one; before = b.before; after = b.after; split = b.split; stages = b.stages; run = b.run; holds = heard }
 
-  pub write_failed : (fault : StreamFault) (r : Result (Unit {0}) ScriptStop) → ScriptEnds g naming reading telling old mid r → Delivers (Err fault) → SessionEnds g naming streams old new (Err WriteFailed)
+  pub write_failed : (fault : StreamFault) (r : Result (Unit {0}) ScriptStop) → ScriptEnds g naming reading printing old mid r → Delivers (Err fault) → SessionEnds g naming streams old new (Err WriteFailed)
   write_failed fault (Ok s) e d =
       let t = taken_last fault e.1 e.6.replies e.9 d in
       record {
@@ -206,7 +206,7 @@ module _ {D : Type 0} (g : disk.Ghosts D) (laws : Laws g) (law : FoundAfterAStop
         lost = t.lost;
       }
 
-  pub read_stopped : (s : Unit {0}) (why : ScriptStop) → p.unwritten.failed ≡ false → ScriptEnds g naming reading telling old mid (Err why) → Delivers (Ok s) → Halts {T = Unit {0}} fails fails' y (Err why)
+  pub read_stopped : (s : Unit {0}) (why : ScriptStop) → p.unwritten.failed ≡ false → ScriptEnds g naming reading printing old mid (Err why) → Delivers (Ok s) → Halts {T = Unit {0}} fails fails' y (Err why)
       → SessionEnds g naming streams old new (Err (session_fault why))
   read_stopped s (Read stop.ReadFailed) running e d stops = read_failed s e d stops
   read_stopped s (Read stop.TooManyReads) running e d stops = too_many s e d stops.1

@@ -2,7 +2,7 @@
 use Rattle.std.proofs.Common.{◌≡◌, ◌≢◌, ◌⊎◌, inl, inr, ⊎_elim, ℕ, Bool, true, false, cond, List, [], ◌∷◌, ◌++◌, length, map, Option, Some, None, Result, Ok, Err, refl, sym, ap, subst, ◌∙◌, arith, append_assoc, length-append}
 use Rattle.std.proofs.lemmas.Bool.{false≢true, true≢false, eqb-false}
 use Rattle.std.proofs.lemmas.List.{append-nil, length-map}
-use Rattle.std.specs.Prelude.{codes, option_map, IsTrue, ◌<◌, if◌then◌else◌}
+use Rattle.std.specs.Prelude.{codes, option_map, IsTrue, ◌<◌, ◌≤◌, if◌then◌else◌}
 use Rattle.std.specs.List.{AllByRecursion, filter, flat_map}
 use Rattle.std.specs.Result.{result_ok}
 use Rattle.std.specs.Io.KnownBytes.{Appends}
@@ -49,13 +49,13 @@ use Rattle.intake.specs.Opened.{IsOpened}
 use Rattle.inspector_cli.specs.Reply.{Begins, Ends, Takes}
 use Rattle.inspector_cli.specs.Session.{Streams}
 use Rattle.inspector_cli.specs.Stages.{Stage, Moves, MayLeave, mark_at, marks_of}
-use Rattle.inspector_cli.specs.StoreHeadline.{Gone, GoInTurn, IsCutShort, case_in, gone_line, moments_of, TellsStored, AddsCase, StoresOrNot, StoreCourse, IsStoreCourse, IsTold, IsAdmittedSafe, IsStoreSafe, StoresAreCrashSafe, BeginsEmpty, no_stream}
+use Rattle.inspector_cli.specs.StoreHeadline.{Gone, GoInTurn, IsCutShort, case_in, gone_line, moments_of, PrintsStored, AddsCase, StoresOrNot, StoreCourse, IsStoreCourse, IsTold, IsAdmittedSafe, IsStoreSafe, StoresAreCrashSafe, BeginsEmpty, no_stream}
 use Rattle.inspector_cli.specs.Storing.{GoneStages, difference_reason, FillsFile, FileReplies, KeepsOf, cut_text, RestReplies, RetiresFirst, IsChosen, PinsCase, LabelsCase, Options, Stores, StoreEnds, retire_line, said_pin, said_label, stated_in}
 use Rattle.inspector_cli.proofs.CaseLemmas.{is_found, briefs_are, cases_are}
 use Rattle.inspector_cli.proofs.ClearLemmas.{first_apart, plain_told, retire_told, retire_stops}
 use Rattle.inspector_cli.proofs.KeptLemmas.{LastingLaws}
 use Rattle.inspector_cli.proofs.SlotLemmas.{at_set, some_same}
-use Rattle.inspector_cli.proofs.SafeLemmas.{are_safe, leads_on, moment, since_opening}
+use Rattle.inspector_cli.proofs.SafeLemmas.{are_safe, leads_on, moment, since_before, since_opening}
 use Rattle.inspector_cli.proofs.StageLemmas.{Laws, Reaches, stage_of, begins_stays, ends_moves}
 use Rattle.inspector_cli.proofs.StoreLemmas.{Filling, earlier, filling, filling_runs, retiring_moves, pin_moves, label_moves, set_there}
 use Rattle.inspector_cli.proofs.FitLemmas.{answered, on}
@@ -298,18 +298,18 @@ module _ {D : Type 0} (g : disk.Ghosts D) (order : Order) (lasts : LastingLaws g
       more : List Durable
       moves : Moves g (stage_of filled filling.1) (end_of 0) rest (stage_of ended (more ++ filling.1))
       stores : StoresOrNot found want file file' cut (durable_of g.seen filled) stored (durable_of g.seen ended)
-      tells : TellsStored stored first rest
+      states : PrintsStored stored first rest
       awake : (n : ℕ) → stored ≡ Some n → ((state_of retired.archive).stopped ≡ false) × (filling.1 ≡ retired.in_doubt)
       doubted :
           (moves.doubts ≡ [])
           ⊎ ((rest ≡ no_reply (codes "Disk")) × AllByRecursion (λ (z : Durable). (n : ℕ) × AddsCase found want file file' cut (durable_of g.seen filled) n z) moves.doubts)
 
     -- no case is stored, and the archive stays as it was
-    none_stored : (gone : List (Going D)) (cut : Option ℕ) (filled ended : Parts D) (first rest : List ℕ) (stored : Option ℕ) → Filling g order gone retired filled → ended ≡ filled → stored ≡ None → TellsStored None first rest → Stored gone cut filled ended first rest stored
-    none_stored gone cut filled ended first rest stored filling same nothing tells = record {
+    none_stored : (gone : List (Going D)) (cut : Option ℕ) (filled ended : Parts D) (first rest : List ℕ) (stored : Option ℕ) → Filling g order gone retired filled → ended ≡ filled → stored ≡ None → PrintsStored None first rest → Stored gone cut filled ended first rest stored
+    none_stored gone cut filled ended first rest stored filling same nothing states = record {
       filling = filling;
       awake = λ n is. absurd (none_apart n (sym nothing ∙ is));
-      tells = subst (λ (o : Option ℕ). TellsStored o first rest) (sym nothing) tells;
+      states = subst (λ (o : Option ℕ). PrintsStored o first rest) (sym nothing) states;
       more = [];
       moves = record { doubts = []; in_doubt = refl; doubted = inl refl; passes = laws.stays filled ended filling.1 (stays_as g filled ended same) };
       stores =
@@ -338,14 +338,14 @@ module _ {D : Type 0} (g : disk.Ghosts D) (order : Order) (lasts : LastingLaws g
           more = moves.0;
           moves = moves.1;
           stores = ends r call is here;
-          tells = tells r told is;
+          states = states r told is;
           awake = λ n some. (awake_then retired.archive mid found first begins, surely_filled gone retired mid filled raw f.0 f.1 takes f.2);
           doubted = ⊎_elim (λ nothing. inl nothing) (λ may. inr (may.0, all_add mid gone cut raw filled first begins reads takes here moves.1.doubts may.1)) moves.1.doubted;
         }
       where
-        tells : (r : Result ℕ ArchiveFault) → rest ≡ end_reply r → stored ≡ result_ok r → TellsStored stored first rest
-        tells (Ok seq) told is = subst (λ (o : Option ℕ). TellsStored o first rest) (sym is) told
-        tells (Err f) told is = subst (λ (o : Option ℕ). TellsStored o first rest) (sym is) (inl (reason_of f, told))
+        states : (r : Result ℕ ArchiveFault) → rest ≡ end_reply r → stored ≡ result_ok r → PrintsStored stored first rest
+        states (Ok seq) told is = subst (λ (o : Option ℕ). PrintsStored o first rest) (sym is) told
+        states (Err f) told is = subst (λ (o : Option ℕ). PrintsStored o first rest) (sym is) (inl (reason_of f, told))
 
         ends : (r : Result ℕ ArchiveFault) → FinishCall g filled 0 r ended → stored ≡ result_ok r → IsTrue (g.is_honest filled.disk)
             → StoresOrNot found want file file' cut (durable_of g.seen filled) stored (durable_of g.seen ended)
@@ -577,7 +577,7 @@ module _ {D : Type 0} (g : disk.Ghosts D) (lasts : LastingLaws g) (laws : Laws g
       unasked = λ no. ap (λ (l : List (Going D)). gone_of g options.order lasts l stored.filling.0) (s.stores.unasked no);
       stores = stored.stores;
       sure = λ n is. (let sure = stored.awake n is in sure.1 ∙ retiring_clear sure.0);
-      tells = stored.tells;
+      states = stored.states;
       spent = λ fits refused. none_held g options.order lasts s.stores.filled (s.stores.spent fits SpaceFull refused);
       short = cut_short g options.order options.fit options.cut s.stores.mid s.stores.gone s.stores.cut s.stores.short;
       doubts = stored.moves.doubts;
@@ -611,6 +611,11 @@ module _ {D : Type 0} (g : disk.Ghosts D) (lasts : LastingLaws g) (laws : Laws g
             (λ (d : D). (left : List ℕ) → g.left_since d (g.clock before) left → g.may_leave before left ⊎ FindsSince left (moment g first) (moment g retired ∷ (moments_of gone ++ (moment g filled ∷ moment g ended ∷ moment g labelled_then ∷ moment g last ∷ [])))) (sym disk)
             (subst (λ (ms : List (Moment D)). (left : List ℕ) → g.left_since closed.disk (g.clock before) left → g.may_leave before left ⊎ FindsSince left (moment g first) ms) moments_same
             (since_opening g stays last closed end_honest drops.stays nothing_else first stages there run before (opening.any_moment honest)));
+        earlier =
+            subst
+            (λ (d : D). (time : ℕ) (left : List ℕ) → time ≤ g.clock before → g.left_since d time left → g.left_since before time left ⊎ (g.may_leave before left ⊎ FindsSince left (moment g first) (moment g retired ∷ (moments_of gone ++ (moment g filled ∷ moment g ended ∷ moment g labelled_then ∷ moment g last ∷ []))))) (sym disk)
+            (subst (λ (ms : List (Moment D)). (time : ℕ) (left : List ℕ) → time ≤ g.clock before → g.left_since closed.disk time left → g.left_since before time left ⊎ (g.may_leave before left ⊎ FindsSince left (moment g first) ms)) moments_same
+            (since_before g stays last closed end_honest drops.stays nothing_else first stages there run before (opening.any_moment honest)));
         safe =
             subst (λ (d : D). AreSafe g d (moment g first) (moment g retired ∷ (moments_of gone ++ (moment g filled ∷ moment g ended ∷ moment g labelled_then ∷ moment g last ∷ [])))) (sym disk)
             (subst (AreSafe g closed.disk (moment g first)) moments_same

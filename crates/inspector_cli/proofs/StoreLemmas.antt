@@ -17,7 +17,7 @@ use Rattle.intake.specs.Marks.{FoundAfterAStop}
 use Rattle.intake.specs.Parts.{Parts, state_of, stream_facts, contents_of, taken_in}
 use Rattle.intake.specs.Step.{BeginStep, with_stream, longer}
 use Rattle.diagnostics.specs.Counts.{HasRisen}
-use Rattle.script_streams.specs.Telling.{Sink, Told, IsDelivered}
+use Rattle.script_streams.specs.Printing.{Sink, Told, IsDelivered}
 use Rattle.script_streams.specs.declared.streams.StreamFault.{StreamFault}
 use Rattle.script_lines.specs.Said.{silence, end_of}
 use Rattle.archive_replies.specs.Texts.{plain_reply}
@@ -38,13 +38,13 @@ use Rattle.inspector_cli.specs.declared.store.TakeStop.{TakeStop}
 use Rattle.inspector_cli.specs.declared.store.TakeStop.TheVariants.{File, Refused, Cut, Differs}
 use Rattle.inspector_cli.specs.declared.stated.Stated.{Stated}
 use Rattle.inspector_cli.specs.declared.stated.Difference.TheVariants.{Short, Long, Digest}
-use Rattle.script_streams.specs.Replies.{Telling, TellsReply, TellsText}
+use Rattle.script_streams.specs.Replies.{Printing, PrintsReply, PrintsText}
 use Rattle.inspector_cli.specs.Stages.{Stage, mark_at, marks_of}
 use Rattle.inspector_cli.specs.Session.{Streams}
 use Rattle.inspector_cli.specs.Storing.{FillsAll, FillsFile, TakesNext, TakesAll, MakesRoom, FillsAndEnds, GoneStages, FileReplies, RestReplies, StoresStream, RetiresFirst, RetiresForStream, PinsCase, LabelsCase, Options, Stores, stated_in, retire_line, said_pin, said_label, StoreStages, StoreEnds}
 use Rattle.intake.specs.StayLaws.{stays_none, stays_as, stays_then}
 use Rattle.inspector_cli.proofs.StageLemmas.{Laws, Reaches, stage_of, ends_moves, deletes_moves, pins_moves, labels_moves, retires_moves, still, begins_stays}
-use Rattle.script_streams.specs.TellLaws.{tells_as, tells_then}
+use Rattle.script_streams.specs.PrintLaws.{prints_as, prints_then}
 use Rattle.inspector_cli.proofs.SlotLemmas.{set_again}
 
 -- the stream, if there is one, has no bytes yet
@@ -124,9 +124,9 @@ module _ {D : Type 0} (g : disk.Ghosts D) (old new : Parts D) (slot : ℕ) where
   begun_serves (Err reason) text accepted none begins is = absurd (true≢false (sym is ∙ begins.2))
 
 -- each of a number of reads gave a byte, and the bytes are taken, while cases went and were told
-abbrev pub FileAlong : {D : Type 0} → disk.Ghosts D → Order → Bool → Option (List ℕ) → Option (List ℕ) → ℕ → ℕ → Parts D → ℕ → Telling → Parts D → Type 0
+abbrev pub FileAlong : {D : Type 0} → disk.Ghosts D → Order → Bool → Option (List ℕ) → Option (List ℕ) → ℕ → ℕ → Parts D → ℕ → Printing → Parts D → Type 0
 FileAlong {D} g order fit file file' fails fails' old reads t new =
-    (gone : List (Going D)) × TellsText t (flat_map going_text gone) × (raw : List ℕ) × Consumes file file' raw × (reads ≤ length raw) × (fails' ≡ fails) × TakesWhile g order old raw gone (Ok tt) new × (fit ≡ false → gone ≡ [])
+    (gone : List (Going D)) × PrintsText t (flat_map going_text gone) × (raw : List ℕ) × Consumes file file' raw × (reads ≤ length raw) × (fails' ≡ fails) × TakesWhile g order old raw gone (Ok tt) new × (fit ≡ false → gone ≡ [])
 
 -- if a file is cut, or goes on behind the length that was stated, it does so behind this many bytes
 abbrev pub StopsAfter : Option ℕ → ℕ → TakeStop → Type 0
@@ -199,16 +199,16 @@ module _ {D : Type 0} (g : disk.Ghosts D) (order : Order) (fit : Bool) (file mid
   none_both : (more : List (Going D)) → (fit ≡ false → more ≡ []) → fit ≡ false → so_far.0 ++ more ≡ []
   none_both more none is = ap (λ (l : List (Going D)). l ++ more) (so_far.7 is) ∙ none is
 
-  told_both : (more : List (Going D)) → TellsText (record { before = b; after = c }) (flat_map going_text more) → TellsText (record { before = a; after = c }) (flat_map going_text (so_far.0 ++ more))
-  told_both more tells = tells_as (sym (texts_more so_far.0 more)) (tells_then so_far.1 tells)
+  told_both : (more : List (Going D)) → PrintsText (record { before = b; after = c }) (flat_map going_text more) → PrintsText (record { before = a; after = c }) (flat_map going_text (so_far.0 ++ more))
+  told_both more states = prints_as (sym (texts_more so_far.0 more)) (prints_then so_far.1 states)
 
   pub file_went_on : (count : ℕ) → (count ≡ 0 → ⊥) → TakesNext g order mid file' fails' fails'' old so_far.2 so_far.0 fit A (record { before = b; after = c }) new (Ok count)
       → (more : FileAlong g order fit file file' fails fails'' old (reads + 1) (record { before = a; after = c }) new) × (length more.2 ≡ length so_far.2 + count) × (added : List ℕ) × (more.2 ≡ so_far.2 ++ added) × A added
-  file_went_on (suc n) is (gone, tells, more, none) =
+  file_went_on (suc n) is (gone, states, more, none) =
       let size = length-append so_far.2 more.0 in
       let count = so_far.4 in
       let some = more.2 in (
-        (so_far.0 ++ gone, told_both gone tells, so_far.2 ++ more.0, Consumes-trans file mid file' so_far.2 more.0 so_far.3 more.1, omega (arith, count, some, size), more.3 ∙ so_far.5, more.4, none_both gone none),
+        (so_far.0 ++ gone, told_both gone states, so_far.2 ++ more.0, Consumes-trans file mid file' so_far.2 more.0 so_far.3 more.1, omega (arith, count, some, size), more.3 ∙ so_far.5, more.4, none_both gone none),
         omega (arith, some, size),
         more.0,
         refl,
@@ -217,47 +217,47 @@ module _ {D : Type 0} (g : disk.Ghosts D) (order : Order) (fit : Bool) (file mid
   file_went_on zero is more = absurd (is refl)
 
   -- as was stated, or not
-  ended_so : (gone : List (Going D)) → TellsText (record { before = b; after = c }) (flat_map going_text gone) → Consumes mid file' [] → IsAtEnd file' → TakesWhile g order old so_far.2 (so_far.0 ++ gone) (Ok tt) new → (fit ≡ false → gone ≡ [])
+  ended_so : (gone : List (Going D)) → PrintsText (record { before = b; after = c }) (flat_map going_text gone) → Consumes mid file' [] → IsAtEnd file' → TakesWhile g order old so_far.2 (so_far.0 ++ gone) (Ok tt) new → (fit ≡ false → gone ≡ [])
       → (r : Result (Unit {0}) TakeStop) → EndsAt want so_far.2 r → TakesAll g order fit want file file' fails fails'' old (record { before = a; after = c }) new r
-  ended_so gone tells none ends takes unasked (Ok u) at = (so_far.0 ++ gone, told_both gone tells, (so_far.2, consumes_none file mid file' so_far.2 so_far.3 none, ends, takes, at), none_both gone unasked)
-  ended_so gone tells none ends takes unasked (Err File) at = absurd at
-  ended_so gone tells none ends takes unasked (Err (Refused fault)) at = absurd at
-  ended_so gone tells none ends takes unasked (Err (Cut kept)) at = absurd at
-  ended_so gone tells none ends takes unasked (Err (Differs Short)) at =
-      (so_far.0 ++ gone, told_both gone tells, (so_far.2, (consumes_none file mid file' so_far.2 so_far.3 none, ends, at.0, at.1, at.2), takes), none_both gone unasked)
-  ended_so gone tells none ends takes unasked (Err (Differs Long)) at = absurd at
-  ended_so gone tells none ends takes unasked (Err (Differs Digest)) at =
-      (so_far.0 ++ gone, told_both gone tells, (so_far.2, (consumes_none file mid file' so_far.2 so_far.3 none, ends, at), takes), none_both gone unasked)
+  ended_so gone states none ends takes unasked (Ok u) at = (so_far.0 ++ gone, told_both gone states, (so_far.2, consumes_none file mid file' so_far.2 so_far.3 none, ends, takes, at), none_both gone unasked)
+  ended_so gone states none ends takes unasked (Err File) at = absurd at
+  ended_so gone states none ends takes unasked (Err (Refused fault)) at = absurd at
+  ended_so gone states none ends takes unasked (Err (Cut kept)) at = absurd at
+  ended_so gone states none ends takes unasked (Err (Differs Short)) at =
+      (so_far.0 ++ gone, told_both gone states, (so_far.2, (consumes_none file mid file' so_far.2 so_far.3 none, ends, at.0, at.1, at.2), takes), none_both gone unasked)
+  ended_so gone states none ends takes unasked (Err (Differs Long)) at = absurd at
+  ended_so gone states none ends takes unasked (Err (Differs Digest)) at =
+      (so_far.0 ++ gone, told_both gone states, (so_far.2, (consumes_none file mid file' so_far.2 so_far.3 none, ends, at), takes), none_both gone unasked)
 
   pub file_ended : (count : ℕ) → count ≡ 0 → TakesNext g order mid file' fails' fails'' old so_far.2 so_far.0 fit A (record { before = b; after = c }) new (Ok count)
       → (r : Result (Unit {0}) TakeStop) → EndsAt want so_far.2 r → TakesAll g order fit want file file' fails fails'' old (record { before = a; after = c }) new r
   file_ended (suc n) is more r at = absurd (omega (arith, is))
-  file_ended zero is (gone, tells, more, none) r at = ended_so gone tells more.0 more.1 more.3 none r at
+  file_ended zero is (gone, states, more, none) r at = ended_so gone states more.0 more.1 more.3 none r at
 
   pub file_stopped : (stop : TakeStop) → StopsAfter want.length (length so_far.2) stop → TakesNext g order mid file' fails' fails'' old so_far.2 so_far.0 fit A (record { before = b; after = c }) new (Err stop)
       → TakesAll g order fit want file file' fails fails'' old (record { before = a; after = c }) new (Err stop)
-  file_stopped (Cut kept) behind (gone, tells, more, none) = (
+  file_stopped (Cut kept) behind (gone, states, more, none) = (
     so_far.0 ++ gone,
-    told_both gone tells,
+    told_both gone states,
     (so_far.2, (more.0, Consumes-trans file mid file' so_far.2 more.0 so_far.3 more.1, more.2, sym behind.0, behind.1, behind.2), more.4),
     none_both gone none,
   )
   file_stopped (Differs Short) behind more = absurd behind
   file_stopped (Differs Digest) behind more = absurd behind
-  file_stopped (Differs Long) behind (gone, tells, more, none) = (
+  file_stopped (Differs Long) behind (gone, states, more, none) = (
     so_far.0 ++ gone,
-    told_both gone tells,
+    told_both gone states,
     (so_far.2, (more.0, Consumes-trans file mid file' so_far.2 more.0 so_far.3 more.1, more.2, behind), more.4),
     none_both gone none,
   )
-  file_stopped File behind (gone, tells, more, none) = (
+  file_stopped File behind (gone, states, more, none) = (
     so_far.0 ++ gone,
-    told_both gone tells,
+    told_both gone states,
     (so_far.2, consumes_none file mid file' so_far.2 so_far.3 more.0, inl (subst (λ (n : ℕ). HasRisen n fails'') so_far.5 more.1), more.2),
     none_both gone none,
   )
-  file_stopped (Refused fault) behind (gone, tells, more, none) =
-      (so_far.0 ++ gone, told_both gone tells, (so_far.2 ++ more.0, Consumes-trans file mid file' so_far.2 more.0 so_far.3 more.1, more.3), none_both gone none)
+  file_stopped (Refused fault) behind (gone, states, more, none) =
+      (so_far.0 ++ gone, told_both gone states, (so_far.2 ++ more.0, Consumes-trans file mid file' so_far.2 more.0 so_far.3 more.1, more.3), none_both gone none)
 
 -- how a file is cut, behind all that went so far, and then more
 pub cut_there : {D : Type 0} (g : disk.Ghosts D) (order : Order) (fit : Bool) (most : Option ℕ) (old at : Parts D) (raw : List ℕ) (first later : List (Going D)) (kept : ℕ) → TakesWhile g order old raw first (Ok tt) at → length raw ≡ kept
@@ -266,19 +266,19 @@ cut_there g order fit most old at raw first later kept takes same well =
     record { n = well.0; asked = well.1; within = well.2; at = at; raw = raw; first = first; later = later; all = refl; takes = takes; length = same; no_more = well.3 }
 
 -- nothing goes for the record
-pub filled_as : {D : Type 0} (g : disk.Ghosts D) (order : Order) (fit : Bool) (most : Option ℕ) (want : Stated) (file file' : Option (List ℕ)) (fails fails' : ℕ) (t : Telling) (old new : Parts D) (r : Result (Unit {0}) TakeStop)
+pub filled_as : {D : Type 0} (g : disk.Ghosts D) (order : Order) (fit : Bool) (most : Option ℕ) (want : Stated) (file file' : Option (List ℕ)) (fails fails' : ℕ) (t : Printing) (old new : Parts D) (r : Result (Unit {0}) TakeStop)
     → TakesAll g order fit want file file' fails fails' old t new r → CutsWell fit most r (state_of new) → FillsAll g order fit most want file file' fails fails' old t new r
-filled_as g order fit most want file file' fails fails' t old new (Ok u) (gone, tells, takes, none) well = (gone, tells, takes, none, tt)
-filled_as g order fit most want file file' fails fails' t old new (Err File) (gone, tells, takes, none) well = (gone, tells, takes, none, tt)
-filled_as g order fit most want file file' fails fails' t old new (Err (Refused fault)) (gone, tells, takes, none) well = (gone, tells, inl takes, none, tt)
-filled_as g order fit most want file file' fails fails' t old new (Err (Cut kept)) (gone, tells, takes, none) well = (
+filled_as g order fit most want file file' fails fails' t old new (Ok u) (gone, states, takes, none) well = (gone, states, takes, none, tt)
+filled_as g order fit most want file file' fails fails' t old new (Err File) (gone, states, takes, none) well = (gone, states, takes, none, tt)
+filled_as g order fit most want file file' fails fails' t old new (Err (Refused fault)) (gone, states, takes, none) well = (gone, states, inl takes, none, tt)
+filled_as g order fit most want file file' fails fails' t old new (Err (Cut kept)) (gone, states, takes, none) well = (
   gone,
-  tells,
+  states,
   takes,
   none,
   subst (λ (l : List (Going _)). IsShort g order fit most old l (Some kept)) (append-nil gone) (cut_there g order fit most old new takes.0 gone [] kept takes.2 takes.1.3 well),
 )
-filled_as g order fit most want file file' fails fails' t old new (Err (Differs f)) (gone, tells, takes, none) well = (gone, tells, takes, none, tt)
+filled_as g order fit most want file file' fails fails' t old new (Err (Differs f)) (gone, states, takes, none) well = (gone, states, takes, none, tt)
 
 -- the answer where room is made for the record of a file that is cut
 abbrev pub then_cut : ℕ → Result (Unit {0}) TakeStop → Result (Unit {0}) TakeStop
@@ -289,13 +289,13 @@ pub room_at_cut : {D : Type 0} (g : disk.Ghosts D) (order : Order) (fit : Bool) 
     → TakesAll g order fit want file file' fails fails' old (record { before = a; after = b }) mid (Err (Cut kept)) → CutsWell {A = Unit {0}} fit most (Err (Cut kept)) (state_of mid) → (r : Result (Unit {0}) TakeStop)
     → ((begun : Parts D) (so_far : List ℕ) (gone : List (Going D)) → TakesWhile g order begun so_far gone (Ok tt) mid → MakesRoom g order begun so_far gone (record { before = b; after = c }) new r)
     → FillsAll g order fit most want file file' fails fails' old (record { before = a; after = c }) new (then_cut kept r)
-room_at_cut {D} g order fit most want file file' fails fails' a b c old mid new kept asked (gone, tells, taken, none) well r room =
+room_at_cut {D} g order fit most want file file' fails fails' a b c old mid new kept asked (gone, states, taken, none) well r room =
     made r (room old taken.0 gone taken.2)
   where
     made : (r : Result (Unit {0}) TakeStop) → MakesRoom g order old taken.0 gone (record { before = b; after = c }) new r → FillsAll g order fit most want file file' fails fails' old (record { before = a; after = c }) new (then_cut kept r)
     made (Ok u) (more, told, takes) = (
       gone ++ more,
-      tells_as (sym (texts_more gone more)) (tells_then tells told),
+      prints_as (sym (texts_more gone more)) (prints_then states told),
       (taken.0, taken.1, takes),
       λ never. absurd (true≢false (sym asked ∙ never)),
       cut_there g order fit most old mid taken.0 gone more kept taken.2 taken.1.3 well,
@@ -304,32 +304,32 @@ room_at_cut {D} g order fit most want file file' fails fails' a b c old mid new 
     made (Err (Cut other)) (more, told, takes) = absurd takes
     made (Err (Differs f)) (more, told, takes) = absurd takes
     made (Err (Refused fault)) (more, told, takes) =
-        (gone ++ more, tells_as (sym (texts_more gone more)) (tells_then tells told), inr (well.0, well.1, kept, taken.0, taken.1, takes), λ never. absurd (true≢false (sym asked ∙ never)), tt)
+        (gone ++ more, prints_as (sym (texts_more gone more)) (prints_then states told), inr (well.0, well.1, kept, taken.0, taken.1, takes), λ never. absurd (true≢false (sym asked ∙ never)), tt)
 
 -- room for the record, once all bytes are taken
 pub room_at_end : {D : Type 0} (g : disk.Ghosts D) (order : Order) (fit : Bool) (most : Option ℕ) (want : Stated) (file file' : Option (List ℕ)) (fails fails' : ℕ) (a b c : Sink) (old mid new : Parts D) → fit ≡ true
     → TakesAll g order fit want file file' fails fails' old (record { before = a; after = b }) mid (Ok tt) → (r : Result (Unit {0}) TakeStop)
     → ((begun : Parts D) (so_far : List ℕ) (gone : List (Going D)) → TakesWhile g order begun so_far gone (Ok tt) mid → MakesRoom g order begun so_far gone (record { before = b; after = c }) new r)
     → FillsAll g order fit most want file file' fails fails' old (record { before = a; after = c }) new r
-room_at_end g order fit most want file file' fails fails' a b c old mid new asked (gone, tells, taken, none) r room =
+room_at_end g order fit most want file file' fails fails' a b c old mid new asked (gone, states, taken, none) r room =
     made r (room old taken.0 gone taken.3)
   where
     made : (r : Result (Unit {0}) TakeStop) → MakesRoom g order old taken.0 gone (record { before = b; after = c }) new r → FillsAll g order fit most want file file' fails fails' old (record { before = a; after = c }) new r
     made (Ok u) (more, told, takes) =
-        (gone ++ more, tells_as (sym (texts_more gone more)) (tells_then tells told), (taken.0, taken.1, taken.2, takes, taken.4), λ never. absurd (true≢false (sym asked ∙ never)), tt)
+        (gone ++ more, prints_as (sym (texts_more gone more)) (prints_then states told), (taken.0, taken.1, taken.2, takes, taken.4), λ never. absurd (true≢false (sym asked ∙ never)), tt)
     made (Err File) (more, told, takes) = absurd takes
     made (Err (Cut kept)) (more, told, takes) = absurd takes
     made (Err (Differs f)) (more, told, takes) = absurd takes
     made (Err (Refused fault)) (more, told, takes) =
-        (gone ++ more, tells_as (sym (texts_more gone more)) (tells_then tells told), inl (taken.0, taken.1, takes), λ never. absurd (true≢false (sym asked ∙ never)), tt)
+        (gone ++ more, prints_as (sym (texts_more gone more)) (prints_then states told), inl (taken.0, taken.1, takes), λ never. absurd (true≢false (sym asked ∙ never)), tt)
 
 module _ {D : Type 0} (g : disk.Ghosts D) (order : Order) where
   -- a stream that is begun, and its file
   pub stores : (fit : Bool) (most : Option ℕ) (want : Stated) (found : Result StreamFacts (List ℕ)) (file file' : Option (List ℕ)) (fails fails' : ℕ) (o p q : Sink) (old mid new : Parts D) (stored : Option ℕ)
-      → TellsReply (record { before = o; after = p }) (λ text. Begins g old 0 found text mid true)
+      → PrintsReply (record { before = o; after = p }) (λ text. Begins g old 0 found text mid true)
       → IsServed (state_of mid)
-      → TellsReply (record { before = p; after = q }) (λ text. FillsAndEnds g order fit most want file file' fails fails' mid text new stored)
-      → TellsReply (record { before = o; after = q }) (λ text. StoresStream g order fit most want file file' fails fails' old found text new stored)
+      → PrintsReply (record { before = p; after = q }) (λ text. FillsAndEnds g order fit most want file file' fails fails' mid text new stored)
+      → PrintsReply (record { before = o; after = q }) (λ text. StoresStream g order fit most want file file' fails fails' old found text new stored)
   stores fit most want found file file' fails fails' o p q old mid new stored first served rest = (
     first.0 ++ rest.0,
     record {
@@ -347,12 +347,12 @@ module _ {D : Type 0} (g : disk.Ghosts D) (order : Order) where
       short = rest.1.8;
       text = ap (λ (t : List ℕ). first.0 ++ t) rest.1.4;
     },
-    tells_then first.2 rest.2,
+    prints_then first.2 rest.2,
   )
 
-  pub stores_none : (fit : Bool) (most : Option ℕ) (want : Stated) (found : Result StreamFacts (List ℕ)) (file : Option (List ℕ)) (fails : ℕ) (t : Telling) (old new : Parts D)
-      → TellsReply t (λ text. Begins g old 0 found text new false)
-      → TellsReply t (λ text. StoresStream g order fit most want file file fails fails old found text new None)
+  pub stores_none : (fit : Bool) (most : Option ℕ) (want : Stated) (found : Result StreamFacts (List ℕ)) (file : Option (List ℕ)) (fails : ℕ) (t : Printing) (old new : Parts D)
+      → PrintsReply t (λ text. Begins g old 0 found text new false)
+      → PrintsReply t (λ text. StoresStream g order fit most want file file fails fails old found text new None)
   stores_none fit most want found file fails t old new first = (
     first.0,
     record {
@@ -494,11 +494,11 @@ module _ {D : Type 0} (g : disk.Ghosts D) where
   -- what is retired, the stream, its label and its pin
   pub stores_all : (file file' : Option (List ℕ)) (fails fails' : ℕ) (o p q r z : Sink) (old retired ended named new : Parts D) (asked : Option Policy) (found : Result StreamFacts (List ℕ)) (options : Options)
       (made : Bool) (stored : Option ℕ) (labelled pinned : Bool)
-      → TellsReply (record { before = o; after = p }) (λ text. RetiresForStream g old asked found text retired made)
-      → TellsReply (record { before = p; after = q }) (λ text. StoresStream g options.order options.fit options.cut (stated_in options) file file' fails fails' retired found text ended stored)
-      → TellsReply (record { before = q; after = r }) (λ text. LabelsCase g ended stored options.label text named labelled)
-      → TellsReply (record { before = r; after = z }) (λ text. PinsCase g named stored options.pin text new pinned)
-      → TellsReply (record { before = o; after = z })
+      → PrintsReply (record { before = o; after = p }) (λ text. RetiresForStream g old asked found text retired made)
+      → PrintsReply (record { before = p; after = q }) (λ text. StoresStream g options.order options.fit options.cut (stated_in options) file file' fails fails' retired found text ended stored)
+      → PrintsReply (record { before = q; after = r }) (λ text. LabelsCase g ended stored options.label text named labelled)
+      → PrintsReply (record { before = r; after = z }) (λ text. PinsCase g named stored options.pin text new pinned)
+      → PrintsReply (record { before = o; after = z })
       (λ text. Stores g file file' fails fails' old asked found options text new (record { retired_first = made; stored = stored; labelled = labelled; pinned = pinned }))
   stores_all file file' fails fails' o p q r z old retired ended named new asked found options made stored labelled pinned first rest label last = (
     first.0 ++ (rest.0 ++ (label.0 ++ last.0)),
@@ -516,14 +516,14 @@ module _ {D : Type 0} (g : disk.Ghosts D) where
       pins = last.1;
       all = refl;
     },
-    tells_then first.2 (tells_then rest.2 (tells_then label.2 last.2)),
+    prints_then first.2 (prints_then rest.2 (prints_then label.2 last.2)),
   )
 
 -- what was told is written, or a front of it
 module _ {D : Type 0} (g : disk.Ghosts D) (laws : Laws g) (law : FoundAfterAStop g) (file file' : Option (List ℕ)) (fails fails' : ℕ) (start : Option (List ℕ)) (count name : ℕ) (o p : Sink) (q : Option (List ℕ)) (h : ℕ)
     (old : Stage D) (end new : Parts D) (asked : Option Policy) (found : Result StreamFacts (List ℕ)) (options : Options) (outcome : StoreOutcome)
     (dropped : Result (Unit {0}) ArchiveFault) (begun : Told start count name o [])
-    (told : TellsReply (record { before = o; after = p }) (λ text. Stores g file file' fails fails' old.archive asked found options text end outcome))
+    (told : PrintsReply (record { before = o; after = p }) (λ text. Stores g file file' fails fails' old.archive asked found options text end outcome))
     (drops : AbandonCall g end 0 dropped new) where
   abbrev pub streams : Streams
   streams = record { input = file; input' = file'; fails = fails; fails' = fails'; taken = start; taken' = q; lost = count; lost' = h }

@@ -4,7 +4,7 @@ use Rattle.std.specs.Io.KnownBytes.{Appends}
 use Rattle.disk_model.specs.declared.disk.Disk as disk
 use Rattle.intake.specs.Parts.{Parts}
 use Rattle.script_lines.specs.Said.{Said}
-use Rattle.script_streams.specs.Replies.{IsOutcome, Telling, TellsOutcome}
+use Rattle.script_streams.specs.Replies.{IsOutcome, Printing, PrintsOutcome}
 use Rattle.inspector_cli.specs.Reply.{RepliesByPath}
 use Rattle.inspector_cli.specs.Session.{DropsStreams, Streams}
 use Rattle.inspector_cli.specs.declared.session.LifeFault.{LifeFault}
@@ -13,8 +13,8 @@ use Rattle.inspector_cli.specs.declared.session.SessionFault.{SessionFault}
 use Rattle.inspector_cli.specs.declared.session.SessionFault.TheVariants.{WriteFailed}
 
 -- A question is answered, and that is its outcome.
-abbrev pub AnswersAsked : {D : Type 0} → disk.Ghosts D → Telling → Parts D → Said → Bool → Parts D → Type 0
-AnswersAsked g t old what done new = TellsOutcome t (λ text. RepliesByPath g old what text new) done
+abbrev pub AnswersAsked : {D : Type 0} → disk.Ghosts D → Printing → Parts D → Said → Bool → Parts D → Type 0
+AnswersAsked g t old what done new = PrintsOutcome t (λ text. RepliesByPath g old what text new) done
 
 -- The outcome of the one line is that of its reply, which is written. Or the output has failed.
 abbrev pub AsksAlone : {D : Type 0} → disk.Ghosts D → Said → Option (List ℕ) → Option (List ℕ) → Result Bool SessionFault → Parts D → Parts D → Type 0

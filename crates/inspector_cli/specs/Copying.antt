@@ -11,7 +11,7 @@ use Rattle.intake.specs.Ranges.{Locates, RangesReply}
 use Rattle.intake.specs.Step.{HasCase}
 use Rattle.intake.specs.declared.faults.ArchiveFault.{ArchiveFault}
 use Rattle.intake.specs.declared.ranges.ByteRange.{ByteRange}
-use Rattle.script_streams.specs.Replies.{Telling, TellsText}
+use Rattle.script_streams.specs.Replies.{Printing, PrintsText}
 use Rattle.inspector_cli.specs.declared.copying.CopyFault.{CopyFault}
 use Rattle.inspector_cli.specs.declared.copying.CopyFault.TheVariants as fault
 use Rattle.inspector_cli.specs.declared.copying.Halt.{Halt}
@@ -19,16 +19,16 @@ use Rattle.inspector_cli.specs.declared.copying.Halt.TheVariants.{Disk, Output}
 use Rattle.inspector_cli.specs.Life.{OpensThen, IsOpeningRefused}
 use Rattle.journal_layout.specs.Case.{Case}
 
--- the whole, or a front of it where a copy was ended before
+-- the whole, or a front of it if a copy was ended before
 abbrev pub IsFrontOf : {E : Type 0} → Result (Unit {0}) E → List ℕ → List ℕ → Type 0
 IsFrontOf (Ok u) text whole = text ≡ whole
 IsFrontOf (Err f) text whole = (rest : List ℕ) × (text ++ rest ≡ whole)
 
--- A text is read from a disk, which is only read, and told: on an honest disk the one that `whole` makes of its bytes, or a
--- front of that.
-pub record Copies {D : Type 0} (g : disk.Ghosts D) (old new : D) (t : Telling) (whole : List ℕ → List ℕ) (r : Result (Unit {0}) Halt) : Type 0 where
+-- A text is read from a disk, which is only read, and printed: on an
+-- honest disk the one that `whole` makes of its bytes, or a front of that.
+pub record Copies {D : Type 0} (g : disk.Ghosts D) (old new : D) (t : Printing) (whole : List ℕ → List ℕ) (r : Result (Unit {0}) Halt) : Type 0 where
   pub text : List ℕ
-  pub told : TellsText t text
+  pub told : PrintsText t text
   pub front : IsTrue (g.is_honest old) → IsFrontOf r text (whole (g.seen old))
   pub quiet : OnlyReads g old new
   pub later : g.failures old ≤ g.failures new
@@ -45,7 +45,7 @@ pub record WritesOut {D : Type 0} (g : disk.Ghosts D) (old new : D) (start taken
   pub cause : r ≡ Err Disk → HasRisen (g.failures old) (g.failures new)
   pub lost : r ≡ Err Output → HasRisen count failures
 
--- where an image lies, and some memory for its pieces, or why not
+-- the place of an image, and some memory for its pieces, or why it is not known
 abbrev pub HasPlace : {D : Type 0} → disk.Ghosts D → Parts D → ℕ → Result (Vec ByteRange Global × Vec ℕ Global) ArchiveFault → Type 0
 HasPlace g a seq (Ok place) = Locates g a seq place.0.items × (0 < length place.1.items)
 HasPlace g a seq (Err f) = RangesReply g a seq (Err f)
@@ -55,8 +55,8 @@ abbrev pub fault_of : Halt → CopyFault
 fault_of Disk = fault.Disk
 fault_of Output = fault.Output
 
--- The image of a case of an archive is written to an output, or a front of it until the disk or the output failed. The disk is
--- only read: a crash at any moment leaves what one before could have left.
+-- The image of a case of an archive is written to an output, or a front of it until the disk or the output failed. The disk is only read: a
+-- crash at any moment leaves only disks that one before could have left.
 pub record CopiesCase {D : Type 0} (g : disk.Ghosts D) (seq : ℕ) (start taken : Option (List ℕ)) (count failures : ℕ) (archive : Parts D) (r : Result (Unit {0}) CopyFault) (after : D) : Type 0 where
   pub found : Case
   pub has : HasCase (state_of archive) seq found

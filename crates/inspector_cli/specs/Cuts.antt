@@ -14,11 +14,11 @@ HasOneCut = (items others : List Item) (ending other : Ending) → AllByRecursio
 abbrev pub HasACut : Type 0
 HasACut = (text : List ℕ) → (items : List Item) × (ending : Ending) × AllByRecursion IsItem items × IsEnding ending × (text ≡ flat_map spelled items ++ ending_text ending)
 
--- what follows the whole items of a script that could not be read on: not all of a line, or not all of the bytes after it
+-- the rest after the whole items of a script that could not be read on: not all of a line, or not all of the bytes after it
 abbrev pub IsBrokenOff : List ℕ → Type 0
 IsBrokenOff rest = IsLine rest ⊎ ((line : List ℕ) × (raw : List ℕ) × (rest ≡ line ++ 10 ∷ raw) × IsLine line × (length raw < raw_length (said line)))
 
--- Such a script has no other cut into whole items and what follows them.
+-- Such a script has no other cut into whole items and the rest after them.
 abbrev pub HasOneFront : Type 0
 HasOneFront = (items others : List Item) (rest other : List ℕ) → AllByRecursion IsItem items → AllByRecursion IsItem others → IsBrokenOff rest → IsBrokenOff other
     → flat_map spelled items ++ rest ≡ flat_map spelled others ++ other → (items ≡ others) × (rest ≡ other)

@@ -1,4 +1,4 @@
--- Cases that go so that a stream finds room: which goes next, and what comes of the bytes that the stream takes meanwhile.
+-- Cases that go so that a stream finds room: which goes next, and the fate of the bytes that the stream takes meanwhile.
 use Rattle.std.specs.Prelude.{◌≡◌, ◌⊎◌, ℕ, zero, suc, ◌+◌, ◌%◌, ◌<◌, ◌≤◌, Bool, true, false, not, ◌&&◌, nat_lt, List, [], ◌∷◌, ◌++◌, length, Option, None, Some, Result, Ok, Err}
 use Rattle.std.specs.List.{find, filter}
 use Rattle.disk_model.specs.declared.disk.Disk as disk
@@ -64,7 +64,7 @@ HasNoBlock s = blocks_in s ≡ s.shape.data_blocks
 abbrev pub FindsNoRoom : ArchiveState → Type 0
 FindsNoRoom s = HasNoBlock s ⊎ (lacks_record_room s 0 ≡ true)
 
--- A case goes: the archive when it does, its number, what its deletion is answered, and the archive then.
+-- A case goes: the archive when it does, its number, the answer to its deletion, and the archive then.
 pub record Going (D : Type 0) : Type 0 where
   pub before : Parts D
   pub seq : ℕ
@@ -107,7 +107,7 @@ TheFirstGoes = (cases : List Case) (c : Case) → next_to_go Oldest cases ≡ So
 abbrev pub NoPinnedOneGoes : Type 0
 NoPinnedOneGoes = (order : Order) (cases : List Case) (c : Case) → next_to_go order cases ≡ Some c → c.pinned ≡ false
 
--- Where none goes next, all are pinned.
+-- If none goes next, all are pinned.
 abbrev pub AllArePinned : Type 0
 AllArePinned = (order : Order) (cases : List Case) → next_to_go order cases ≡ None → filter may_go cases ≡ []
 
@@ -200,7 +200,7 @@ FillsServed order (Err (Refused fault)) s = IsSpent order fault s
 FillsServed order (Err (Cut kept)) s = IsServed s × HasMadeRoom Record s
 FillsServed order (Err (Differs f)) s = Unit {0}
 
--- no file is cut, and none differs from what was stated
+-- no file is cut, and none differs from its stated facts
 abbrev pub IsUncut : {A : Type 0} → Result A TakeStop → Type 0
 IsUncut (Ok x) = Unit {0}
 IsUncut (Err File) = Unit {0}
@@ -283,8 +283,8 @@ EndsAt want raw (Err (Differs Short)) = (n : ℕ) × (want.length ≡ Some n) ×
 EndsAt want raw (Err (Differs Long)) = ⊥
 EndsAt want raw (Err (Differs Digest)) = HasOtherDigest want raw
 
--- Where a file is cut, if it is: only if so many bytes may be kept at most. The archive is `at` then, with the bytes that are kept, and the cases
--- that went so far. Those that go later go for the record of its case.
+-- The place at which a file is cut, if it is: only if so many bytes may be kept at most. The archive is `at` then, with the bytes that are kept,
+-- and the cases that went so far. Those that go later go for the record of its case.
 pub record IsCut {D : Type 0} (g : disk.Ghosts D) (order : Order) (fit : Bool) (most : Option ℕ) (old : Parts D) (gone : List (Going D)) (kept : ℕ) : Type 0 where
   pub n : ℕ
   pub asked : most ≡ Some n

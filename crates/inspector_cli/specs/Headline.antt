@@ -1,6 +1,6 @@
 -- The headline: the effect of a session, line by line, and the archive that a stop of the machine leaves. It rests on the archive that bytes
 -- encode (`StandsFor`), the contents of an archive (`Durable`), the meaning of a line (`Said`), and the text of replies (`Texts`).
-use Rattle.std.specs.Prelude.{◌≡◌, ◌⊎◌, ℕ, ◌==◌, ◌<◌, Bool, true, false, List, [], ◌∷◌, ◌++◌, length, map, Option, None, Some, option_map, Result, Ok, Err, IsTrue, codes, if◌then◌else◌}
+use Rattle.std.specs.Prelude.{◌≡◌, ◌⊎◌, ℕ, ◌==◌, ◌<◌, ◌≤◌, Bool, true, false, List, [], ◌∷◌, ◌++◌, length, map, Option, None, Some, option_map, Result, Ok, Err, IsTrue, codes, if◌then◌else◌}
 use Rattle.std.specs.Result.{result_ok}
 use Rattle.std.specs.List.{flat_map, AllByRecursion}
 use Rattle.std.specs.Io.KnownBytes.{Consumes, Appends, IsAtEnd}
@@ -97,7 +97,7 @@ changes upgrade_archive = true
 changes (retire_by policy) = true
 changes _ = false
 
--- what such a line would have left, had the disk not failed
+-- the cases that such a line would have left, had the disk not failed
 abbrev pub WouldLeave : (Said → Option StreamFacts) → List Answer → Said → Durable → Durable → Type 0
 WouldLeave begins earlier what x y = (changes what ≡ true) × (reply : List ℕ) × Does begins earlier what reply x y
 
@@ -106,7 +106,7 @@ pub record Moment (D : Type 0) : Type 0 where
   pub disk : D
   -- the contents of the archive
   pub holds : Durable
-  -- what lines that were answered `no Disk` would have left
+  -- the cases that lines that were answered `no Disk` would have left
   pub in_doubt : List Durable
 
 -- A line that was answered, and the state then.
@@ -251,8 +251,11 @@ pub record IsCrashSafe {D : Type 0} (T E : Type 0) (g : disk.Ghosts D) (naming :
   pub ended : IsEnded r text.rest course.last
   pub disk : after ≡ course.end.disk
   pub idle : IsIdle g r course before after
-  -- a stop at any moment since the opening began leaves what one before it could have left, or opens as one of these moments
+  -- a stop at any moment since the opening began leaves a disk that one before it could have left, or opens as one of these moments
   pub opening : (left : List ℕ) → g.left_since after (g.clock before) left → g.may_leave before left ⊎ FindsSince left course.begin (map moment_of course.lines ++ course.end ∷ [])
+  -- a stop since an earlier moment leaves a disk that one until the opening or right before it could have left, or opens as one of these
+  pub earlier : (time : ℕ) (left : List ℕ) → time ≤ g.clock before → g.left_since after time left
+      → g.left_since before time left ⊎ (g.may_leave before left ⊎ FindsSince left course.begin (map moment_of course.lines ++ course.end ∷ []))
   pub safe : AreSafe g after course.begin (map moment_of course.lines ++ course.end ∷ [])
 
 -- The promises of a life of an archive about stops: over an honest disk a session is crash-safe, and an opening that is refused

@@ -46,7 +46,7 @@ HoldsKept k x = (c : FoundCase) × IsAmong x.cases c × IsKeptAs k c
 abbrev pub FindsKept : Kept → List ℕ → Type 0
 FindsKept k left = (x : Durable) × StandsFor left x × HoldsKept k x
 
--- what may have given the case another label: a label that was not refused, or one for which the disk failed
+-- the calls that may have given the case another label: a label that was not refused, or one for which the disk failed
 abbrev pub MayLabel : ℕ → Said → List ℕ → Type 0
 MayLabel n (label_of seq text) reply = (seq ≡ n) × ((reply ≡ ok_reply) ⊎ (reply ≡ no_reply (codes "Disk")))
 MayLabel n _ reply = ⊥

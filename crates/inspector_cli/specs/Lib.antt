@@ -15,6 +15,7 @@ pub mod Extracting
 pub mod Copying
 pub mod Headline
 pub mod StoreHeadline
+pub mod Settled
 pub mod Kept
 pub mod Agreement
 pub mod Stated

@@ -21,8 +21,8 @@ use Rattle.inspector_cli.specs.Storing.{Options, StoreEnds}
 -- The opening with all that it promises, of its moments too; and the session over the archive that it answered.
 pub record OpensThen {D : Type 0} (g : disk.Ghosts D) (limit : ℕ) (before after : D) (Goes : Parts D → Parts D → Type 0) : Type 0 where
   pub opened : Parts D
-  -- exactly the archive that the disk encoded: its cases, its shape and the bytes of its journal that are in use; its limit
-  -- is the one that was given, and no stream is open; a crash meanwhile leaves what one before could have left
+  -- exactly the archive that the disk encoded: its cases, its shape and the bytes of its journal that are in use; its limit is the one that
+  -- was given, and no stream is open; a crash meanwhile leaves a disk that one before could have left
   pub opening : OpenCall g limit before (Ok opened)
   -- a crash from then on leaves that
   pub settled : IsTrue (g.is_honest before) → IsMarkSettled g (mark_of g.seen opened [])
@@ -30,19 +30,18 @@ pub record OpensThen {D : Type 0} (g : disk.Ghosts D) (limit : ℕ) (before afte
   pub disk : after ≡ closed.disk
   pub goes : Goes opened closed
 
--- The opening is refused by the first check of the layout that fails, or the disk or the memory failed: Disk only where the
--- count of failures rose. The disk that is handed back reads as it did, and a crash meanwhile leaves what one before could
--- have left.
+-- The opening is refused by the first check of the layout that fails, or the disk or the memory failed: Disk only if the count of failures
+-- rose. The disk that is returned reads as before, and a crash meanwhile leaves a disk that one before could have left.
 pub record IsOpeningRefused {D : Type 0} (g : disk.Ghosts D) (limit : ℕ) (before after : D) (f : OpenFault) : Type 0 where
   pub opening : OpenCall g limit before (Err (f, after))
-  -- where the disk encoded an archive, nothing but the disk and the memory refuses it
+  -- if the disk encoded an archive, only the disk and the memory can refuse it
   pub kind : (x : Durable) → IsTrue (g.is_honest before) → StandsFor (g.seen before) x → (f ≡ fault.Disk) ⊎ (f ≡ fault.OutOfMemory)
 
 -- the streams are not touched
 abbrev pub IsUntouched : Streams → Type 0
 IsUntouched t = (t.input' ≡ t.input) × (t.fails' ≡ t.fails) × (t.taken' ≡ t.taken) × (t.lost' ≡ t.lost)
 
--- From the opening of an archive on: what goes on over it by its answer, or why it was not opened.
+-- From the opening of an archive on: the session over it by its answer, or why it was not opened.
 abbrev pub LifeEnds : {D : Type 0} {T : Type 0} → disk.Ghosts D → ℕ → Streams → D → Result T LifeFault → D → (Result T SessionFault → Parts D → Parts D → Type 0) → Type 0
 LifeEnds g limit t before (Ok x) after Goes = OpensThen g limit before after (Goes (Ok x))
 LifeEnds g limit t before (Err (Session f)) after Goes = OpensThen g limit before after (Goes (Err f))

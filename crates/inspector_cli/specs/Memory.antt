@@ -27,7 +27,7 @@ fresh_archive shape limit = record {
   stopped = false;
 }
 
--- what goes on over such an archive, on an honest disk
+-- the session over such an archive, on an honest disk
 pub record OverFresh {D : Type 0} (g : disk.Ghosts D) (shape : Shape) (limit : ℕ) (Goes : Parts D → Parts D → Type 0) : Type 0 where
   pub opened : Parts D
   pub honest : IsTrue (g.is_honest opened.disk)

@@ -31,7 +31,7 @@ Begins g old slot (Ok stream) reply new accepted =
 abbrev pub filled_up_to : ArchiveState → StreamFacts → ℕ → ℕ
 filled_up_to s stream m = blocks_in s + (m / 4096 - stream.len / 4096)
 
--- where a stream meets the full disk: filled up to m bytes, which are whole blocks, it would take one block more than there are
+-- the place at which a stream meets the full disk: filled up to m bytes, which are whole blocks, it would take one block more than there are
 abbrev pub IsWall : ArchiveState → StreamFacts → ℕ → Type 0
 IsWall s stream m = (m % 4096 ≡ 0) × (stream.len < m) × (filled_up_to s stream m ≡ s.shape.data_blocks + 1)
 
@@ -61,7 +61,7 @@ TakeStep old slot n (Err Disk) new =
     (s : StreamFacts) × (k : ℕ) × IsOpen old slot s × (k ≤ n) × MayTake old s k × (new ≡ halted old)
 TakeStep old slot n (Err _) new = ⊥
 
--- the bytes of a stream once these were taken; what follows them in its block is left open
+-- the bytes of a stream once these were taken; the bytes after them in its block are left open
 abbrev pub TakeBytes : Contents → ℕ → List ℕ → Result (Unit {0}) ArchiveFault → Contents → Type 0
 TakeBytes old slot raw (Ok u) new =
     (t : Taken) × (free : List ℕ) × (stream_at old.taken slot ≡ Some t) × (new ≡ with_taken old slot (Some (record { bytes = t.bytes ++ raw; free = free })))
@@ -109,7 +109,7 @@ Frees old reply new = (result : Result Space ArchiveFault) × FreeReply (state_o
 abbrev pub query_by : Naming → QuerySaid → QuerySaid
 query_by naming query = if naming.by_build then by_build query else query
 
--- the reply, and the archive after it, where these bytes followed the line, as many as it says
+-- the reply, and the archive after it, if these bytes followed the line, as many as it says
 abbrev pub Replies : {D : Type 0} → disk.Ghosts D → Naming → Parts D → Said → List ℕ → List ℕ → Parts D → Type 0
 Replies g naming old silence raw reply new = (reply ≡ []) × (new ≡ old)
 Replies g naming old bad_line raw reply new = (reply ≡ no_reply (codes "BadLine")) × (new ≡ old)
@@ -128,6 +128,6 @@ Replies g naming old count_free raw reply new = Frees old reply new
 Replies g naming old upgrade_archive raw reply new = Upgrades g old reply new
 Replies g naming old (inspect_of seq query) raw reply new = Inspects g old seq (query_by naming query) reply new
 
--- the reply where executables are chosen by path, however cores are named
+-- the reply if executables are chosen by path, however cores are named
 abbrev pub RepliesByPath : {D : Type 0} → disk.Ghosts D → Parts D → Said → List ℕ → Parts D → Type 0
 RepliesByPath g old what reply new = (naming : Naming) → naming.by_build ≡ false → Replies g naming old what [] reply new

@@ -1,4 +1,4 @@
--- The stages of a session as a run of marks, so that what holds of marks and of lives holds of sessions.
+-- The stages of a session as a run of marks, so that the laws of marks and of lives hold of sessions.
 use Rattle.std.specs.Prelude.{◌≡◌, ◌⊎◌, ℕ, false, List, [], ◌++◌, IsTrue}
 use Rattle.std.specs.List.{AllByRecursion}
 use Rattle.disk_model.specs.declared.disk.Disk as disk
@@ -14,7 +14,7 @@ abbrev pub WholeIsARun : {D : Type 0} → disk.Ghosts D → Type 0
 WholeIsARun {D} g = (naming : Naming) (read out : List ℕ) (old : Stage D) (stages : List (Stage D)) (end : Stage D) (new : Parts D)
     → AnswersAll g naming read out old stages end → DropsStreams g end.archive new → IsRunOfMarks g (mark_at g.seen old) (marks_of g.seen stages end new)
 
--- So are those of a script that could not be read on.
+-- The same for a script that could not be read on.
 abbrev pub FrontIsARun : {D : Type 0} → disk.Ghosts D → Type 0
 FrontIsARun {D} g = (naming : Naming) (read out : List ℕ) (old : Stage D) (stages : List (Stage D)) (end : Stage D) (new : Parts D)
     → AnswersWhole g naming read out old stages end → DropsStreams g end.archive new → IsRunOfMarks g (mark_at g.seen old) (marks_of g.seen stages end new)

@@ -103,8 +103,8 @@ pub record AnswersAll {D : Type 0} (g : disk.Ghosts D) (naming : Naming) (read o
   pub moves : Moves g (last_stage old stages) (said_last ending) last new
   pub text : out ≡ replies ++ last
 
--- Where reading stopped within a command: not all of its line is there, or not all of the bytes after it; of these, those
--- that are there may have been taken.
+-- Reading stopped within a command: not all of its line is there, or not all
+-- of the bytes after it; of these, those that are there may have been taken.
 abbrev pub TakesFront : {D : Type 0} → disk.Ghosts D → Parts D → Said → List ℕ → Parts D → Type 0
 TakesFront g old (part_of slot n) raw new = (taken : Result (Unit {0}) ArchiveFault) × Takes g old slot raw taken new
 TakesFront g old _ raw new = ⊥
@@ -146,7 +146,7 @@ pub record Streams : Type 0 where
   pub lost : ℕ
   pub lost' : ℕ
 
--- the same, told by an input's and an output's members and ends
+-- the same, by an input's and an output's members and ends
 abbrev pub streams_of : {I : Type 0} {O : Type 0} → input.Ghosts I → output.Ghosts O → I → I → O → O → Streams
 streams_of i o input input' output output' = record {
   input = i.remaining input;
@@ -198,9 +198,9 @@ pub record StopsUnheard {D : Type 0} (g : disk.Ghosts D) (naming : Naming) (t : 
   pub found : IsFoundAfterAStop g old stages end new
   pub lost : HasRisen t.lost t.lost'
 
--- Whether a session answered to the end, or why it did not: on Ok all that the input had was read and answered; if it
--- could not be read on, the commands that are whole in the bytes that were read were answered; if the output failed, the session stops
--- unheard. In each case the stages say what an opening finds after a stop.
+-- Whether a session answered to the end, or why it did not: on Ok all of the input was read and answered; if it could not be read on, the
+-- commands that are whole in the bytes that were read were answered; if the output failed, the session stops unheard. In each case the
+-- stages give the cases that an opening finds after a stop.
 abbrev pub SessionEnds : {D : Type 0} → disk.Ghosts D → Naming → Streams → Stage D → Parts D → Result (Unit {0}) SessionFault → Type 0
 SessionEnds {D} g naming t old new (Ok u) =
     (read : List ℕ) × (out : List ℕ) × (stages : List (Stage D)) × (end : Stage D) × Consumes t.input t.input' read × IsAtEnd t.input' × Appends t.taken t.taken' out

@@ -12,7 +12,7 @@ use Rattle.script_streams.specs.Replies.{no_reply}
 -- the state when a line has been answered
 pub record Stage (D : Type 0) : Type 0 where
   pub archive : Parts D
-  -- what lines that were answered `no Disk` would have left
+  -- the cases that lines that were answered `no Disk` would have left
   pub in_doubt : List Durable
 
 abbrev pub mark_at : {D : Type 0} → (D → List ℕ) → Stage D → Mark D

@@ -40,7 +40,7 @@ abbrev pub StoresOrNot : Result StreamFacts (List ℕ) → Stated → Option (Li
 StoresOrNot found want file file' cut x (Some n) y = AddsCase found want file file' cut x n y
 StoresOrNot found want file file' cut x None y = y ≡ x
 
--- Where FILE is cut, if it is: only if so many bytes may be kept at most, and at that many, or at whole blocks.
+-- The place at which FILE is cut, if it is: only if so many bytes may be kept at most, and at that many, or at whole blocks.
 abbrev pub IsCutShort : Option ℕ → Option ℕ → Type 0
 IsCutShort most None = Unit {0}
 IsCutShort most (Some kept) = (n : ℕ) × (most ≡ Some n) × (kept ≤ n) × ((kept ≡ n) ⊎ (kept % 4096 ≡ 0))
@@ -50,9 +50,9 @@ abbrev pub no_stream : Said → Option StreamFacts
 no_stream what = None
 
 -- If a case is stored, its number is the reply to the stream's end; if none is, the stream is refused when it begins, or later.
-abbrev pub TellsStored : Option ℕ → List ℕ → List ℕ → Type 0
-TellsStored (Some n) first reply = reply ≡ end_reply (Ok n)
-TellsStored None first reply = ((reason : List ℕ) × (reply ≡ no_reply reason)) ⊎ ((reply ≡ []) × ((reason : List ℕ) × (first ≡ no_reply reason)))
+abbrev pub PrintsStored : Option ℕ → List ℕ → List ℕ → Type 0
+PrintsStored (Some n) first reply = reply ≡ end_reply (Ok n)
+PrintsStored None first reply = ((reason : List ℕ) × (reply ≡ no_reply reason)) ⊎ ((reply ≡ []) × ((reason : List ℕ) × (first ≡ no_reply reason)))
 
 -- A case that goes so that the stream finds room: the moment when it does, its number, the reply that its deletion would have as a
 -- line, and the moment then.
@@ -114,12 +114,12 @@ pub record IsStoreCourse {D : Type 0} (asked : Option Policy) (found : Result St
   pub stores : StoresOrNot found (stated_in options) file file' c.cut c.filled.holds c.stored c.ended.holds
   -- a case is stored only if nothing is in doubt
   pub sure : (n : ℕ) → c.stored ≡ Some n → c.filled.in_doubt ≡ []
-  pub tells : TellsStored c.stored c.first c.reply
+  pub states : PrintsStored c.stored c.first c.reply
   -- if cases may go, the stream is refused since no data block is free only if all cases that are left are pinned
   pub spent : options.fit ≡ true → c.reply ≡ no_reply (codes "SpaceFull") → filter may_go (map case_in c.filled.holds.cases) ≡ []
-  -- FILE is cut only if that is asked for, and only where no more of it may be kept
+  -- FILE is cut only if that is asked for, and only if no more of it may be kept
   pub short : IsCutShort options.cut c.cut
-  -- only where the end is answered `no Disk` is a case in doubt
+  -- a case is in doubt only if the end is answered `no Disk`
   pub doubts : List Durable
   pub in_doubt : c.ended.in_doubt ≡ doubts ++ c.filled.in_doubt
   pub doubted : (doubts ≡ []) ⊎ ((c.reply ≡ no_reply (codes "Disk")) × AllByRecursion (λ (z : Durable). (n : ℕ) × AddsCase found (stated_in options) file file' c.cut c.filled.holds n z) doubts)
@@ -143,9 +143,12 @@ pub record IsStoreSafe {D : Type 0} (g : disk.Ghosts D) (t : Streams) (asked : O
   pub text : written ++ unwritten ≡ course.told ++ ((course.first ++ (flat_map gone_line course.gone ++ (cut_text course.cut course.stored ++ course.reply))) ++ (course.labels ++ course.pins))
   pub disk : after ≡ course.end.disk
   pub answered : IsTold r course.stored unwritten
-  -- a stop at any moment since the opening began leaves what one before it could have left, or opens as one of these moments
+  -- a stop at any moment since the opening began leaves a disk that one before it could have left, or opens as one of these moments
   pub opening : (left : List ℕ) → g.left_since after (g.clock before) left
       → g.may_leave before left ⊎ FindsSince left course.begin (course.retired ∷ (moments_of course.gone ++ (course.filled ∷ course.ended ∷ course.labelled ∷ course.end ∷ [])))
+  -- a stop since an earlier moment leaves a disk that one until the opening or right before it could have left, or opens as one of these
+  pub earlier : (time : ℕ) (left : List ℕ) → time ≤ g.clock before → g.left_since after time left
+      → g.left_since before time left ⊎ (g.may_leave before left ⊎ FindsSince left course.begin (course.retired ∷ (moments_of course.gone ++ (course.filled ∷ course.ended ∷ course.labelled ∷ course.end ∷ []))))
   pub safe : AreSafe g after course.begin (course.retired ∷ (moments_of course.gone ++ (course.filled ∷ course.ended ∷ course.labelled ∷ course.end ∷ [])))
 
 -- The same with the stream that is admitted by the contents of the archive when the store begins.

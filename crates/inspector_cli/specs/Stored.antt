@@ -1,4 +1,4 @@
--- What becomes of a case that was answered `stored N`.
+-- The fate of a case that was answered `stored N`.
 use Rattle.std.specs.Prelude.{◌≡◌, ◌⊎◌, ℕ, ◌^◌, ◌<◌, List, [], ◌∷◌, ◌++◌, length, Some, Ok, IsTrue}
 use Rattle.std.specs.List.{flat_map, AllByRecursion}
 use Rattle.disk_model.specs.declared.disk.Disk as disk

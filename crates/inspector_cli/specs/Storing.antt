@@ -33,7 +33,7 @@ use Rattle.inspector_cli.specs.Stated.{HasOtherDigest, IsStated}
 use Rattle.inspector_cli.specs.Fitting.{Going, IsGoing, IsServed, IsShort, IsUnder, RefusedIfSpent, TakesWhile, cut_of, going_text}
 use Rattle.inspector_cli.specs.Session.{Streams}
 use Rattle.inspector_cli.specs.Stages.{Stage, Moves, IsFoundAfterAStop}
-use Rattle.script_streams.specs.Replies.{Telling, TellsText, no_reply}
+use Rattle.script_streams.specs.Replies.{Printing, PrintsText, no_reply}
 use Rattle.inspector_cli.specs.Reply.{Begins, Ends, Retires, Pins, Labels}
 use Rattle.stream_names.specs.Streams.{exec_stream, core_stream}
 use Rattle.archive_replies.specs.Reasons.{reason_of}
@@ -50,7 +50,7 @@ line_stream naming _ = Err (codes "BadLine")
 abbrev pub Taking : Type 1
 Taking = List ℕ → Result (Unit {0}) ArchiveFault → Type 0
 
--- what is true of bytes that are taken in one step
+-- a property of bytes that are taken in one step
 abbrev pub Adding : Type 1
 Adding = List ℕ → Type 0
 
@@ -60,8 +60,8 @@ abbrev pub KeepsOf : Stated → Option (List ℕ) → Option (List ℕ) → Opti
 KeepsOf want file file' None raw = Consumes file file' raw × IsAtEnd file' × IsStated want raw
 KeepsOf want file file' (Some kept) raw = (more : List ℕ) × Consumes file file' (raw ++ more) × (0 < length more) × (length raw ≡ kept) × (0 < kept) × IsUnder want.length kept
 
--- How a file differs from what was stated of it. It ends with these bytes, which are fewer; or these are as many, and more follow; or it ends
--- with these, which are as many, if that was stated, and have another SHA-256.
+-- How a file differs from its stated facts. It ends with these bytes, which are fewer; or these are as many, and more follow; or it ends with
+-- these, which are as many, if a length was stated, and have another SHA-256.
 abbrev pub DiffersBy : Stated → Option (List ℕ) → Option (List ℕ) → List ℕ → Difference → Type 0
 DiffersBy want file file' raw Short = Consumes file file' raw × IsAtEnd file' × (n : ℕ) × (want.length ≡ Some n) × (length raw < n)
 DiffersBy want file file' raw Long = (more : List ℕ) × Consumes file file' (raw ++ more) × (0 < length more) × (want.length ≡ Some (length raw))
@@ -82,8 +82,8 @@ TakesFile want file file' fails fails' T (Err (Cut kept)) =
 TakesFile want file file' fails fails' T (Err (Differs f)) =
     (raw : List ℕ) × DiffersBy want file file' raw f × T raw (Ok tt)
 
--- the next bytes of a file are taken after those so far, as many as is said, or there are none; or they are refused, or could not be
--- read; or they are there, and are not taken
+-- the next bytes of a file are taken after those so far, as many as the number says, or there are no more; or they are refused, or could
+-- not be read; or they are there, and are not taken
 abbrev pub TakesMore : Option (List ℕ) → Option (List ℕ) → ℕ → ℕ → List ℕ → Adding → Taking → Result ℕ TakeStop → Type 0
 TakesMore file file' fails fails' so_far A T (Ok zero) =
     Consumes file file' [] × IsAtEnd file' × (fails' ≡ fails) × T so_far (Ok tt) × A []
@@ -107,7 +107,8 @@ LooksPast file file' fails fails' stop (Err why) =
     ((why ≡ File) × Consumes file file' [] × HasRisen fails fails')
     ⊎ ((why ≡ stop) × (raw : List ℕ) × Consumes file file' raw × (0 < length raw) × (fails' ≡ fails))
 
--- What of the bytes so far remains true where cases went: they are taken, or the stream was refused, since a case could not be deleted.
+-- The part of the promise for the bytes so far that remains true if cases went:
+-- they are taken, or the stream was refused, since a case could not be deleted.
 abbrev pub AfterRoom : Taking → List ℕ → Result (Unit {0}) TakeStop → Type 0
 AfterRoom T so_far (Ok u) = T so_far (Ok tt)
 AfterRoom T so_far (Err File) = ⊥
@@ -116,9 +117,9 @@ AfterRoom T so_far (Err (Cut kept)) = ⊥
 AfterRoom T so_far (Err (Differs f)) = ⊥
 
 -- Cases go, and are printed, while this much was taken.
-abbrev pub MakesRoom : {D : Type 0} → disk.Ghosts D → Order → Parts D → List ℕ → List (Going D) → Telling → Parts D → Result (Unit {0}) TakeStop → Type 0
+abbrev pub MakesRoom : {D : Type 0} → disk.Ghosts D → Order → Parts D → List ℕ → List (Going D) → Printing → Parts D → Result (Unit {0}) TakeStop → Type 0
 MakesRoom {D} g order begun so_far gone t new r =
-    (more : List (Going D)) × TellsText t (flat_map going_text more) × AfterRoom (λ raw v. TakesWhile g order begun raw (gone ++ more) v new) so_far r
+    (more : List (Going D)) × PrintsText t (flat_map going_text more) × AfterRoom (λ raw v. TakesWhile g order begun raw (gone ++ more) v new) so_far r
 
 -- the answer of a step that may let a case go, as that of the whole
 abbrev pub stop_of : Result Bool TakeStop → Result (Unit {0}) TakeStop
@@ -126,18 +127,18 @@ stop_of (Ok b) = Ok tt
 stop_of (Err stop) = Err stop
 
 -- the same of one case at most
-abbrev pub GoesNext : {D : Type 0} → disk.Ghosts D → Order → Parts D → List ℕ → List (Going D) → Telling → Parts D → Result Bool TakeStop → Type 0
+abbrev pub GoesNext : {D : Type 0} → disk.Ghosts D → Order → Parts D → List ℕ → List (Going D) → Printing → Parts D → Result Bool TakeStop → Type 0
 GoesNext g order begun so_far gone t new r = MakesRoom g order begun so_far gone t new (stop_of r)
 
 -- the next bytes of a file are taken, and cases go, and are printed
-abbrev pub TakesNext : {D : Type 0} → disk.Ghosts D → Order → Option (List ℕ) → Option (List ℕ) → ℕ → ℕ → Parts D → List ℕ → List (Going D) → Bool → Adding → Telling → Parts D → Result ℕ TakeStop → Type 0
+abbrev pub TakesNext : {D : Type 0} → disk.Ghosts D → Order → Option (List ℕ) → Option (List ℕ) → ℕ → ℕ → Parts D → List ℕ → List (Going D) → Bool → Adding → Printing → Parts D → Result ℕ TakeStop → Type 0
 TakesNext {D} g order file file' fails fails' begun so_far gone fit A t new r =
-    (more : List (Going D)) × TellsText t (flat_map going_text more) × TakesMore file file' fails fails' so_far A (λ raw v. TakesWhile g order begun raw (gone ++ more) v new) r × (fit ≡ false → more ≡ [])
+    (more : List (Going D)) × PrintsText t (flat_map going_text more) × TakesMore file file' fails fails' so_far A (λ raw v. TakesWhile g order begun raw (gone ++ more) v new) r × (fit ≡ false → more ≡ [])
 
 -- all bytes of a file are taken, or the first that are refused, and cases go, and are printed, if that is asked for
-abbrev pub TakesAll : {D : Type 0} → disk.Ghosts D → Order → Bool → Stated → Option (List ℕ) → Option (List ℕ) → ℕ → ℕ → Parts D → Telling → Parts D → Result (Unit {0}) TakeStop → Type 0
+abbrev pub TakesAll : {D : Type 0} → disk.Ghosts D → Order → Bool → Stated → Option (List ℕ) → Option (List ℕ) → ℕ → ℕ → Parts D → Printing → Parts D → Result (Unit {0}) TakeStop → Type 0
 TakesAll {D} g order fit want file file' fails fails' old t new r =
-    (gone : List (Going D)) × TellsText t (flat_map going_text gone) × TakesFile want file file' fails fails' (λ raw v. TakesWhile g order old raw gone v new) r × (fit ≡ false → gone ≡ [])
+    (gone : List (Going D)) × PrintsText t (flat_map going_text gone) × TakesFile want file file' fails fails' (λ raw v. TakesWhile g order old raw gone v new) r × (fit ≡ false → gone ≡ [])
 
 -- the bytes of a file are taken, and then cases may go for the record of its case: of a file that was cut, one may not be deleted then
 abbrev pub FillsFile : Option ℕ → Stated → Option (List ℕ) → Option (List ℕ) → ℕ → ℕ → Taking → Result (Unit {0}) TakeStop → Type 0
@@ -150,9 +151,9 @@ FillsFile most want file file' fails fails' T (Err (Refused fault)) =
     ⊎ ((n : ℕ) × (most ≡ Some n) × (kept : ℕ) × (raw : List ℕ) × KeepsOf want file file' (Some kept) raw × T raw (Err fault))
 
 -- all of that, with the cases that go, and are printed
-abbrev pub FillsAll : {D : Type 0} → disk.Ghosts D → Order → Bool → Option ℕ → Stated → Option (List ℕ) → Option (List ℕ) → ℕ → ℕ → Parts D → Telling → Parts D → Result (Unit {0}) TakeStop → Type 0
+abbrev pub FillsAll : {D : Type 0} → disk.Ghosts D → Order → Bool → Option ℕ → Stated → Option (List ℕ) → Option (List ℕ) → ℕ → ℕ → Parts D → Printing → Parts D → Result (Unit {0}) TakeStop → Type 0
 FillsAll {D} g order fit most want file file' fails fails' old t new r =
-    (gone : List (Going D)) × TellsText t (flat_map going_text gone) × FillsFile most want file file' fails fails' (λ raw v. TakesWhile g order old raw gone v new) r × (fit ≡ false → gone ≡ [])
+    (gone : List (Going D)) × PrintsText t (flat_map going_text gone) × FillsFile most want file file' fails fails' (λ raw v. TakesWhile g order old raw gone v new) r × (fit ≡ false → gone ≡ [])
     × IsShort g order fit most old gone (cut_of r)
 
 -- why a stream is refused that is not the one that was stated
@@ -212,7 +213,7 @@ pub record StoresStream {D : Type 0} (g : disk.Ghosts D) (order : Order) (fit : 
   pub goes_on : RestReplies g order most want file file' fails fails' mid accepted gone cut filled rest new stored
   -- a stream for which cases may go is refused since there is no room only if no case may go any more
   pub spent : fit ≡ true → RefusedIfSpent order rest (state_of filled)
-  -- a file is cut only if that is asked for, and only where no more of it may be kept
+  -- a file is cut only if that is asked for, and only if no more of it may be kept
   pub short : IsShort g order fit most mid gone cut
   pub text : replies ≡ first ++ (flat_map going_text gone ++ (cut_text cut stored ++ rest))
 
@@ -232,7 +233,7 @@ abbrev pub MayBeginNow : ArchiveState → Result StreamFacts (List ℕ) → Type
 MayBeginNow s (Err reason) = ⊥
 MayBeginNow s (Ok stream) = (s.stopped ≡ false) × (is_named stream.origin.name s.cases ≡ false)
 
--- The policy by which cases are retired: the one that was asked for, or none, where the stream can't begin after it.
+-- The policy by which cases are retired: the one that was asked for, or none, if the stream can't begin after it.
 abbrev pub IsChosen : ArchiveState → Option Policy → Result StreamFacts (List ℕ) → Option Policy → Type 0
 IsChosen s asked found None = (asked ≡ None) ⊎ ((policy : Policy) × (asked ≡ Some policy) × CannotBegin s policy found)
 IsChosen s asked found (Some policy) = asked ≡ Some policy
@@ -242,24 +243,24 @@ pub record RetiresForStream {D : Type 0} (g : disk.Ghosts D) (old : Parts D) (as
   pub policy : Option Policy
   pub chosen : IsChosen (state_of old) asked found policy
   pub retires_first : RetiresFirst g old policy told new made
-  -- where cases were retired, the stream may begin
+  -- if cases were retired, the stream may begin
   pub needed : (p : Policy) → policy ≡ Some p → made ≡ true → MayBeginNow (state_of new) found
 
--- The same of a stream of this name: nothing is done where a case that stays has the name.
+-- The same of a stream of this name: nothing is done if a case that stays has the name.
 abbrev pub RetiresForName : {D : Type 0} → disk.Ghosts D → Parts D → Policy → List ℕ → List ℕ → Parts D → Bool → Type 0
 RetiresForName g old policy name told new made =
     ((told ≡ []) × (new ≡ old) × (made ≡ true) × KeepsTheName (state_of old) policy name true × (is_named name (state_of old).cases ≡ true))
     ⊎ ((answered : Retires g old policy told new) × (made ≡ is_ok answered.0) × (made ≡ true → ((state_of new).stopped ≡ false) × (is_named name (state_of new).cases ≡ false)))
 
--- The pin of the case that was stored: what `pin` does in a session, and whether it was answered other than `no REASON`. Where no
--- pin is asked for, and where no case is stored, nothing is done and nothing is said.
+-- The pin of the case that was stored: the effect of `pin` in a session, and whether it was answered other than `no REASON`. If no pin is
+-- asked for, or no case is stored, nothing is done and nothing is printed.
 abbrev pub PinsCase : {D : Type 0} → disk.Ghosts D → Parts D → Option ℕ → Bool → List ℕ → Parts D → Bool → Type 0
 PinsCase g old (Some seq) true reply new done = (answered : Pins g old seq true reply new) × (done ≡ is_ok answered.0)
 PinsCase g old (Some seq) false reply new done = (reply ≡ []) × (new ≡ old) × (done ≡ true)
 PinsCase g old None pin reply new done = (reply ≡ []) × (new ≡ old) × (done ≡ true)
 
--- The label of the case that was stored: what `label` does in a session, and whether it was answered other than `no REASON`. Where
--- no label is asked for, and where no case is stored, nothing is done and nothing is said.
+-- The label of the case that was stored: the effect of `label` in a session, and whether it was answered other than `no REASON`. If no
+-- label is asked for, or no case is stored, nothing is done and nothing is printed.
 abbrev pub LabelsCase : {D : Type 0} → disk.Ghosts D → Parts D → Option ℕ → Option (List ℕ) → List ℕ → Parts D → Bool → Type 0
 LabelsCase g old (Some seq) (Some label) reply new done = (answered : Labels g old seq label reply new) × (done ≡ is_ok answered.0)
 LabelsCase g old (Some seq) None reply new done = (reply ≡ []) × (new ≡ old) × (done ≡ true)
@@ -289,7 +290,7 @@ pub record Options : Type 0 where
 abbrev pub options_asked : StoreOptions → Options
 options_asked options = record { label = label_asked options.label; pin = options.pin; fit = options.fit; order = options.order; cut = options.cut; length = options.length; digest = options.digest; burst = options.burst }
 
--- what they state of the stream
+-- the facts that they state about the stream
 abbrev pub stated_in : Options → Stated
 stated_in options = record { length = options.length; digest = options.digest }
 
@@ -369,8 +370,8 @@ abbrev pub StopsStore : {D : Type 0} → (g : disk.Ghosts D) → (t : Streams) �
 StopsStore g t old asked found options replies end outcome s new =
     StoreStages g options.order old s.retires_first.policy s.told s.retired s.stores.gone s.stores.filled s.stores.rest s.ended (said_label outcome.stored options.label) s.named s.labelled (said_pin outcome.stored options.pin) s.last end new
 
--- The result of the store, if the replies were written; or the output failed, and has a front of them. A stream that is left in
--- slot 0 is dropped. In each case the stages say what an opening finds after a stop.
+-- The result of the store, if the replies were written; or the output failed, and has a front of them. A stream that is left in slot 0 is
+-- dropped. In each case the stages give the cases that an opening finds after a stop.
 abbrev pub StoreEnds : {D : Type 0} → disk.Ghosts D → Streams → Stage D → Option Policy → Result StreamFacts (List ℕ) → Options → Parts D → Result StoreOutcome SessionFault → Type 0
 StoreEnds {D} g t old asked found options new (Ok outcome) =
     (replies : List ℕ) × (end : Stage D) × (dropped : Result (Unit {0}) ArchiveFault)
@@ -393,7 +394,7 @@ RetiresForAStreamAlone {D} g = (file file' : Option (List ℕ)) (fails fails' : 
     → outcome.retired_first ≡ true
     → (s.retired ≡ old) ⊎ (s.stores.accepted ≡ true) ⊎ (s.stores.first ≡ no_reply (codes "OutOfMemory"))
 
--- A policy that was asked for is left out only where the stream is refused.
+-- A policy that was asked for is left out only if the stream is refused.
 abbrev pub RetiresUnlessRefused : {D : Type 0} → disk.Ghosts D → Type 0
 RetiresUnlessRefused {D} g = (file file' : Option (List ℕ)) (fails fails' : ℕ) (old : Parts D) (asked : Option Policy) (found : Result StreamFacts (List ℕ)) (options : Options)
     (replies : List ℕ) (end : Parts D) (outcome : StoreOutcome) (policy : Policy)

@@ -98,8 +98,8 @@ parts_in slot list = held_behind slot None list
 abbrev pub HasLine : List ℕ → List ℕ → Type 0
 HasLine line reply = (front : List ℕ) × (rest : List ℕ) × (reply ≡ front ++ (line ++ rest))
 
--- what may have taken the case of a number away, by the reply: a deletion that was not refused, a retirement that says so,
--- or either where the disk failed
+-- the calls that may have taken the case of a number away, by the reply: a deletion that was not refused, a retirement that says so, or
+-- either of them if the disk failed
 abbrev pub MayDrop : ℕ → Said → List ℕ → Type 0
 MayDrop n (delete_of seq) reply = (seq ≡ n) × ((reply ≡ ok_reply) ⊎ (reply ≡ no_reply (codes "Disk")))
 MayDrop n (retire_by policy) reply = HasLine (dropped_line n) reply ⊎ (reply ≡ no_reply (codes "Disk"))

@@ -26,8 +26,8 @@ use std::alloc::Global;
 ///
 /// # Errors
 ///
-/// `Open` where the archive could not be opened: nothing is written then, and the output is not touched. `Session` with
-/// `WriteFailed` where the output failed: it has a front of the reply.
+/// `Open` if the archive could not be opened: nothing is written then, and the output is not touched. `Session` with
+/// `WriteFailed` if the output failed: it has a front of the reply.
 pub fn open_and_ask<O: Output, D: Disk>(
     alloc: Global,
     disk: D,
@@ -73,7 +73,7 @@ fn open_then_ask<O: Output, D: Disk>(
     }
 }
 
-// A session of one question. Says whether it is done; if not, it is refused.
+// A session of one question. Returns whether it is done; if not, it is refused.
 fn ask_alone<O: Output, D: Disk>(
     alloc: Global,
     question: Question,

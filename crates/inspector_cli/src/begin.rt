@@ -5,28 +5,28 @@ ghost use Rattle.script_lines.specs.Said.{said};
 ghost use Rattle.inspector_cli.specs.Reply.{Begins};
 ghost use Rattle.inspector_cli.specs.Storing.{line_stream};
 ghost use Rattle.stream_names.specs.Commands.{stream_found};
-ghost use Rattle.script_streams.specs.Replies.{TellsReply, telling};
+ghost use Rattle.script_streams.specs.Replies.{PrintsReply, printing};
 
-use archive_replies::tell_begun;
+use archive_replies::print_begun;
 use disk_model::Disk;
 use intake::Archive;
 use script_lines::{Command, Request, parse_text};
-use script_streams::{Output, Reply, tell_no};
+use script_streams::{Output, Reply, print_no};
 use stream_names::{Naming, NewStream, copied, core_stream, exec_stream};
 
-// Answers a line that begins this stream, or has this wrong with its name. Says whether the stream has begun.
+// Answers a line that begins this stream, or whose name has this fault. Returns whether the stream has begun.
 pub(crate) fn answer_begin<O: Output, D: Disk>(
     slot: u8,
     found: Result<NewStream, &'static [u8]>,
     reply: &mut Reply<'_, O>,
     archive: &mut Archive<D>,
 ) -> bool
-    ensures { TellsReply (telling O.Output reply.old reply.new) (λ text. Begins D.Disk archive.old slot (stream_found found.entry) text archive.new result) }
+    ensures { PrintsReply (printing O.Output reply.old reply.new) (λ text. Begins D.Disk archive.old slot (stream_found found.entry) text archive.new result) }
 {
     match found {
         Ok(stream) => begin_stream(slot, stream, reply, archive),
         Err(reason) => {
-            tell_no(reply, reason);
+            print_no(reply, reason);
             false
         }
     }
@@ -39,7 +39,7 @@ fn begin_stream<O: Output, D: Disk>(
     reply: &mut Reply<'_, O>,
     archive: &mut Archive<D>,
 ) -> bool
-    ensures { TellsReply (telling O.Output reply.old reply.new) (λ text. Begins D.Disk archive.old slot (stream_found (Ok stream)) text archive.new result) }
+    ensures { PrintsReply (printing O.Output reply.old reply.new) (λ text. Begins D.Disk archive.old slot (stream_found (Ok stream)) text archive.new result) }
 {
     let NewStream {
         kind,
@@ -51,7 +51,7 @@ fn begin_stream<O: Output, D: Disk>(
     let shown = copied(name.as_slice());
     let outcome = archive.begin(slot, kind, name, pid, signal, time);
     let is_begun = outcome.is_ok();
-    tell_begun(reply, shown.as_slice(), outcome);
+    print_begun(reply, shown.as_slice(), outcome);
     is_begun
 }
 

@@ -2,7 +2,7 @@
 ghost use Rattle.std.specs.Prelude.{◌≡◌, ◌+◌, ◌<◌, ◌≤◌, List, ℕ, length};
 ghost use Rattle.disk_model.specs.Places.{part};
 ghost use Rattle.intake.specs.Ranges.{AreWithin, bytes_in, RangesReply};
-ghost use Rattle.script_streams.specs.Replies.{telling};
+ghost use Rattle.script_streams.specs.Replies.{printing};
 ghost use Rattle.inspector_cli.specs.Copying.{Copies, WritesOut, CopiesImage, CopyEnds, HasPlace, fault_of};
 
 use disk_model::Disk;
@@ -32,7 +32,7 @@ pub enum CopyFault {
     Output,
 }
 
-/// What ends a copy before its end.
+/// Why a copy ended before its end.
 #[derive(Clone, Copy, Debug)]
 pub(crate) enum Halt {
     /// The disk failed.
@@ -41,14 +41,14 @@ pub(crate) enum Halt {
     Output,
 }
 
-/// Opens the archive on a disk, writes the image of a case to an output, and hands the disk back. The image is read and written
-/// in pieces of a fixed size, so the memory that it takes does not grow with the image; what keeps others from the disk
-/// keeps them from it until the last piece is written.
+/// Opens the archive on a disk, writes the image of a case to an output, and returns the
+/// disk. The image is read and written in pieces of a fixed size, so the memory that it takes
+/// does not grow with the image; the disk's lock is kept until the last piece is written.
 ///
 /// # Errors
 ///
-/// `Open` where the archive could not be opened, and `Archive` with `NoCase` or `OutOfMemory`: nothing was written. `Disk` and
-/// `Output` where one of these failed: the output has a front of the image.
+/// `Open` if the archive could not be opened, and `Archive` with `NoCase` or `OutOfMemory`: nothing was written. `Disk` and
+/// `Output` if one of these failed: the output has a front of the image.
 pub fn copy_image<D: Disk, O: Output>(
     alloc: Global,
     disk: D,
@@ -87,7 +87,7 @@ fn copy_of<D: Disk, O: Output>(
     }
 }
 
-// Where an image lies, and memory for its pieces.
+// The place of an image, and memory for its pieces.
 fn place_of<D: Disk>(
     alloc: Global,
     archive: &Archive<D>,
@@ -133,7 +133,7 @@ fn copy_ranges<D: Disk, O: Output>(
 ) -> Result<(), Halt>
     requires within { AreWithin (D.size disk.old) ranges.now }
     requires room { 0 < length buffer.old }
-    ensures { Copies D.Disk disk.old disk.new (telling O.Output reply.old reply.new)
+    ensures { Copies D.Disk disk.old disk.new (printing O.Output reply.old reply.new)
         (λ (b : List ℕ). bytes_in b ranges.now) result }
 {
     for range in ranges {
@@ -151,7 +151,7 @@ fn copy_range<D: Disk, O: Output>(
 ) -> Result<(), Halt>
     requires within { range.start + range.length ≤ D.size disk.old }
     requires room { 0 < length buffer.old }
-    ensures { Copies D.Disk disk.old disk.new (telling O.Output reply.old reply.new)
+    ensures { Copies D.Disk disk.old disk.new (printing O.Output reply.old reply.new)
         (λ (b : List ℕ). part b range.start range.length) result }
 {
     let mut done = 0;
@@ -176,12 +176,12 @@ fn copy_piece<D: Disk, O: Output>(
     reply: &mut Reply<'_, O>,
 ) -> Result<(), Halt>
     requires { start + length piece.old ≤ D.size disk.old }
-    ensures { Copies D.Disk disk.old disk.new (telling O.Output reply.old reply.new)
+    ensures { Copies D.Disk disk.old disk.new (printing O.Output reply.old reply.new)
         (λ (b : List ℕ). part b start (length piece.old)) result }
 {
     match disk.read_at(start, piece) {
         Ok(()) => {
-            reply.tell(piece);
+            reply.print(piece);
             if reply.has_failed() {
                 Err(Halt::Output)
             } else {

@@ -4,20 +4,20 @@ ghost use Rattle.std.specs.List.{flat_map};
 ghost use Rattle.archive_replies.specs.Texts.{dropped_line, unmet_line};
 ghost use Rattle.intake.specs.Calls.{DeleteCall};
 ghost use Rattle.intake.specs.Durable.{Durable};
-ghost use Rattle.script_streams.specs.Replies.{TellsReply, TellsText, telling};
+ghost use Rattle.script_streams.specs.Replies.{PrintsReply, PrintsText, printing};
 ghost use Rattle.stream_names.specs.declared.naming.Naming.{Naming};
 ghost use Rattle.inspector_cli.specs.Asking.{line_streams};
 ghost use Rattle.inspector_cli.specs.Deleting.{AreLines, DeletesAlone, DeletesAsLines, DeletesInTurn, IsLifeOfLines, IsSessionOfLines, TriesEach, told_of};
 ghost use Rattle.inspector_cli.specs.Life.{LifeEnds};
 
-use crate::fitting::tell_gone;
+use crate::fitting::print_gone;
 use crate::laws::a_session_is_crash_safe;
 use crate::run::close_streams;
 use crate::session::{LifeFault, SessionFault};
 use archive_replies::reason;
 use disk_model::Disk;
 use intake::{Archive, ArchiveFault, Settings, calls_lead_from_mark_to_mark, found_after_a_stop};
-use script_streams::{Output, Reply, tell_no, tell_ok};
+use script_streams::{Output, Reply, print_no, print_ok};
 use std::alloc::Global;
 
 /// Opens the archive on a disk, deletes the cases of these numbers in their order, each as the line `delete N` of a session does, and
@@ -71,7 +71,7 @@ fn open_then_delete<O: Output, D: Disk>(
     }
 }
 
-// Deletes the cases, as a session of such lines. Says whether all are gone; if not, one is refused.
+// Deletes the cases, as a session of such lines. Returns whether all are gone; if not, one is refused.
 fn delete_alone<O: Output, D: Disk>(
     numbers: &[u32],
     unmet: bool,
@@ -100,27 +100,27 @@ fn delete_in_turn<O: Output, D: Disk>(
     reply: &mut Reply<'_, O>,
     archive: &mut Archive<D>,
 ) -> bool
-    ensures { TellsReply (telling O.Output reply.old reply.new) (λ text. DeletesInTurn D.Disk archive.old numbers.now unmet text result archive.new) }
+    ensures { PrintsReply (printing O.Output reply.old reply.new) (λ text. DeletesInTurn D.Disk archive.old numbers.now unmet text result archive.new) }
 {
     match delete_each(numbers, reply, archive) {
         Ok(()) => {
-            tell_unmet(unmet, reply);
-            tell_ok(reply);
+            print_unmet(unmet, reply);
+            print_ok(reply);
             true
         }
         Err(fault) => {
-            tell_no(reply, reason(fault));
+            print_no(reply, reason(fault));
             false
         }
     }
 }
 
 // Prints that the limits do not hold, if that is so.
-fn tell_unmet<O: Output>(unmet: bool, reply: &mut Reply<'_, O>)
-    ensures { TellsText (telling O.Output reply.old reply.new) (unmet_line unmet) }
+fn print_unmet<O: Output>(unmet: bool, reply: &mut Reply<'_, O>)
+    ensures { PrintsText (printing O.Output reply.old reply.new) (unmet_line unmet) }
 {
     if unmet {
-        reply.tell(b"unmet\n");
+        reply.print(b"unmet\n");
     }
 }
 
@@ -130,7 +130,7 @@ fn delete_each<O: Output, D: Disk>(
     reply: &mut Reply<'_, O>,
     archive: &mut Archive<D>,
 ) -> Result<(), ArchiveFault>
-    ensures { TellsReply (telling O.Output reply.old reply.new) (λ text. (gone : List ℕ) × TriesEach D.Disk archive.old numbers.now result gone archive.new × (text ≡ flat_map dropped_line gone)) }
+    ensures { PrintsReply (printing O.Output reply.old reply.new) (λ text. (gone : List ℕ) × TriesEach D.Disk archive.old numbers.now result gone archive.new × (text ≡ flat_map dropped_line gone)) }
 {
     for seq in numbers {
         delete_one(*seq, reply, archive)?;
@@ -145,9 +145,9 @@ fn delete_one<O: Output, D: Disk>(
     archive: &mut Archive<D>,
 ) -> Result<(), ArchiveFault>
     ensures deletes { DeleteCall D.Disk archive.old seq result archive.new }
-    ensures tells { TellsText (telling O.Output reply.old reply.new) (told_of seq result) }
+    ensures states { PrintsText (printing O.Output reply.old reply.new) (told_of seq result) }
 {
     archive.delete(seq)?;
-    tell_gone(reply, seq);
+    print_gone(reply, seq);
     Ok(())
 }

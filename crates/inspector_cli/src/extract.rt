@@ -1,6 +1,6 @@
 // An image, out of its archive.
 ghost use Rattle.std.specs.Prelude.{◌≡◌};
-ghost use Rattle.script_streams.specs.Telling.{IsDelivered};
+ghost use Rattle.script_streams.specs.Printing.{IsDelivered};
 ghost use Rattle.inspector_cli.specs.Extracting.{ReadsImage};
 
 use disk_model::Disk;
@@ -21,12 +21,12 @@ pub enum ImageFault {
     Archive(ArchiveFault),
 }
 
-/// Opens the archive on a disk, reads the image of a case, and hands the disk back. With the disk its owner lets go what keeps
-/// others from it, before the image is written: a slow reader keeps nobody waiting.
+/// Opens the archive on a disk, reads the image of a case, and returns the disk. With the disk its owner releases its lock
+/// before the image is written: a slow reader keeps nobody waiting.
 ///
 /// # Errors
 ///
-/// `Open` where the archive could not be opened, and `Archive` where the image could not be read, `NoCase` among them.
+/// `Open` if the archive could not be opened, and `Archive` if the image could not be read, `NoCase` among them.
 pub fn read_image<D: Disk>(
     alloc: Global,
     disk: D,
@@ -53,12 +53,12 @@ pub fn read_image<D: Disk>(
 ///
 /// # Errors
 ///
-/// `StreamFault` where the output failed: it has a front of the image.
+/// `StreamFault` if the output failed: it has a front of the image.
 pub fn write_image<O: Output>(output: &mut O, image: &[u8]) -> Result<(), StreamFault>
     ensures delivered { IsDelivered (O.taken output.old) (O.failures output.old) (O.taken output.new) (O.failures output.new)
         image.now result }
 {
     let mut reply = Reply::new(output);
-    reply.tell(image);
+    reply.print(image);
     reply.finish()
 }

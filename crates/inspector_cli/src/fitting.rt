@@ -3,7 +3,7 @@ ghost use Rattle.std.specs.Prelude.{◌≡◌, ◌<◌, ℕ, List, [], Ok, None,
 ghost use Rattle.std.specs.List.{find, filter};
 ghost use Rattle.intake.specs.Parts.{Parts, state_of};
 ghost use Rattle.journal_layout.specs.Case.{case_of};
-ghost use Rattle.script_streams.specs.Replies.{TellsText, telling};
+ghost use Rattle.script_streams.specs.Replies.{PrintsText, printing};
 ghost use Rattle.archive_replies.specs.Texts.{dropped_line};
 ghost use Rattle.intake.specs.State.{blocks_in};
 ghost use Rattle.inspector_cli.specs.Fitting.{Going, TakesWhile, HasNoBlock, FindsNoRoom, FindsRoom, NoneMayFree, NoneMayGo, DropsOne, DropsAll, IsNext, frees, goes, goes_first, may_go, next_core};
@@ -37,7 +37,7 @@ pub(crate) fn make_room<O: Output, D: Disk>(
 ) -> Result<(), TakeStop>
     ensures room { (begun : Parts D) (so_far : List ℕ) (gone : List (Going D))
         → TakesWhile D.Disk order begun so_far gone (Ok tt) archive.old
-        → MakesRoom D.Disk order begun so_far gone (telling O.Output reply.old reply.new) archive.new result }
+        → MakesRoom D.Disk order begun so_far gone (printing O.Output reply.old reply.new) archive.new result }
     ensures served { DropsAll order need (state_of archive.old) result (state_of archive.new) }
 {
     loop {
@@ -57,7 +57,7 @@ fn drop_if_full<O: Output, D: Disk>(
 ) -> Result<bool, TakeStop>
     ensures goes { (begun : Parts D) (so_far : List ℕ) (gone : List (Going D))
         → TakesWhile D.Disk order begun so_far gone (Ok tt) archive.old
-        → GoesNext D.Disk order begun so_far gone (telling O.Output reply.old reply.new) archive.new result }
+        → GoesNext D.Disk order begun so_far gone (printing O.Output reply.old reply.new) archive.new result }
     ensures served { DropsOne order need (state_of archive.old) result (state_of archive.new) }
 {
     if !lacks_room(need, archive) {
@@ -68,7 +68,7 @@ fn drop_if_full<O: Output, D: Disk>(
     };
     match archive.delete(seq) {
         Ok(()) => {
-            tell_gone(reply, seq);
+            print_gone(reply, seq);
             Ok(true)
         }
         Err(fault) => Err(TakeStop::Refused(fault)),
@@ -123,7 +123,7 @@ fn next_of(alloc: Global, order: Order, cases: &[Entry]) -> Option<u32>
     }
 }
 
-// Whether a case may go that has data blocks; so it is too if that can't be told.
+// Whether a case with data blocks may go; true also if that is not known.
 pub(crate) fn may_free<D: Disk>(archive: &Archive<D>) -> bool
     ensures { result ≡ false → NoneMayFree (state_of archive.now) }
 {
@@ -179,10 +179,10 @@ fn is_loose_core(case: &Entry) -> bool
 }
 
 // Prints a case that went.
-pub(crate) fn tell_gone<O: Output>(reply: &mut Reply<'_, O>, seq: u32)
-    ensures { TellsText (telling O.Output reply.old reply.new) (dropped_line seq) }
+pub(crate) fn print_gone<O: Output>(reply: &mut Reply<'_, O>, seq: u32)
+    ensures { PrintsText (printing O.Output reply.old reply.new) (dropped_line seq) }
 {
-    reply.tell(b"dropped ");
-    reply.tell_decimal(u128::from(seq));
-    reply.tell(b"\n");
+    reply.print(b"dropped ");
+    reply.print_decimal(u128::from(seq));
+    reply.print(b"\n");
 }

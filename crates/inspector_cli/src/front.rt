@@ -3,7 +3,7 @@ ghost use Rattle.std.specs.Prelude.{◌≡◌, ◌+◌, ◌<◌, ◌≤◌, ◌+
 ghost use Rattle.intake.specs.Parts.{Parts, state_of};
 ghost use Rattle.inspector_cli.specs.Fitting.{CutsBehind, CutsWell, Going, IsServed, IsUnder, IsWalled, IsWithin, MeetsLength, ServesOn, TakesWhile};
 ghost use Rattle.inspector_cli.specs.Reply.{Ends, Takes};
-ghost use Rattle.script_streams.specs.Replies.{TellsReply, TellsText, telling};
+ghost use Rattle.script_streams.specs.Replies.{PrintsReply, PrintsText, printing};
 ghost use Rattle.inspector_cli.specs.Stated.{HashesOn};
 ghost use Rattle.inspector_cli.specs.Storing.{LooksPast, TakesAll, TakesNext, cut_line, cut_text};
 
@@ -11,7 +11,7 @@ use crate::fitting::{lacks_block, may_free};
 use crate::session::Order;
 use crate::stated::{Difference, Stated, end_at, hasher_for};
 use crate::store::{MOST_BYTES, MOST_READS, TakeStop, take_next};
-use archive_replies::tell_stored;
+use archive_replies::print_stored;
 use disk_model::Disk;
 use intake::Archive;
 use script_streams::{Input, Output, Reply};
@@ -24,33 +24,33 @@ pub(crate) fn answer_front<O: Output, D: Disk>(
     reply: &mut Reply<'_, O>,
     archive: &mut Archive<D>,
 ) -> Option<u32>
-    ensures { TellsReply (telling O.Output reply.old reply.new) (λ text. (rest : List ℕ) × (text ≡ cut_text (Some kept) result ++ rest) × Ends D.Disk archive.old 0 rest archive.new result) }
+    ensures { PrintsReply (printing O.Output reply.old reply.new) (λ text. (rest : List ℕ) × (text ≡ cut_text (Some kept) result ++ rest) × Ends D.Disk archive.old 0 rest archive.new result) }
 {
     let outcome = archive.finish(0);
     match outcome {
         Ok(seq) => {
-            tell_cut(reply, kept);
-            tell_stored(reply, outcome);
+            print_cut(reply, kept);
+            print_stored(reply, outcome);
             Some(seq)
         }
         Err(_) => {
-            tell_stored(reply, outcome);
+            print_stored(reply, outcome);
             None
         }
     }
 }
 
 // Prints how many bytes of a file are kept.
-fn tell_cut<O: Output>(reply: &mut Reply<'_, O>, kept: u64)
-    ensures { TellsText (telling O.Output reply.old reply.new) (cut_line kept) }
+fn print_cut<O: Output>(reply: &mut Reply<'_, O>, kept: u64)
+    ensures { PrintsText (printing O.Output reply.old reply.new) (cut_line kept) }
 {
-    reply.tell(b"cut ");
-    reply.tell_decimal(u128::from(kept));
-    reply.tell(b"\n");
+    reply.print(b"cut ");
+    reply.print_decimal(u128::from(kept));
+    reply.print(b"\n");
 }
 
-// Takes the bytes of a file into the stream in slot 0, for which cases go, if they may. If it may be cut, it is so where no more may be
-// taken, or no more find room. If its length is stated, or its digest, it has to have that, or be cut before.
+// Takes the bytes of a file into the stream in slot 0, for which cases go, if they may. If it may be cut, it is cut if no more may be
+// taken, or no more find room. If its length or its digest is stated, it must have that, or be cut before.
 pub(crate) fn take_file<I: Input, O: Output, D: Disk>(
     fit: bool,
     order: Order,
@@ -63,7 +63,7 @@ pub(crate) fn take_file<I: Input, O: Output, D: Disk>(
     requires takes { Takes D.Disk archive.old 0 [] (Ok tt) archive.old }
     requires some { IsUnder cut 0 }
     ensures all { TakesAll D.Disk order fit stated (I.remaining file.old) (I.remaining file.new) (I.failures file.old) (I.failures file.new)
-        archive.old (telling O.Output reply.old reply.new) archive.new result }
+        archive.old (printing O.Output reply.old reply.new) archive.new result }
     ensures served { fit ≡ true → IsServed (state_of archive.old) → ServesOn order result (state_of archive.new) }
     ensures well { CutsWell fit cut result (state_of archive.new) }
 {
@@ -90,7 +90,7 @@ pub(crate) fn take_file<I: Input, O: Output, D: Disk>(
 }
 
 // Takes the next bytes of a file into the stream in slot 0, which has taken so many; or finds that it is to be cut, or is longer than was
-// stated. Says how many there were.
+// stated. Returns how many there were.
 fn take_step<I: Input, O: Output, D: Disk>(
     fit: bool,
     order: Order,
@@ -108,7 +108,7 @@ fn take_step<I: Input, O: Output, D: Disk>(
     ensures next { (begun : Parts D) (so_far : List ℕ) (gone : List (Going D))
         → TakesWhile D.Disk order begun so_far gone (Ok tt) archive.old
         → TakesNext D.Disk order (I.remaining file.old) (I.remaining file.new) (I.failures file.old) (I.failures file.new)
-        begun so_far gone fit (HashesOn hasher.old hasher.new) (telling O.Output reply.old reply.new) archive.new result }
+        begun so_far gone fit (HashesOn hasher.old hasher.new) (printing O.Output reply.old reply.new) archive.new result }
     ensures served { fit ≡ true → IsServed (state_of archive.old) → ServesOn order result (state_of archive.new) }
     ensures behind { CutsBehind fit cut taken result (state_of archive.new) }
     ensures meets { MeetsLength length taken result }

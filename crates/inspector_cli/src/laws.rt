@@ -1,10 +1,11 @@
-//! What holds over every script and every session. These functions do nothing.
+//! Laws of every script and every session. These functions do nothing.
 ghost use Rattle.inspector_cli.specs.Agreement.{LinesAgree, ScriptsAgree};
 ghost use Rattle.inspector_cli.specs.Cuts.{HasOneCut, HasACut, HasOneFront};
 ghost use Rattle.inspector_cli.specs.Fitting.{TheFirstGoes, AllArePinned, NoPinnedOneGoes};
 ghost use Rattle.inspector_cli.specs.Headline.{SessionsAreCrashSafe};
 ghost use Rattle.inspector_cli.specs.StoreHeadline.{StoresAreCrashSafe};
 ghost use Rattle.inspector_cli.specs.Storing.{RetiresForAStreamAlone, RetiresUnlessRefused, RetiresNothingUnasked};
+ghost use Rattle.inspector_cli.specs.Settled.{SettledSessionsAreSafe, SettledStoresAreSafe};
 ghost use Rattle.inspector_cli.specs.Runs.{WholeIsARun, FrontIsARun, StagesAreClear, SessionsAreLived};
 
 use disk_model::Disk;
@@ -15,7 +16,7 @@ use intake::{
 use script_streams::lines_are_cut_one_way;
 
 /// A script has one cut into lines, each with the bytes that it says follow it, and an ending; and every text has one. A
-/// script that could not be read on has one cut into the commands that are whole in it and what follows them.
+/// script that could not be read on has one cut into the commands that are whole in it and the rest after them.
 pub fn a_script_has_one_cut()
     ensures one { HasOneCut }
     ensures some { HasACut }
@@ -36,8 +37,8 @@ pub fn a_text_is_one<D: Disk, E: Disk>()
 }
 
 /// The stages of a session are a run of marks, and from an opening of an honest disk on they are a life, wherever the machine
-/// stops: so what intake's laws say of marks and lives holds of sessions. Nothing is in doubt at a stage, unless the archive is
-/// stopped there or something was in doubt at the first.
+/// stops: so intake's laws of marks and lives hold of sessions. Nothing is in doubt at a stage, unless the archive is stopped
+/// there or something was in doubt at the first.
 pub fn sessions_are_runs<D: Disk>()
     ensures whole { WholeIsARun D.Disk }
     ensures front { FrontIsARun D.Disk }
@@ -69,19 +70,25 @@ pub fn a_store_is_crash_safe<D: Disk>()
     what_calls_leave::<D>();
 }
 
-/// What goes where a stream finds no room: no pinned case, and if none goes, all cases are pinned. If the oldest go, it is the oldest core before
-/// every other, and an executable only once all cores are pinned. What holds of the fair ones says `the_heaviest_user_gives` of fair_share.
+/// The headline from the moment on when a file's archive is settled (`case_journal::settle`), before it is opened: a session or a store begins with
+/// the archive that reads gave before. A stop from then on leaves what a stop while the gates are written again may leave, or it opens as one of
+/// the moments of the headline. Of the former, `settling_is_enough` of case_journal says which archive it is.
+pub fn a_settled_archive_is_safe<D: Disk>()
+    ensures sessions { SettledSessionsAreSafe D.Disk }
+    ensures stores { SettledStoresAreSafe D.Disk }
+{}
+
+/// The case that goes if a stream finds no room: no pinned case, and if none goes, all cases are pinned. If the oldest go, it is the oldest core
+/// before every other, and an executable only once all cores are pinned. The law of the fair ones is `the_heaviest_user_gives` of fair_share.
 pub fn the_oldest_core_goes_first()
     ensures loose { NoPinnedOneGoes }
     ensures first { TheFirstGoes }
     ensures none { AllArePinned }
 {}
 
-/// `store_stream` retires no case in vain: over an archive as an opening answers it, the stream for which cases were retired follows, and
-/// only
-/// a lack of memory keeps it from beginning; a policy that was asked for is left out only if the stream is refused. If no policy is asked
-/// for,
-/// nothing is retired.
+/// `store_stream` retires no case in vain: over an archive as an opening answers it, the stream for which
+/// cases were retired follows, and only a lack of memory keeps it from beginning; a policy that was asked
+/// for is left out only if the stream is refused. If no policy is asked for, nothing is retired.
 pub fn retiring_is_for_a_stream<D: Disk>()
     ensures begun { RetiresForAStreamAlone D.Disk }
     ensures left_out { RetiresUnlessRefused D.Disk }

@@ -5,15 +5,15 @@ ghost use Rattle.script_lines.specs.Said.{part_of};
 ghost use Rattle.script_streams.specs.Reading.{Stops, steps_left};
 ghost use Rattle.inspector_cli.specs.Reply.{Takes};
 ghost use Rattle.stream_names.specs.declared.naming.Naming.{Naming};
-ghost use Rattle.script_streams.specs.Replies.{TellsText, telling};
+ghost use Rattle.script_streams.specs.Replies.{PrintsText, printing};
 ghost use Rattle.inspector_cli.specs.Answering.{PieceEnds, PartEnds, PartAnswers, SkipEnds, reading};
 
-use archive_replies::tell_outcome;
+use archive_replies::print_outcome;
 use disk_model::Disk;
 use intake::{Archive, ArchiveFault};
-use script_streams::{Input, Output, ReadStop, Reply, ScriptBuffer, tell_no};
+use script_streams::{Input, Output, ReadStop, Reply, ScriptBuffer, print_no};
 
-// Answers a part. Says whether all of its bytes were there.
+// Answers a part. Returns whether all of its bytes were there.
 pub(crate) fn answer_part<I: Input, O: Output, D: Disk>(
     slot: u8,
     count: u32,
@@ -24,17 +24,17 @@ pub(crate) fn answer_part<I: Input, O: Output, D: Disk>(
 ) -> Result<bool, ReadStop>
     ensures answers { (naming : Naming) → PartAnswers D.Disk naming
         (reading I.Input input.old input.new buffer.old buffer.new)
-        (telling O.Output reply.old reply.new)
+        (printing O.Output reply.old reply.new)
         archive.old (part_of slot count) archive.new result }
     ensures stops { Stops (I.failures input.old) (I.failures input.new) buffer.new result }
 {
     let (missing, verdict) = take_part(slot, count, buffer, input, reply, archive)?;
     if missing == 0 {
-        tell_outcome(reply, verdict);
+        print_outcome(reply, verdict);
         return Ok(true);
     }
     let _ = archive.abandon(slot);
-    tell_no(reply, b"Truncated");
+    print_no(reply, b"Truncated");
     Ok(false)
 }
 
@@ -51,7 +51,7 @@ fn take_part<I: Input, O: Output, D: Disk>(
         (reading I.Input input.old input.new buffer.old buffer.new) archive.old slot count
         archive.new result }
     ensures stops { Stops (I.failures input.old) (I.failures input.new) buffer.new result }
-    ensures tells { TellsText (telling O.Output reply.old reply.new) [] }
+    ensures states { PrintsText (printing O.Output reply.old reply.new) [] }
 {
     let mut verdict = archive.advance(slot, 0);
     let mut missing = count;
@@ -81,7 +81,7 @@ fn take_piece<I: Input, O: Output, D: Disk>(
         → Takes D.Disk begun slot so_far verdict archive.old
         → PieceEnds D.Disk (reading I.Input input.old input.new buffer.old buffer.new) begun slot so_far most verdict archive.new result }
     ensures stops { Stops (I.failures input.old) (I.failures input.new) buffer.new result }
-    ensures tells { TellsText (telling O.Output reply.old reply.new) [] }
+    ensures states { PrintsText (printing O.Output reply.old reply.new) [] }
 {
     match verdict {
         Ok(()) => fill_piece(slot, most, buffer, input, reply, archive),
@@ -106,7 +106,7 @@ fn fill_piece<I: Input, O: Output, D: Disk>(
         → Takes D.Disk begun slot so_far (Ok tt) archive.old
         → PieceEnds D.Disk (reading I.Input input.old input.new buffer.old buffer.new) begun slot so_far most (Ok tt) archive.new result }
     ensures stops { Stops (I.failures input.old) (I.failures input.new) buffer.new result }
-    ensures tells { TellsText (telling O.Output reply.old reply.new) [] }
+    ensures states { PrintsText (printing O.Output reply.old reply.new) [] }
 {
     let (lent, room) = archive.room(slot);
     if let Err(fault) = lent {
@@ -129,7 +129,7 @@ fn skip_piece<I: Input, O: Output>(
     ensures skips { SkipEnds
         (reading I.Input input.old input.new buffer.old buffer.new) most result }
     ensures stops { Stops (I.failures input.old) (I.failures input.new) buffer.new result }
-    ensures tells { TellsText (telling O.Output reply.old reply.new) [] }
+    ensures states { PrintsText (printing O.Output reply.old reply.new) [] }
 {
     let mut scratch = [0u8; 4096];
     let size = scratch.len().min(most as usize);

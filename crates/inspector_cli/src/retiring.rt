@@ -1,9 +1,9 @@
 // The cases that are retired before a stream is stored.
 ghost use Rattle.inspector_cli.specs.Storing.{RetiresForStream, RetiresForName};
 ghost use Rattle.stream_names.specs.Commands.{stream_found};
-ghost use Rattle.script_streams.specs.Replies.{TellsReply, telling};
+ghost use Rattle.script_streams.specs.Replies.{PrintsReply, printing};
 
-use archive_replies::tell_retired;
+use archive_replies::print_retired;
 use disk_model::Disk;
 use intake::Archive;
 use journal_layout::Name;
@@ -11,14 +11,15 @@ use retention::Policy;
 use script_streams::{Output, Reply};
 use stream_names::NewStream;
 
-// Retires by a policy, if there is one, for this stream, if there is one. Says whether it was answered other than `no REASON`.
+// Retires by a policy, if there is one, for this stream, if there
+// is one. Returns whether it was answered other than `no REASON`.
 pub(crate) fn retire_first<O: Output, D: Disk>(
     policy: Option<Policy>,
     found: &Result<NewStream, &'static [u8]>,
     reply: &mut Reply<'_, O>,
     archive: &mut Archive<D>,
 ) -> bool
-    ensures { TellsReply (telling O.Output reply.old reply.new) (λ text. RetiresForStream D.Disk archive.old policy (stream_found found.now) text archive.new result) }
+    ensures { PrintsReply (printing O.Output reply.old reply.new) (λ text. RetiresForStream D.Disk archive.old policy (stream_found found.now) text archive.new result) }
 {
     let Some(policy) = policy else {
         return true;
@@ -29,19 +30,20 @@ pub(crate) fn retire_first<O: Output, D: Disk>(
     }
 }
 
-// Retires by a policy for a stream of this name, unless a case that stays has it. Says whether it was answered other than `no REASON`.
+// Retires by a policy for a stream of this name, unless a case that
+// stays has it. Returns whether it was answered other than `no REASON`.
 fn retire_for_name<O: Output, D: Disk>(
     policy: Policy,
     name: &Name,
     reply: &mut Reply<'_, O>,
     archive: &mut Archive<D>,
 ) -> bool
-    ensures { TellsReply (telling O.Output reply.old reply.new) (λ text. RetiresForName D.Disk archive.old policy name.now.items text archive.new result) }
+    ensures { PrintsReply (printing O.Output reply.old reply.new) (λ text. RetiresForName D.Disk archive.old policy name.now.items text archive.new result) }
 {
     let Some(outcome) = archive.retire_for(&policy, name) else {
         return true;
     };
     let is_carried_out = outcome.is_ok();
-    tell_retired(reply, outcome);
+    print_retired(reply, outcome);
     is_carried_out
 }

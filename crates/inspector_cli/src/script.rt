@@ -2,23 +2,25 @@
 ghost use Rattle.std.specs.Prelude.{◌≡◌, true, false, ℕ, ◌<◌, List, length};
 ghost use Rattle.script_streams.specs.Lines.{IsLine, KeepsLine};
 ghost use Rattle.script_streams.specs.Reading.{Stops};
-ghost use Rattle.script_streams.specs.Telling.{has_failed};
+ghost use Rattle.script_streams.specs.Printing.{has_failed};
 ghost use Rattle.intake.specs.Durable.{Durable};
 ghost use Rattle.script_lines.specs.Said.{said, part_of};
 ghost use Rattle.stream_names.specs.declared.naming.Naming.{Naming};
-ghost use Rattle.script_streams.specs.Replies.{telling};
+ghost use Rattle.script_streams.specs.Replies.{printing};
 ghost use Rattle.case_queries.specs.Keeping.{AreKept};
 ghost use Rattle.case_queries.specs.Seeing.{IsKept};
 ghost use Rattle.inspector_cli.specs.Answering.{CommandEnds, Halts, ScriptEnds, PartAnswers, LastAnswers, reading};
 
 use crate::answers::{answer_plain, answer_question};
 use crate::parts::answer_part;
-use archive_replies::tell_outcome;
+use archive_replies::print_outcome;
 use case_queries::Images;
 use disk_model::Disk;
 use intake::{Archive, calls_lead_from_mark_to_mark};
 use script_lines::{Command, parse_line};
-use script_streams::{Input, KeptLine, LineEnding, Output, ReadStop, Reply, ScriptBuffer, tell_no};
+use script_streams::{
+    Input, KeptLine, LineEnding, Output, ReadStop, Reply, ScriptBuffer, print_no,
+};
 use std::alloc::Global;
 use stream_names::Naming;
 
@@ -52,7 +54,7 @@ pub(crate) fn answer_script<I: Input, O: Output, D: Disk>(
 ) -> Result<(), ScriptStop>
     ensures answers { (before : List Durable) → ScriptEnds D.Disk naming.now
         (reading I.Input input.old input.new buffer.old buffer.new)
-        (telling O.Output reply.old reply.new)
+        (printing O.Output reply.old reply.new)
         (record { archive = archive.old; in_doubt = before }) archive.new result }
     ensures stops { Halts (I.failures input.old) (I.failures input.new) buffer.new result }
 {
@@ -74,7 +76,7 @@ pub(crate) fn answer_script<I: Input, O: Output, D: Disk>(
     Ok(())
 }
 
-// Reads the next command and answers it, unless its reply could not be seen. Says whether the script may go on.
+// Reads the next command and answers it, unless its reply could not be seen. Returns whether the script may continue.
 fn answer_command<I: Input, O: Output, D: Disk>(
     line: &mut KeptLine,
     images: &mut Images,
@@ -88,7 +90,7 @@ fn answer_command<I: Input, O: Output, D: Disk>(
     requires are_kept { AreKept D.Disk archive.old images.old.kept }
     ensures answers { CommandEnds D.Disk naming.now
         (reading I.Input input.old input.new buffer.old buffer.new)
-        (telling O.Output reply.old reply.new)
+        (printing O.Output reply.old reply.new)
         archive.old archive.new result }
     ensures unheard { has_failed reply.old ≡ true → archive.new ≡ archive.old }
     ensures kept { IsKept D.Disk archive.new images.new.kept }
@@ -112,7 +114,7 @@ fn answer_command<I: Input, O: Output, D: Disk>(
     }
 }
 
-// Answers a line, with the bytes after its newline. Says whether they were all there.
+// Answers a line, with the bytes after its newline. Returns whether they were all there.
 fn answer_line<I: Input, O: Output, D: Disk>(
     line: &KeptLine,
     images: &mut Images,
@@ -128,7 +130,7 @@ fn answer_line<I: Input, O: Output, D: Disk>(
     requires are_kept { AreKept D.Disk archive.old images.old.kept }
     ensures answers { (text : List ℕ) → KeepsLine text line.now
         → PartAnswers D.Disk naming.now (reading I.Input input.old input.new buffer.old buffer.new)
-        (telling O.Output reply.old reply.new)
+        (printing O.Output reply.old reply.new)
         archive.old (said text) archive.new result }
     ensures stops { Stops (I.failures input.old) (I.failures input.new) buffer.new result }
     ensures kept { IsKept D.Disk archive.new images.new.kept }
@@ -164,7 +166,7 @@ fn answer_last<O: Output, D: Disk>(
     requires kept { IsKept D.Disk archive.old images.old.kept }
     requires are_kept { AreKept D.Disk archive.old images.old.kept }
     ensures answers { (text : List ℕ) → KeepsLine text line.now
-        → LastAnswers D.Disk naming.now (telling O.Output reply.old reply.new) archive.old (said text) archive.new }
+        → LastAnswers D.Disk naming.now (printing O.Output reply.old reply.new) archive.old (said text) archive.new }
     ensures kept { IsKept D.Disk archive.new images.new.kept }
     ensures are_kept { AreKept D.Disk archive.new images.new.kept }
 {
@@ -190,13 +192,13 @@ fn answer_cut<O: Output, D: Disk>(
     reply: &mut Reply<'_, O>,
     archive: &mut Archive<D>,
 )
-    ensures { (naming : Naming) → LastAnswers D.Disk naming (telling O.Output reply.old reply.new) archive.old (part_of slot count) archive.new }
+    ensures { (naming : Naming) → LastAnswers D.Disk naming (printing O.Output reply.old reply.new) archive.old (part_of slot count) archive.new }
 {
     let verdict = archive.advance(slot, 0);
     if count == 0 {
-        tell_outcome(reply, verdict);
+        print_outcome(reply, verdict);
         return;
     }
     let _ = archive.abandon(slot);
-    tell_no(reply, b"Truncated");
+    print_no(reply, b"Truncated");
 }

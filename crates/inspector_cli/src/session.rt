@@ -21,7 +21,7 @@ pub struct StoreOptions {
     pub label: Option<ArrayVec<u8, 64>>,
     /// Its case is pinned: no deletion and no retirement takes it.
     pub pin: bool,
-    /// Where the stream finds no room, cases that are not pinned are deleted: first the cores, then the executables, those of the
+    /// If the stream finds no room, cases that are not pinned are deleted: first the cores, then the executables, those of the
     /// lowest numbers first.
     pub fit: bool,
     /// In which order the cores go then.
@@ -44,9 +44,9 @@ pub struct StoreOutcome {
     pub retired_first: bool,
     /// The number of the case, if it is stored.
     pub stored: Option<u32>,
-    /// False only where the case was to have a label, and that was answered `no REASON`.
+    /// False only if the case was to have a label, and that was answered `no REASON`.
     pub labelled: bool,
-    /// False only where the case was to be pinned, and that was answered `no REASON`.
+    /// False only if the case was to be pinned, and that was answered `no REASON`.
     pub pinned: bool,
 }
 

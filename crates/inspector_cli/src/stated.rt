@@ -6,7 +6,7 @@ ghost use Rattle.inspector_cli.specs.Stated.{HashesOn, IsHashed, MatchesDigest};
 use crate::store::TakeStop;
 use sha2::{Digest, Sha256};
 
-/// What is stated of a file.
+/// The stated facts about a file.
 #[derive(Clone, Copy)]
 pub(crate) struct Stated {
     /// How many bytes it has, if that is stated.
@@ -15,7 +15,7 @@ pub(crate) struct Stated {
     pub(crate) digest: Option<[u8; 32]>,
 }
 
-/// How a file differs from what is stated of it.
+/// How a file differs from its stated facts.
 #[derive(Clone, Copy)]
 pub(crate) enum Difference {
     /// It ends before the length.

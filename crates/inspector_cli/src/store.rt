@@ -6,7 +6,7 @@ ghost use Rattle.stream_names.specs.Commands.{stream_found};
 ghost use Rattle.inspector_cli.specs.Fitting.{Going, TakesWhile, Advances, CutsWell, IsServed, IsUncut, ServesOn, FillsServed};
 ghost use Rattle.inspector_cli.specs.Bursts.{admitted};
 ghost use Rattle.inspector_cli.specs.Reply.{Begins, Takes};
-ghost use Rattle.script_streams.specs.Replies.{TellsReply, telling};
+ghost use Rattle.script_streams.specs.Replies.{PrintsReply, printing};
 ghost use Rattle.inspector_cli.specs.Session.{streams_of};
 ghost use Rattle.inspector_cli.specs.Stated.{HashesOn};
 ghost use Rattle.inspector_cli.specs.Storing.{StoreEnds, Stores, StoresStream, FillsAndEnds, PinsCase, LabelsCase, label_asked, options_asked, FillsAll, TakesAll, TakesNext, TakesMore, IsSlotQuiet, difference_reason};
@@ -24,7 +24,7 @@ use arrayvec::ArrayVec;
 use disk_model::Disk;
 use intake::{Archive, ArchiveFault, calls_lead_from_mark_to_mark, found_after_a_stop};
 use retention::Policy;
-use script_streams::{Input, Output, Reply, tell_no};
+use script_streams::{Input, Output, Reply, print_no};
 use sha2::Sha256;
 use stream_names::NewStream;
 
@@ -111,7 +111,7 @@ fn answer_all<I: Input, O: Output, D: Disk>(
     reply: &mut Reply<'_, O>,
     archive: &mut Archive<D>,
 ) -> StoreOutcome
-    ensures { TellsReply (telling O.Output reply.old reply.new) (λ text. Stores D.Disk (I.remaining file.old) (I.remaining file.new) (I.failures file.old) (I.failures file.new)
+    ensures { PrintsReply (printing O.Output reply.old reply.new) (λ text. Stores D.Disk (I.remaining file.old) (I.remaining file.new) (I.failures file.old) (I.failures file.new)
         archive.old policy (stream_found found.entry) (options_asked options.now) text archive.new result) }
 {
     let retired_first = retire_first(policy, &found, reply, archive);
@@ -138,14 +138,14 @@ fn answer_all<I: Input, O: Output, D: Disk>(
     }
 }
 
-// Pins the case that is stored, if it is to be. Says whether that was answered other than `no REASON`.
+// Pins the case that is stored, if it is to be. Returns whether that was answered other than `no REASON`.
 fn pin_case<O: Output, D: Disk>(
     stored: Option<u32>,
     pin: bool,
     reply: &mut Reply<'_, O>,
     archive: &mut Archive<D>,
 ) -> bool
-    ensures { TellsReply (telling O.Output reply.old reply.new) (λ text. PinsCase D.Disk archive.old stored pin text archive.new result) }
+    ensures { PrintsReply (printing O.Output reply.old reply.new) (λ text. PinsCase D.Disk archive.old stored pin text archive.new result) }
 {
     let Some(seq) = stored else {
         return true;
@@ -156,14 +156,14 @@ fn pin_case<O: Output, D: Disk>(
     answer_pin(seq, true, reply, archive)
 }
 
-// Gives the case that is stored its label, if there are both. Says whether that was answered other than `no REASON`.
+// Gives the case that is stored its label, if there are both. Returns whether that was answered other than `no REASON`.
 fn label_case<O: Output, D: Disk>(
     stored: Option<u32>,
     label: &Option<ArrayVec<u8, 64>>,
     reply: &mut Reply<'_, O>,
     archive: &mut Archive<D>,
 ) -> bool
-    ensures { TellsReply (telling O.Output reply.old reply.new) (λ text. LabelsCase D.Disk archive.old stored (label_asked label.now) text archive.new result) }
+    ensures { PrintsReply (printing O.Output reply.old reply.new) (λ text. LabelsCase D.Disk archive.old stored (label_asked label.now) text archive.new result) }
 {
     let Some(seq) = stored else {
         return true;
@@ -185,7 +185,7 @@ fn answer_store<I: Input, O: Output, D: Disk>(
     reply: &mut Reply<'_, O>,
     archive: &mut Archive<D>,
 ) -> Option<u32>
-    ensures { TellsReply (telling O.Output reply.old reply.new) (λ text. StoresStream D.Disk order fit cut stated (I.remaining file.old) (I.remaining file.new) (I.failures file.old) (I.failures file.new)
+    ensures { PrintsReply (printing O.Output reply.old reply.new) (λ text. StoresStream D.Disk order fit cut stated (I.remaining file.old) (I.remaining file.new) (I.failures file.old) (I.failures file.new)
         archive.old (stream_found found.entry) text archive.new result) }
 {
     let is_begun = answer_first(found, reply, archive);
@@ -195,13 +195,13 @@ fn answer_store<I: Input, O: Output, D: Disk>(
     answer_file(fit, order, cut, stated, file, reply, archive)
 }
 
-// Begins this stream, or is refused for this reason. Says whether it has begun: then it has no bytes yet.
+// Begins this stream, or is refused for this reason. Returns whether it has begun: then it has no bytes yet.
 fn answer_first<O: Output, D: Disk>(
     found: Result<NewStream, &'static [u8]>,
     reply: &mut Reply<'_, O>,
     archive: &mut Archive<D>,
 ) -> bool
-    ensures first { TellsReply (telling O.Output reply.old reply.new) (λ text. Begins D.Disk archive.old 0 (stream_found found.entry) text archive.new result) }
+    ensures first { PrintsReply (printing O.Output reply.old reply.new) (λ text. Begins D.Disk archive.old 0 (stream_found found.entry) text archive.new result) }
     ensures begun { result ≡ true → Takes D.Disk archive.new 0 [] (Ok tt) archive.new }
     ensures served { result ≡ true → IsServed (state_of archive.new) }
 {
@@ -219,22 +219,22 @@ fn answer_file<I: Input, O: Output, D: Disk>(
     archive: &mut Archive<D>,
 ) -> Option<u32>
     requires { Takes D.Disk archive.old 0 [] (Ok tt) archive.old }
-    ensures { TellsReply (telling O.Output reply.old reply.new) (λ text. FillsAndEnds D.Disk order fit cut stated (I.remaining file.old) (I.remaining file.new) (I.failures file.old) (I.failures file.new)
+    ensures { PrintsReply (printing O.Output reply.old reply.new) (λ text. FillsAndEnds D.Disk order fit cut stated (I.remaining file.old) (I.remaining file.new) (I.failures file.old) (I.failures file.new)
         archive.old text archive.new result) }
 {
     match fill_stream(fit, order, cut, stated, file, reply, archive) {
         Ok(()) => answer_end(0, reply, archive),
         Err(TakeStop::Cut(kept)) => answer_front(kept, reply, archive),
         Err(TakeStop::File) => {
-            tell_no(reply, b"File");
+            print_no(reply, b"File");
             None
         }
         Err(TakeStop::Refused(fault)) => {
-            tell_no(reply, reason(fault));
+            print_no(reply, reason(fault));
             None
         }
         Err(TakeStop::Differs(fault)) => {
-            tell_no(reply, difference_reason(fault));
+            print_no(reply, difference_reason(fault));
             None
         }
     }
@@ -264,7 +264,7 @@ fn fill_stream<I: Input, O: Output, D: Disk>(
 ) -> Result<(), TakeStop>
     requires { Takes D.Disk archive.old 0 [] (Ok tt) archive.old }
     ensures all { FillsAll D.Disk order fit cut stated (I.remaining file.old) (I.remaining file.new) (I.failures file.old) (I.failures file.new)
-        archive.old (telling O.Output reply.old reply.new) archive.new result }
+        archive.old (printing O.Output reply.old reply.new) archive.new result }
     ensures served { fit ≡ true → IsServed (state_of archive.old) → FillsServed order result (state_of archive.new) }
 {
     if !fit {
@@ -294,7 +294,7 @@ fn take_asked<I: Input, O: Output, D: Disk>(
 ) -> Result<(), TakeStop>
     requires { Takes D.Disk archive.old 0 [] (Ok tt) archive.old }
     ensures all { TakesAll D.Disk order fit stated (I.remaining file.old) (I.remaining file.new) (I.failures file.old) (I.failures file.new)
-        archive.old (telling O.Output reply.old reply.new) archive.new result }
+        archive.old (printing O.Output reply.old reply.new) archive.new result }
     ensures served { fit ≡ true → IsServed (state_of archive.old) → ServesOn order result (state_of archive.new) }
     ensures well { CutsWell fit cut result (state_of archive.new) }
 {
@@ -307,7 +307,8 @@ fn take_asked<I: Input, O: Output, D: Disk>(
     take_file(fit, order, Some(most), stated, file, reply, archive)
 }
 
-// Takes the next bytes of a file into the stream in slot 0, `most` at most, for which cases go, if they may. Says how many there were.
+// Takes the next bytes of a file into the stream in slot 0, `most` at
+// most, for which cases go, if they may. Returns how many there were.
 pub(crate) fn take_next<I: Input, O: Output, D: Disk>(
     fit: bool,
     order: Order,
@@ -321,7 +322,7 @@ pub(crate) fn take_next<I: Input, O: Output, D: Disk>(
     ensures next { (begun : Parts D) (so_far : List ℕ) (gone : List (Going D))
         → TakesWhile D.Disk order begun so_far gone (Ok tt) archive.old
         → TakesNext D.Disk order (I.remaining file.old) (I.remaining file.new) (I.failures file.old) (I.failures file.new)
-        begun so_far gone fit (HashesOn hasher.old hasher.new) (telling O.Output reply.old reply.new) archive.new result }
+        begun so_far gone fit (HashesOn hasher.old hasher.new) (printing O.Output reply.old reply.new) archive.new result }
     ensures served { fit ≡ true → IsServed (state_of archive.old) → ServesOn order result (state_of archive.new) }
     ensures few { IfOk result (λ n. n ≤ most) }
     ensures uncut { IsUncut result }
@@ -332,7 +333,7 @@ pub(crate) fn take_next<I: Input, O: Output, D: Disk>(
     take_fitting(order, most, hasher, file, reply, archive)
 }
 
-// The same where cases may go: they do where no data block is free.
+// The same if cases may go: they do if no data block is free.
 fn take_fitting<I: Input, O: Output, D: Disk>(
     order: Order,
     most: usize,
@@ -345,7 +346,7 @@ fn take_fitting<I: Input, O: Output, D: Disk>(
     ensures next { (begun : Parts D) (so_far : List ℕ) (gone : List (Going D))
         → TakesWhile D.Disk order begun so_far gone (Ok tt) archive.old
         → TakesNext D.Disk order (I.remaining file.old) (I.remaining file.new) (I.failures file.old) (I.failures file.new)
-        begun so_far gone true (HashesOn hasher.old hasher.new) (telling O.Output reply.old reply.new) archive.new result }
+        begun so_far gone true (HashesOn hasher.old hasher.new) (printing O.Output reply.old reply.new) archive.new result }
     ensures served { IsServed (state_of archive.old) → ServesOn order result (state_of archive.new) }
     ensures few { IfOk result (λ n. n ≤ most) }
     ensures uncut { IsUncut result }
@@ -356,7 +357,7 @@ fn take_fitting<I: Input, O: Output, D: Disk>(
     take_one(order, hasher, file, reply, archive)
 }
 
-// Takes the next byte of a file into the stream in slot 0, where no data block is free: the block that it needs is not there, so cases go.
+// Takes the next byte of a file into the stream in slot 0, if no data block is free: the block that it needs is not there, so cases go.
 fn take_one<I: Input, O: Output, D: Disk>(
     order: Order,
     hasher: &mut Option<Sha256>,
@@ -367,7 +368,7 @@ fn take_one<I: Input, O: Output, D: Disk>(
     ensures next { (begun : Parts D) (so_far : List ℕ) (gone : List (Going D))
         → TakesWhile D.Disk order begun so_far gone (Ok tt) archive.old
         → TakesNext D.Disk order (I.remaining file.old) (I.remaining file.new) (I.failures file.old) (I.failures file.new)
-        begun so_far gone true (HashesOn hasher.old hasher.new) (telling O.Output reply.old reply.new) archive.new result }
+        begun so_far gone true (HashesOn hasher.old hasher.new) (printing O.Output reply.old reply.new) archive.new result }
     ensures served { IsServed (state_of archive.old) → ServesOn order result (state_of archive.new) }
     ensures few { IfOk result (λ n. n ≤ 1) }
     ensures uncut { IsUncut result }
@@ -380,7 +381,7 @@ fn take_one<I: Input, O: Output, D: Disk>(
     Ok(count)
 }
 
-// Takes the next bytes of a file into the stream in slot 0, `most` at most, and hashes them. Says how many there were.
+// Takes the next bytes of a file into the stream in slot 0, `most` at most, and hashes them. Returns how many there were.
 fn take_more<I: Input, D: Disk>(
     most: usize,
     hasher: &mut Option<Sha256>,

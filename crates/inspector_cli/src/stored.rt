@@ -1,4 +1,4 @@
-//! What becomes of a case that was answered `stored N`. This function does nothing.
+//! The fate of a case that was answered `stored N`. This function does nothing.
 ghost use Rattle.inspector_cli.specs.Kept.{AStopIsTakenUp, AReopeningIsTakenUp, ALineStoresACase, ALineLabelsACase, ASessionKeepsACase, AStoreStoresACase, AStoreLabelsACase, AStorePinsACase, AStoreKeepsACase};
 ghost use Rattle.inspector_cli.specs.Stored.{AnOpeningIsQuiet, SessionsAreTold, StoredHasParts, StoredIsFound};
 
@@ -8,13 +8,11 @@ use intake::{
     the_next_number_is_above, what_calls_leave, what_stands_is_one,
 };
 
-/// A case that was answered `stored N`, and that no later line deletes or retires, is found after every stop with exactly the
-/// bytes of its parts, over however many sessions: whenever the machine stops, in that session or in one of the later ones,
-/// after the line, and however often an opening failed or was stopped itself, an opening of the bytes that are left finds a case of that
-/// number
-/// whose image is those bytes. Such a case has parts: those between the line that began its stream and the one that ended it. Each session
-/// that
-/// was answered, to its end or not, is one of these sessions.
+/// A case that was answered `stored N`, and that no later line deletes or retires, is found after every stop with exactly
+/// the bytes of its parts, over however many sessions: whenever the machine stops, in that session or in one of the later
+/// ones, after the line, and however often an opening failed or was stopped itself, an opening of the bytes that are left
+/// finds a case of that number whose image is those bytes. Such a case has parts: those between the line that began its
+/// stream and the one that ended it. Each session that was answered, to its end or not, is one of these sessions.
 pub fn a_stored_case_is_found<D: Disk>()
     ensures quiet { AnOpeningIsQuiet D.Disk }
     ensures told { SessionsAreTold D.Disk }
@@ -34,9 +32,8 @@ pub fn a_stored_case_is_found<D: Disk>()
 /// ends or is killed, at any moment after the line, or the store, that was answered `stored N`. It keeps its label until a line gives it
 /// another. A case whose pin was answered `ok` is pinned.
 ///
-/// `stop` and `reopening` say how a command may follow another: the bytes that it reads, and those that a later stop leaves of it, are
-/// bytes that
-/// a stop at a moment of the other could have left.
+/// `stop` and `reopening` say how a command may follow another: the bytes that it reads, and those
+/// that a later stop leaves of it, are bytes that a stop at a moment of the other could have left.
 pub fn a_stored_case_is_kept<D: Disk>()
     ensures stop { AStopIsTakenUp D.Disk }
     ensures reopening { AReopeningIsTakenUp D.Disk }

@@ -10,7 +10,7 @@ AreHeld flags held = (k : ℕ) → one_if (is_free flags k) + uses held k ≤ on
 abbrev pub AreFree : List Bool → List ℕ → Type 0
 AreFree flags blocks = (k : ℕ) → uses blocks k ≤ one_if (is_free flags k)
 
--- What is free and what is held are together what they were.
+-- The free blocks and the held blocks together stay the same: for each block, the sum of both counts is as before.
 pub record Balances (old : List Bool) (held : List ℕ) (new : List Bool) (holds : List ℕ) : Type 0 where
   pub long : length new ≡ length old
   pub each : (k : ℕ) → one_if (is_free new k) + uses holds k ≡ one_if (is_free old k) + uses held k

@@ -1,4 +1,4 @@
--- The bytes of data blocks and of what they hold.
+-- The bytes of data blocks, and of the images and streams that are in them.
 use Rattle.std.specs.Prelude.{ℕ, ◌+◌, ◌-◌, ◌*◌, List, ◌++◌, length, take, replicate}
 use Rattle.std.specs.List.{flat_map}
 use Rattle.disk_model.specs.Places.{part}

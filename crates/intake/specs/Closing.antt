@@ -20,7 +20,7 @@ use Rattle.intake.specs.StreamView.{case_from_parts}
 abbrev pub with_blocks : StreamParts → List ℕ → StreamParts
 with_blocks s blocks = record s { facts = record s.facts { blocks = blocks } }
 
--- a stream is closed where `free` blocks are free: refused in the order of the faults, each under its condition
+-- a stream is closed if `free` blocks are free: refused in the order of the faults, each under its condition
 abbrev pub ClosesStream : ℕ → StreamParts → Result (Unit {0}) ArchiveFault → StreamParts → Type 0
 ClosesStream free old (Ok u) new =
     ((old.facts.len % 4096 ≡ 0) × (case_from_parts new ≡ case_from_parts old))

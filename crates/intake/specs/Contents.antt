@@ -1,4 +1,5 @@
--- The bytes that an archive holds: an image for each case, and for each stream what it has taken and what is lent next.
+-- The bytes that an archive holds: an image for each case, and for each
+-- stream the bytes that it has taken and the free bytes that are lent next.
 use Rattle.std.specs.Prelude.{◌≡◌, ℕ, List, [], ◌∷◌, ◌++◌, Option, None, Some, Result, Ok, Err, take, drop, replicate, slice_set, if◌then◌else◌}
 use Rattle.std.specs.Prelude.{Vec, ◌==◌}
 use Rattle.journal_layout.specs.Case.{Case}
@@ -12,7 +13,7 @@ use Rattle.intake.specs.declared.faults.ArchiveFault.TheVariants.{Stopped, NoStr
 pub record Taken : Type 0 where
   -- the bytes taken, in order
   pub bytes : List ℕ
-  -- the free part of the block that is filled: what is there now
+  -- the free part of the block that is filled: the bytes in it now
   pub free : List ℕ
 
 pub record Contents : Type 0 where
@@ -29,7 +30,7 @@ zero_block = replicate 4096 0
 abbrev pub empty_taken : Taken
 empty_taken = record { bytes = []; free = zero_block }
 
--- what is free next: a full block gives way to one of zeros
+-- the next free part: after a full block, a block of zeros
 abbrev pub next_free : List ℕ → List ℕ
 next_free [] = zero_block
 next_free (x ∷ xs) = x ∷ xs
@@ -46,12 +47,12 @@ with_taken c slot o = record c { taken = slice_set c.taken slot o }
 abbrev pub without_streams : Contents → Contents
 without_streams c = record c { taken = closed c.taken }
 
--- The bytes at each call's end. A refusal leaves them, but where it drops the stream, or where the disk failed.
+-- The bytes at each call's end. A refusal leaves them, unless it drops the stream or the disk failed.
 abbrev pub BeginBytes : Contents → ℕ → Result (Unit {0}) ArchiveFault → Contents → Type 0
 BeginBytes old slot (Ok u) new = new ≡ with_taken old slot (Some empty_taken)
 BeginBytes old slot (Err f) new = new ≡ old
 
--- what a stream's slot holds after the stream was refused
+-- the bytes of all streams after a call on one slot was refused
 abbrev pub RefusedBytes : Contents → ℕ → ArchiveFault → Contents → Type 0
 RefusedBytes old slot Stopped new = new ≡ old
 RefusedBytes old slot NoStream new = new ≡ old
@@ -74,7 +75,7 @@ abbrev pub AbandonBytes : Contents → ℕ → Result (Unit {0}) ArchiveFault �
 AbandonBytes old slot (Ok u) new = new ≡ with_taken old slot None
 AbandonBytes old slot (Err f) new = new ≡ old
 
--- what a refusal leaves that is no stream's: only a disk fault drops the streams
+-- the bytes after a refusal that belongs to no stream: only a disk fault drops the streams
 abbrev pub UnmovedBytes : Contents → ArchiveFault → Contents → Type 0
 UnmovedBytes old Disk new = new ≡ without_streams old
 UnmovedBytes old _ new = new ≡ old
@@ -88,7 +89,7 @@ abbrev pub LabelBytes : Contents → Result (Unit {0}) ArchiveFault → Contents
 LabelBytes old (Ok u) new = new ≡ old
 LabelBytes old (Err f) new = UnmovedBytes old f new
 
--- nor is the version of the layout
+-- the version of the layout is no byte of an image either
 abbrev pub UpgradeBytes : Contents → Result (Unit {0}) ArchiveFault → Contents → Type 0
 UpgradeBytes old (Ok u) new = new ≡ old
 UpgradeBytes old (Err f) new = UnmovedBytes old f new

@@ -1,5 +1,4 @@
--- What an archive holds that outlives a stop: its cases with their images, the number of the next one, and the version of its
--- layout.
+-- The part of an archive that outlives a stop: its cases with their images, the number of the next one, and the version of its layout.
 use Rattle.std.specs.Prelude.{◌≡◌, ◌⊎◌, ℕ, ◌+◌, Bool, not, List, [], ◌∷◌, ◌++◌, map, Result, Ok, Err}
 use Rattle.std.specs.List.{filter}
 use Rattle.journal_layout.specs.declared.faults.OpenFault.{OpenFault}
@@ -35,7 +34,7 @@ found_with c image = record { case = c; image = image }
 abbrev pub found_case : Shape → List ℕ → Case → FoundCase
 found_case shape bytes c = found_with c (image_in shape bytes c.blocks c.len)
 
--- what these bytes hold of the cases of a journal
+-- the durable part of an archive with these bytes and this journal
 abbrev pub durable_in : List ℕ → Standing → Durable
 durable_in bytes s = record { cases = map (found_case s.shape bytes) s.cases; next = s.next; version = s.version }
 
@@ -45,7 +44,7 @@ pub record StandsFor (bytes : List ℕ) (x : Durable) : Type 0 where
   pub stands : Stands bytes standing
   pub is : durable_in bytes standing ≡ x
 
--- what an archive holds, on a disk that reads so
+-- the durable part of an archive, on a disk that reads so
 abbrev pub durable_of : {D : Type 0} → (D → List ℕ) → Parts D → Durable
 durable_of seen a = durable_in (seen a.disk) a.journal.standing
 
@@ -55,7 +54,7 @@ with_images [] images = []
 with_images (c ∷ cases) [] = []
 with_images (c ∷ cases) (image ∷ images) = found_with c image ∷ with_images cases images
 
--- what a state and its bytes leave after a stop
+-- the durable part of a state and its bytes: it is left after a stop
 abbrev pub durable_part : ArchiveState → Contents → Durable
 durable_part s c = record { cases = with_images s.cases c.images; next = s.next; version = s.version }
 

@@ -1,4 +1,4 @@
--- What becomes of the other streams when a stream is refused.
+-- The fate of the other streams when a stream is refused.
 use Rattle.std.specs.Prelude.{◌≡◌, Bool, true, false, List, Option}
 use Rattle.intake.specs.declared.faults.ArchiveFault.{ArchiveFault}
 use Rattle.intake.specs.declared.faults.ArchiveFault.TheVariants.{Disk}

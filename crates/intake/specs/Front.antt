@@ -1,4 +1,4 @@
--- What a call leaves of the bytes before the data blocks: the superblock, and both halves of the journal.
+-- The bytes before the data blocks after a call: the superblock, and both halves of the journal.
 use Rattle.std.specs.Prelude.{◌≡◌, take, Result, Ok, Err, IsTrue}
 use Rattle.disk_model.specs.declared.disk.Disk as disk
 use Rattle.journal_layout.specs.declared.shape.Shape.{Shape}
@@ -10,7 +10,7 @@ use Rattle.intake.specs.declared.faults.ArchiveFault.TheVariants.{Disk}
 abbrev pub KeepsSuperblock : {D : Type 0} → disk.Ghosts D → D → D → Type 0
 KeepsSuperblock g old new = IsTrue (g.is_honest old) → take 4096 (g.seen new) ≡ take 4096 (g.seen old)
 
--- and so does the journal: nothing is written but data blocks
+-- the journal stays as well: only data blocks are written
 abbrev pub KeepsFront : {D : Type 0} → disk.Ghosts D → Shape → D → D → Type 0
 KeepsFront g shape old new = IsTrue (g.is_honest old) → take (data_start shape) (g.seen new) ≡ take (data_start shape) (g.seen old)
 

@@ -16,7 +16,7 @@ abbrev pub DiskReply : Result (Unit {0}) ArchiveFault → Type 0
 DiskReply (Ok u) = Unit {0}
 DiskReply (Err f) = f ≡ Disk
 
--- the answer where one more block is asked for and `free` are free
+-- the answer if one more block is asked for and `free` are free
 abbrev pub BlockReply : ℕ → Result (Unit {0}) ArchiveFault → Type 0
 BlockReply free (Ok u) = 0 < free
 BlockReply free (Err SpaceFull) = free ≡ 0
@@ -49,14 +49,14 @@ AddsLowest flags old new = (k : ℕ) × IsLowest flags (Some k) × (new ≡ old 
 abbrev pub NeedsBlock : ℕ → ℕ → Type 0
 NeedsBlock len n = (n ≢ 0) × (len % 4096 + n ≡ 4096)
 
--- the same stream with n bytes more, where they fill no block, and where they do
+-- the same stream with n bytes more, if they fill no block, and if they do
 abbrev pub lengthened : StreamParts → ℕ → StreamParts
 lengthened s n = record s { facts = record s.facts { len = s.facts.len + n } }
 
 abbrev pub refreshed : StreamParts → ℕ → List ℕ → StreamParts
 refreshed s n blocks = record { facts = longer s.facts n blocks; block = zero_block }
 
--- a stream's growth by n bytes where `free` blocks are free: refused in the order of the faults, each under its condition
+-- a stream's growth by n bytes if `free` blocks are free: refused in the order of the faults, each under its condition
 abbrev pub Grows : ℕ → ℕ → StreamParts → ℕ → Result (Unit {0}) ArchiveFault → StreamParts → Type 0
 Grows free most old n (Ok u) new =
     (old.facts.len + n ≤ most)

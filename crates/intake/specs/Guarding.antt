@@ -1,4 +1,4 @@
--- What a crash leaves of an archive's cases.
+-- The cases of an archive that a crash leaves.
 use Rattle.std.specs.Prelude.{◌≡◌, ◌⊎◌, ℕ, false, true, Bool, List, Some, Result, Ok, Err, IsTrue, length}
 use Rattle.disk_model.specs.Moments.{LeavesOnly}
 use Rattle.disk_model.specs.declared.disk.Disk as disk
@@ -16,7 +16,7 @@ use Rattle.intake.specs.State.{ArchiveState, StreamFacts}
 use Rattle.intake.specs.declared.faults.ArchiveFault.{ArchiveFault}
 use Rattle.intake.specs.declared.faults.ArchiveFault.TheVariants.{Disk}
 
--- The disk is that of the journal, and what a crash now leaves has the images that reads give.
+-- The disk is that of the journal, and a disk that a crash leaves now has the images that reads give.
 pub record Guards {D : Type 0} (g : disk.Ghosts D) (d : D) (j : Journaled) : Type 0 where
   pub keeps : Keeps g d j
   pub whole : j.stopped ≡ false → IsTrue (g.is_honest d) → (c : List ℕ) → g.may_leave d c → durable_in c j.standing ≡ durable_in (g.seen d) j.standing
@@ -31,8 +31,8 @@ pub record LeavesCases {D : Type 0} (g : disk.Ghosts D) (old new : D) (j : Journ
 abbrev pub UsesNoFreeBlock : List Bool → Journaled → Type 0
 UsesNoFreeBlock flags j = (k : ℕ) → is_free flags k ≡ true → case_uses j.standing.cases k ≡ 0
 
--- What a crash at any moment of a call leaves: what was there before; or what is there after it, and if the disk failed what it would have left; a refusal leaves nothing
--- else.
+-- The cases that a crash after the answer may leave: the new ones; if the disk
+-- failed, also those that the call would have left. Other refusals leave no new ones.
 abbrev pub LeavesNew : {T : Type 0} → Result T ArchiveFault → Durable → (Durable → Type 0) → List ℕ → Type 0
 LeavesNew (Ok x) new doubt c = StandsFor c new
 LeavesNew (Err Disk) new doubt c = (x : Durable) × doubt x × StandsFor c x
@@ -41,7 +41,7 @@ LeavesNew (Err _) new doubt c = ⊥
 abbrev pub Leaves : {T : Type 0} → Durable → Result T ArchiveFault → Durable → (Durable → Type 0) → List ℕ → Type 0
 Leaves old r new doubt c = StandsFor c old ⊎ LeavesNew r new doubt c
 
--- the same of an append: what it would have left is what it leaves at last
+-- the same of an append: if the disk failed, it would have left the cases that it leaves on success
 abbrev pub LeavesStored : {T : Type 0} → Result T ArchiveFault → Durable → Durable → List ℕ → Type 0
 LeavesStored r old new c = Leaves old r new (λ x. x ≡ new) c
 
@@ -51,10 +51,10 @@ StoresIn blocks s c old slot x =
     (stream : StreamFacts) × (taken : Taken) × (stream_at s.streams slot ≡ Some stream) × (stream_at c.taken slot ≡ Some taken)
     × MayHaveRuns stream.len (length (runs_of blocks)) × (x ≡ with_case old stream blocks taken.bytes)
 
--- what a finish leaves that was not answered: the same in blocks of as many runs as an image of these bytes may have
+-- the cases that an unanswered finish may leave: the same in blocks of as many runs as an image of these bytes may have
 abbrev pub MayBeStored : ArchiveState → Contents → Durable → ℕ → Durable → Type 0
 MayBeStored s c old slot x = (blocks : List ℕ) × StoresIn blocks s c old slot x
 
--- what a retirement leaves that was not answered: the cases that go by the rule are gone
+-- the cases that an unanswered retirement may leave: those that the rule drops are gone
 abbrev pub MayBeRetired : ArchiveState → Policy → Durable → Durable → Type 0
 MayBeRetired s policy old x = (dropped : List ℕ) × (unmet : Bool) × RetiresSome s policy dropped unmet × (x ≡ without old dropped)

@@ -1,4 +1,4 @@
--- What an archive holds at one time and at later ones, whoever leads from one to the next: several processes, one after the other.
+-- The content of an archive at one time and at later ones, whoever leads from one to the next: several processes, one after the other.
 use Rattle.std.specs.Prelude.{◌≡◌, ◌⊎◌, ℕ, ◌<◌, ◌≤◌, List, [], ◌∷◌, IsTrue}
 use Rattle.disk_model.specs.declared.disk.Disk as disk
 use Rattle.journal_layout.specs.Standing.{Standing}
@@ -19,7 +19,7 @@ pub record IsSameImage (c d : FoundCase) : Type 0 where
   pub blocks : d.case.blocks ≡ c.case.blocks
   pub image : d.image ≡ c.image
 
--- What an archive may hold later: a case whose number was given by then was there, with the same image in the same blocks.
+-- The content that an archive may have later: a case whose number was given by then was there, with the same image in the same blocks.
 pub record IsLater (x y : Durable) : Type 0 where
   pub next : x.next ≤ y.next
   pub cases : (d : FoundCase) → IsAmong y.cases d → d.case.seq < x.next → (c : FoundCase) × IsAmong x.cases c × IsSameImage c d
@@ -45,7 +45,7 @@ pub record StandsAs (shape : Shape) (bytes : List ℕ) (x : Durable) : Type 0 wh
   pub shaped : standing.shape ≡ shape
   pub is : durable_in bytes standing ≡ x
 
--- What an archive holds has the case, and in its blocks these bytes have its image.
+-- The archive has the case, and in the case's blocks these bytes have its image.
 pub record HasItsBytes (shape : Shape) (bytes : List ℕ) (x : Durable) (c : FoundCase) : Type 0 where
   pub found : FoundCase
   pub there : IsAmong x.cases found
@@ -58,13 +58,13 @@ abbrev pub ACaseIsThereBetween : Type 0
 ACaseIsThereBetween = (x : Durable) (ys : List Durable) (c d : FoundCase) → HasNumbers x → AreInTurn x ys → IsAmong x.cases c → IsAmong (last_state x ys).cases d → d.case.seq ≡ c.case.seq
     → IsSameImage c d × ((y : Durable) (shape : Shape) (bytes : List ℕ) → IsBetween x ys y → StandsAs shape bytes y → HasItsBytes shape bytes y c)
 
--- Whatever a call answers, what the archive holds then is later than what it held; and so is what the call would have left where the
--- disk failed.
+-- Whatever a call answers, the cases of the archive then are later than its cases before the call. If the disk failed, the cases that the
+-- call would have left are later too.
 abbrev pub ACallLeadsOn : {D : Type 0} → disk.Ghosts D → Type 0
 ACallLeadsOn {D} g = (old new : Parts D) (call : Call) (r : ReplyTo call) → IsTrue (g.is_honest old.disk) → Makes g old call r new
     → IsLater (durable_of g.seen old) (durable_of g.seen new) × ((x : Durable) → WouldLeave g old call x → IsLater (durable_of g.seen old) x)
 
--- what the archive holds after each of these calls
+-- the cases of the archive after each of these calls
 abbrev pub states_of : {D : Type 0} → (D → List ℕ) → List (Made D) → List Durable
 states_of seen [] = []
 states_of seen (m ∷ ms) = durable_of seen m.archive ∷ states_of seen ms

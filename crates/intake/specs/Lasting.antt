@@ -1,4 +1,4 @@
--- Laws of what outlives a stop.
+-- Laws of the part of an archive that outlives a stop.
 use Rattle.std.specs.Prelude.{◌≡◌, ◌⊎◌, ℕ, ◌<◌, ◌≤◌, ◌^◌, List, [], length, map}
 use Rattle.std.specs.List.{All}
 use Rattle.extents.specs.declared.run_list.Run.{Run}

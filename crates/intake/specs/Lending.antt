@@ -27,7 +27,7 @@ LendsBlock slot from r = Lends slot_row (Array u8 0) slot r.1 (reblocked slot.no
 abbrev pub with_room : List ℕ → StreamParts → StreamParts
 with_room ws s = record s { block = refilled s.block (s.facts.len % 4096) ws }
 
--- what the slots hold when the loan ends, with these as the last bytes that were lent
+-- the streams in the slots when the loan ends, with these as the last bytes that were lent
 abbrev pub slots_left : List (Option StreamParts) → ℕ → Result (Unit {0}) ArchiveFault → List ℕ → List (Option StreamParts)
 slots_left streams slot (Ok u) ws = slice_set streams slot (option_map (with_room ws) (stream_at streams slot))
 slots_left streams slot (Err f) ws = streams

@@ -1,4 +1,4 @@
--- An archive over many stops, and what follows for one case and for the numbers of the cases.
+-- An archive over many stops, and the consequences for one case and for the numbers of the cases.
 use Rattle.std.specs.Prelude.{◌≡◌, ◌⊎◌, ℕ, ◌<◌, ◌≤◌, false, List, [], ◌∷◌, Result, Ok, IsErr, IsTrue}
 use Rattle.std.specs.List.{AllByRecursion}
 use Rattle.disk_model.specs.Anew.{IsMadeAnew, Restarts}
@@ -28,7 +28,7 @@ pub record IsLived {D : Type 0} (g : disk.Ghosts D) (l : Life D) : Type 0 where
   pub before : IsRunOfMarks g l.first l.acknowledged
   pub after : IsRunOfMarks g (last_acknowledged l) l.later
 
--- An opening that began no life: what it answered, and the disk that the next one is tried on.
+-- An opening that began no life: its answer, and the disk that the next one is tried on.
 pub record Attempt (D : Type 0) : Type 0 where
   pub limit : ℕ
   pub answer : Result (Parts D) (OpenFault × D)
@@ -50,8 +50,8 @@ abbrev pub disk_after : {D : Type 0} → D → List (Attempt D) → D
 disk_after d [] = d
 disk_after d (t ∷ ts) = disk_after t.next ts
 
--- What is left of a life: the machine stops at any moment since the last acknowledgement; or the process ends, after a disk
--- fault too, and what reads give of its file when it is opened next is one of the lists that a crash then could leave.
+-- The bytes that a life leaves: the machine stops at any moment since the last acknowledgement; or the process ends, perhaps after a disk
+-- fault, and the next opening reads from the file one of the lists that a crash then could leave.
 abbrev pub IsLeftBy : {D : Type 0} → disk.Ghosts D → Life D → List ℕ → Type 0
 IsLeftBy g l left =
     g.left_since (last_of (last_acknowledged l) l.later).disk (g.clock (last_acknowledged l).disk) left ⊎ g.may_leave (last_of (last_acknowledged l) l.later).disk left
@@ -74,7 +74,7 @@ abbrev pub AreLived : {D : Type 0} → disk.Ghosts D → Life D → List (Life D
 AreLived g l [] = IsLived g l
 AreLived g l (n ∷ ns) = IsLived g l × IsFollowed g l n × AreLived g n ns
 
--- each life begins with what the last acknowledged mark of the life before has, or a later one
+-- each life begins with the cases of the last acknowledged mark of the life before, or of a later mark
 abbrev pub AreKept : {D : Type 0} → Life D → List (Life D) → Type 0
 AreKept l [] = Unit {0}
 AreKept l (n ∷ ns) = HasOne (last_acknowledged l) l.later n.first.durable × AreKept n ns
@@ -83,7 +83,7 @@ AreKept l (n ∷ ns) = HasOne (last_acknowledged l) l.later n.first.durable × A
 abbrev pub AReopeningIsAStop : {D : Type 0} → disk.Ghosts D → Type 0
 AReopeningIsAStop {D} g = (l : Life D) (left : List ℕ) → IsLived g l → IsLeftBy g l left → g.left_since (last_of (last_acknowledged l) l.later).disk (g.clock (last_acknowledged l).disk) left
 
--- Whatever bytes a stop leaves of a life, what they encode is what its last acknowledged mark has, or a later one.
+-- Whatever bytes a stop leaves of a life, they encode the cases of its last acknowledged mark, or of a later one.
 abbrev pub KeptOverAStop : {D : Type 0} → disk.Ghosts D → Type 0
 KeptOverAStop {D} g = (l : Life D) (left : List ℕ) (x : Durable) → IsLived g l → g.left_since (last_of (last_acknowledged l) l.later).disk (g.clock (last_acknowledged l).disk) left
     → StandsFor left x → HasOne (last_acknowledged l) l.later x

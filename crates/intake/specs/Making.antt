@@ -21,7 +21,7 @@ use Rattle.intake.specs.declared.space.Space.{Space}
 use Rattle.retention.specs.declared.Decision.{Decision}
 use Rattle.retention.specs.declared.Policy.{Policy}
 
--- a call of an open archive, with what it is given
+-- a call of an open archive, with its arguments
 pub data Call : Type 0 where
   -- a stream begins in a slot, of this kind and name and of this process
   begin_in : ℕ → StreamFacts → Call
@@ -56,7 +56,7 @@ pub data Call : Type 0 where
   -- whether a disk fault has stopped the archive
   ask_stopped : Call
 
--- what a call answers
+-- the type of a call's answer
 abbrev pub ReplyTo : Call → Type 0
 ReplyTo (finish_of slot) = Result ℕ ArchiveFault
 ReplyTo (retire_by policy) = Result Decision ArchiveFault
@@ -68,8 +68,7 @@ ReplyTo ask_version = Result ℕ ArchiveFault
 ReplyTo ask_stopped = Bool
 ReplyTo _ = Result (Unit {0}) ArchiveFault
 
--- What a call answers of an archive, and what it makes of it: what its contract promises. A slice that is lent keeps its
--- length.
+-- The answer of a call, and the archive after it, as the call's contract promises them. A slice that is lent keeps its length.
 abbrev pub Makes : {D : Type 0} → disk.Ghosts D → Parts D → (call : Call) → ReplyTo call → Parts D → Type 0
 Makes g old (begin_in slot s) r new = BeginCall g old slot (record s { len = 0; blocks = [] }) r new
 Makes g old (lend_of slot left) r new = RoomReply (state_of old) slot r × (length left ≡ length (room_of old slot r)) × (new ≡ room_left old slot r left)
@@ -88,7 +87,7 @@ Makes g old count_free r new = FreeReply (state_of old) r × (new ≡ old)
 Makes g old ask_version r new = VersionReply (state_of old) r × (new ≡ old)
 Makes g old ask_stopped r new = (r ≡ old.stopped) × (new ≡ old)
 
--- A call that was made: what it answered, and the archive then.
+-- A call that was made: its answer, and the archive then.
 pub record Made (D : Type 0) : Type 0 where
   pub call : Call
   pub reply : ReplyTo call
@@ -104,7 +103,7 @@ abbrev pub archive_after : {D : Type 0} → Parts D → List (Made D) → Parts 
 archive_after a [] = a
 archive_after a (m ∷ ms) = archive_after m.archive ms
 
--- what a call would have left, had the disk not failed
+-- the cases that a call would have left, had the disk not failed
 abbrev pub WouldLeave : {D : Type 0} → disk.Ghosts D → Parts D → Call → Durable → Type 0
 WouldLeave g old (finish_of slot) x = MayBeStored (state_of old) (contents_of g.seen old) (durable_of g.seen old) slot x
 WouldLeave g old (delete_of seq) x = x ≡ without (durable_of g.seen old) (seq ∷ [])
@@ -114,7 +113,7 @@ WouldLeave g old upgrade_it x = x ≡ upgraded (durable_of g.seen old)
 WouldLeave g old (retire_by policy) x = MayBeRetired (state_of old) policy (durable_of g.seen old) x
 WouldLeave g old _ x = ⊥
 
--- what is in doubt anew after a call: these where it changes cases and answered that the disk failed, else nothing
+-- the cases that a call newly puts in doubt: these, if it changes cases and answered that the disk failed; otherwise none
 abbrev pub newly_doubted : (call : Call) → ReplyTo call → List Durable → List Durable
 newly_doubted (finish_of slot) r more = doubted {T = ℕ} r more
 newly_doubted (delete_of seq) r more = doubted {T = Unit {0}} r more
@@ -124,7 +123,7 @@ newly_doubted upgrade_it r more = doubted {T = Unit {0}} r more
 newly_doubted (retire_by policy) r more = doubted {T = Decision} r more
 newly_doubted _ r more = []
 
--- a mark after each call: the state of the archive then, with what is in doubt
+-- a mark after each call: the state of the archive then, with the cases that are in doubt
 abbrev pub AreMarks : {D : Type 0} → disk.Ghosts D → Parts D → List Durable → List (Made D) → List (Mark D) → Type 0
 AreMarks g a before [] [] = Unit {0}
 AreMarks g a before [] (n ∷ ns) = ⊥
@@ -143,7 +142,7 @@ abbrev pub free_bytes : Option Taken → List ℕ
 free_bytes None = []
 free_bytes (Some t) = t.free
 
--- the bytes that a call takes into the stream of a slot: where it advances that stream, the first of its free part as they are
+-- the bytes that a call takes into the stream of a slot: if it advances that stream, the first of its free part as they are
 abbrev pub taken_by : {D : Type 0} → (D → List ℕ) → ℕ → Parts D → (call : Call) → ReplyTo call → List ℕ
 taken_by seen slot old (advance_by at n) (Ok u) = if at == slot then take n (free_bytes (stream_at (contents_of seen old).taken slot)) else []
 taken_by seen slot old (advance_by at n) (Err f) = []
@@ -167,15 +166,15 @@ pub record IsCaseOf (s : StreamFacts) (seq : ℕ) (bytes : List ℕ) (c : FoundC
   pub unlabelled : c.case.label ≡ []
   pub image : c.image ≡ bytes
 
--- A case is what its own stream began as, and its image is what its calls took, from its begin to its finish, whatever other
--- calls were made between.
+-- A case has the facts with which its own stream began, and its image has the bytes that the stream's calls took, from its start to its
+-- finish, whatever other calls were made between.
 abbrev pub AnImageIsWhatWasTaken : {D : Type 0} → disk.Ghosts D → Type 0
 AnImageIsWhatWasTaken {D} g = (old begun : Parts D) (slot : ℕ) (s : StreamFacts) (u : Unit {0}) (made : List (Made D)) (new : Parts D) (seq : ℕ) → IsTrue (g.is_honest old.disk)
     → Makes g old (begin_in slot s) (Ok u) begun → AreMade g begun made → StaysOpen slot made → Makes g (archive_after begun made) (finish_of slot) (Ok seq) new
     → (c : FoundCase) × IsCaseOf s seq (taken_over g.seen slot begun made) c
     × ((durable_of g.seen new).cases ≡ (durable_of g.seen (archive_after begun made)).cases ++ c ∷ [])
 
--- What is answered of a case's image is that too, whatever calls are made after its finish.
+-- A later answer about the case's image gives the same image, whatever calls are made after the finish.
 abbrev pub AnImageIsAnsweredAsItWasTaken : {D : Type 0} → disk.Ghosts D → Type 0
 AnImageIsAnsweredAsItWasTaken {D} g = (old begun : Parts D) (slot : ℕ) (s : StreamFacts) (u : Unit {0}) (made : List (Made D)) (stored : Parts D) (seq : ℕ) (later : List (Made D)) (image : Vec ℕ Global) (last : Parts D)
     → IsTrue (g.is_honest old.disk) → Makes g old (begin_in slot s) (Ok u) begun → AreMade g begun made → StaysOpen slot made → Makes g (archive_after begun made) (finish_of slot) (Ok seq) stored

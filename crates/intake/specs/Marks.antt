@@ -1,4 +1,4 @@
--- A run of calls as marks: the state when a call has been answered. What a stop leaves is told by them.
+-- A run of calls as marks: a mark is the state when a call has been answered. The marks show which cases a stop may leave.
 use Rattle.std.specs.Prelude.{◌≡◌, ◌⊎◌, ℕ, ◌≤◌, Bool, List, [], ◌∷◌, ◌++◌, Result, Err, IsTrue}
 use Rattle.std.specs.List.{AllByRecursion}
 use Rattle.disk_model.specs.Moments.{AddsOnly}
@@ -16,14 +16,14 @@ pub record Mark (D : Type 0) : Type 0 where
   pub disk : D
   -- the cases, the next number and the version
   pub durable : Durable
-  -- what a call that answered Disk would have left, now or earlier
+  -- the cases that a call that answered Disk would have left, now or earlier
   pub in_doubt : List Durable
 
 abbrev pub IsOneOf : List Durable → Durable → Type 0
 IsOneOf [] x = ⊥
 IsOneOf (y ∷ ys) x = (x ≡ y) ⊎ IsOneOf ys x
 
--- what the mark holds, or what is in doubt there
+-- the cases of the mark, or cases that are in doubt there
 abbrev pub Has : {D : Type 0} → Mark D → Durable → Type 0
 Has m x = (x ≡ m.durable) ⊎ IsOneOf m.in_doubt x
 
@@ -31,16 +31,16 @@ Has m x = (x ≡ m.durable) ⊎ IsOneOf m.in_doubt x
 abbrev pub FindsMark : {D : Type 0} → List ℕ → Mark D → Type 0
 FindsMark c m = (x : Durable) × StandsFor c x × Has m x
 
--- a crash at this mark leaves what it has
+-- a crash at this mark leaves its cases, or cases that are in doubt there
 abbrev pub IsMarkSettled : {D : Type 0} → disk.Ghosts D → Mark D → Type 0
 IsMarkSettled g m = (c : List ℕ) → g.may_leave m.disk c → FindsMark c m
 
--- From one mark to the next: a crash meanwhile leaves what one before could have left, or what one of the two has.
+-- From one mark to the next: a crash meanwhile leaves a disk that one before could have left, or the cases of one of the two.
 pub record Passes {D : Type 0} (g : disk.Ghosts D) (old new : Mark D) : Type 0 where
   pub honesty : g.is_honest new.disk ≡ g.is_honest old.disk
   pub crash : IsTrue (g.is_honest old.disk) → AddsOnly g old.disk new.disk (λ c. FindsMark c old ⊎ FindsMark c new)
   pub settled : IsTrue (g.is_honest old.disk) → IsMarkSettled g old → IsMarkSettled g new
-  -- the next number never falls, nor does what is in doubt anew have a lower one
+  -- the next number never falls, and cases that are newly in doubt have no lower one
   pub number : IsTrue (g.is_honest old.disk) → old.durable.next ≤ new.durable.next
   pub doubts : IsTrue (g.is_honest old.disk) → (x : Durable) → IsOneOf new.in_doubt x → IsOneOf old.in_doubt x ⊎ (old.durable.next ≤ x.next)
 
@@ -59,7 +59,7 @@ abbrev pub FindsOne : {D : Type 0} → List ℕ → Mark D → List (Mark D) →
 FindsOne c m [] = FindsMark c m
 FindsOne c m (n ∷ ns) = FindsMark c m ⊎ FindsOne c n ns
 
--- what a crash since the mark may have left is found at it or at a later one
+-- the cases that a crash since the mark may have left are those of this mark or of a later one
 abbrev pub IsFoundFrom : {D : Type 0} → disk.Ghosts D → Mark D → List (Mark D) → Type 0
 IsFoundFrom g m ns = (c : List ℕ) → g.left_since (last_of m ns).disk (g.clock m.disk) c → FindsOne c m ns
 
@@ -68,13 +68,12 @@ abbrev pub IsFoundSince : {D : Type 0} → disk.Ghosts D → Mark D → List (Ma
 IsFoundSince g m [] = IsFoundFrom g m []
 IsFoundSince g m (n ∷ ns) = IsFoundFrom g m (n ∷ ns) × IsFoundSince g n ns
 
--- The headline of a run: from a settled mark on, whatever crash there was since a mark, what is found is what that mark has
--- or a later one.
+-- The main law of a run that starts at a settled mark: after a crash at any time since some mark, the cases that are found are those of
+-- that mark or of a later one.
 abbrev pub FoundAfterAStop : {D : Type 0} → disk.Ghosts D → Type 0
 FoundAfterAStop {D} g = (m : Mark D) (ns : List (Mark D)) → IsTrue (g.is_honest m.disk) → IsMarkSettled g m → IsRunOfMarks g m ns → IsFoundSince g m ns
 
--- A crash since a moment before a run leaves nothing else than what it could have left before the run, or what one of its
--- marks has.
+-- A crash since a moment before a run leaves only disks that it could have left before the run, or the cases of one of its marks.
 abbrev pub NothingElseIsLeft : {D : Type 0} → disk.Ghosts D → Type 0
 NothingElseIsLeft {D} g = (m : Mark D) (ns : List (Mark D)) (t : ℕ) (c : List ℕ) → IsTrue (g.is_honest m.disk) → IsRunOfMarks g m ns → t ≤ g.clock m.disk
     → g.left_since (last_of m ns).disk t c → g.left_since m.disk t c ⊎ FindsOne c m ns
@@ -84,16 +83,16 @@ abbrev pub HasOne : {D : Type 0} → Mark D → List (Mark D) → Durable → Ty
 HasOne m [] x = Has m x
 HasOne m (n ∷ ns) x = Has m x ⊎ HasOne n ns x
 
--- the state of an archive, where these are in doubt
+-- the state of an archive, if these are in doubt
 abbrev pub mark_of : {D : Type 0} → (D → List ℕ) → Parts D → List Durable → Mark D
 mark_of seen a doubts = record { disk = a.disk; durable = durable_of seen a; in_doubt = doubts }
 
--- what is in doubt after an answer: where the disk failed, what the call would have left
+-- the cases in doubt after an answer: if the disk failed, those that the call would have left
 abbrev pub doubted : {T : Type 0} → Result T ArchiveFault → List Durable → List Durable
 doubted (Err Disk) more = more
 doubted _ more = []
 
--- A call leads from mark to mark; where the disk failed, all that is in doubt anew is what it would have left.
+-- A call leads from mark to mark; if the disk failed, the only cases that are newly in doubt are those that it would have left.
 abbrev pub LeadsToMark : {D : Type 0} → (T : Type 0) → disk.Ghosts D → Parts D → Result T ArchiveFault → Parts D → (Durable → Type 0) → Type 0
 LeadsToMark T g old r new doubt =
     (before : List Durable) → (more : List Durable) × AllByRecursion doubt more × Passes g (mark_of g.seen old before) (mark_of g.seen new (doubted r more ++ before))

@@ -47,7 +47,7 @@ name_of_case c = c.origin.name
 abbrev pub names_gone : List ℕ → List Case → List (List ℕ)
 names_gone seqs cases = map name_of_case (gone seqs cases)
 
--- The set has a name exactly where one of the cases or of the streams has it, and no two of these have one name.
+-- The set has a name if and only if one of the cases or of the streams has it, and no two of these have one name.
 abbrev pub AreTaken : List Case → List (Option StreamParts) → BTreeSet (ℕ × ArrayVec ℕ) → Type 0
 AreTaken cases streams names = (name : List ℕ) → cases_named cases name + streams_named streams name ≡ one_if (has_name names name)
 

@@ -1,4 +1,4 @@
--- What room in the journal the record of a stream needs.
+-- The room in the journal that the record of a stream needs.
 use Rattle.std.specs.Prelude.{ℕ, ◌+◌, ◌||◌, Bool, false, not, length, nat_lt, Option, None, Some}
 use Rattle.extents.specs.Runs.{runs_of}
 use Rattle.journal_layout.specs.Layout.{half_length}

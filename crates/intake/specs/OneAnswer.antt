@@ -1,5 +1,4 @@
--- What a call answers, and the state that it leaves, are functions of the state before it, unless there is no memory or the disk
--- fails.
+-- The answer of a call, and the state that it leaves, are functions of the state before it, unless memory runs out or the disk fails.
 use Rattle.std.specs.Prelude.{◌≡◌, ℕ, Bool, List, Result, Ok, Err}
 use Rattle.intake.specs.State.{ArchiveState, StreamFacts}
 use Rattle.intake.specs.Step.{BeginStep, AbandonStep, FinishStep, DeleteStep, PinStep, LabelStep, UpgradeStep, RetireStep, FillsBlocks}
@@ -19,7 +18,7 @@ IsDecided (Err _) = Unit {0}
 abbrev pub IsOneAnswer : {T : Type 0} → (Result T ArchiveFault → ArchiveState → Type 0) → Type 0
 IsOneAnswer {T} Does = (r r' : Result T ArchiveFault) (new new' : ArchiveState) → Does r new → Does r' new' → IsDecided r → IsDecided r' → (r' ≡ r) × (new' ≡ new)
 
--- what a retirement says: the cases that it drops, and whether the limits are not met
+-- the decision of a retirement: the cases that it drops, and whether the limits are not met
 abbrev pub decision_said : Result Decision ArchiveFault → Result (List ℕ × Bool) ArchiveFault
 decision_said (Ok d) = Ok (d.dropped.items, d.unmet)
 decision_said (Err f) = Err f

@@ -1,4 +1,4 @@
--- What an opening answers, and the cases that an archive shows.
+-- The answer of an opening, and the cases that an archive shows.
 use Rattle.std.specs.Prelude.{◌≡◌, ℕ, false, true, List, Option, None, Result, Ok, Err, map, replicate}
 use Rattle.std.specs.Borrow.{Bor}
 use Rattle.journal_layout.specs.Soundness.{case_numbered}
@@ -17,12 +17,12 @@ abbrev pub disk_in : {D : Type 0} → Result (Parts D) (OpenFault × D) → D
 disk_in (Ok a) = a.disk
 disk_in (Err e) = e.1
 
--- what it answers of the journal
+-- the part of its answer that is about the journal
 abbrev pub journal_in : {D : Type 0} → Result (Parts D) (OpenFault × D) → Result Journaled OpenFault
 journal_in (Ok a) = Ok a.journal
 journal_in (Err e) = Err e.0
 
--- the same before the archive is put together of what the opening of its journal found and the slots
+-- the same before the archive is put together from the opened journal and the slots
 abbrev pub journal_of : Result (Opened × List (Option StreamParts)) OpenFault → Result Journaled OpenFault
 journal_of (Ok parts) = Ok parts.0.journal
 journal_of (Err fault) = Err fault

@@ -1,4 +1,4 @@
--- What an archive is made of, as its contracts see it.
+-- The parts of an archive, as its contracts see it.
 use Rattle.std.specs.Prelude.{ℕ, ◌%◌, Bool, List, Option, ◌++◌, map, option_map, take, drop}
 use Rattle.journal_layout.specs.Case.{Case}
 use Rattle.case_journal.specs.Journaled.{Journaled}

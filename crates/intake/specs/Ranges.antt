@@ -1,4 +1,4 @@
--- Where on the disk the bytes of an image lie.
+-- The ranges of the disk that have the bytes of an image.
 use Rattle.std.specs.Prelude.{◌≡◌, ℕ, ◌+◌, ◌-◌, ◌*◌, ◌≤◌, min, IsTrue, false, true, List, length, take, sum_by, None, Some, Result, Ok, Err, Vec}
 use Rattle.std.specs.Global.{Global}
 use Rattle.std.specs.List.{All, flat_map}
@@ -40,7 +40,7 @@ pub record CoversRuns (shape : Shape) (runs : List Run) (len : ℕ) (ranges : Li
   pub bytes : (b : List ℕ) → length b ≡ disk_length shape → bytes_in b ranges ≡ take len (joined shape b (blocks_of runs))
   pub count : count_in ranges + (len - 4096 * length (blocks_of runs)) ≡ len
 
--- Where the image of a case lies: on an honest disk these bytes are the image, on any disk they are as many.
+-- The ranges of the image of a case: on an honest disk these bytes are the image, on any disk they are as many.
 pub record Locates {D : Type 0} (g : disk.Ghosts D) (a : Parts D) (seq : ℕ) (ranges : List ByteRange) : Type 0 where
   pub found : Case
   pub has : HasCase (state_of a) seq found
@@ -50,7 +50,7 @@ pub record Locates {D : Type 0} (g : disk.Ghosts D) (a : Parts D) (seq : ℕ) (r
   -- whatever bytes there are, these are the ones of the case's blocks
   pub places : (b : List ℕ) → length b ≡ g.size a.disk → bytes_in b ranges ≡ image_in (state_of a).shape b found.blocks found.len
 
--- the ranges of a case's image, or why there are none
+-- the ranges of a case's image, or the refusal
 abbrev pub RangesReply : {D : Type 0} → disk.Ghosts D → Parts D → ℕ → Result (Vec ByteRange Global) ArchiveFault → Type 0
 RangesReply g a seq (Ok ranges) = Locates g a seq ranges.items
 RangesReply g a seq (Err Stopped) = a.stopped ≡ true

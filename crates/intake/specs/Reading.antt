@@ -1,4 +1,4 @@
--- How an image is read: the blocks that it lies in, and what refuses the reading.
+-- How an image is read: the blocks that it lies in, and the refusals of the reading.
 use Rattle.std.specs.Prelude.{◌≡◌, ℕ, ◌+◌, ◌≤◌, List, length}
 use Rattle.std.specs.List.{All}
 use Rattle.extents.specs.declared.run_list.Run.{Run}

@@ -1,4 +1,4 @@
--- What the rule looks at of an entry, and whether a name is free once the rule has dropped what it drops.
+-- The fields of an entry that the rule reads, and whether a name is free once the rule has dropped its cases.
 use Rattle.std.specs.Prelude.{◌≡◌, ℕ, Bool, true, false, List, map, Result, Ok, Err}
 use Rattle.journal_layout.specs.Folding.{dropped}
 use Rattle.journal_layout.specs.Case.{case_of}

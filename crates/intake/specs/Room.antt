@@ -14,7 +14,7 @@ abbrev pub free_part : Option StreamParts → List ℕ
 free_part None = []
 free_part (Some s) = drop (s.facts.len % 4096) s.block
 
--- what is lent of these slots
+-- the bytes of these slots that are lent
 abbrev pub room_in : List (Option StreamParts) → ℕ → Result (Unit {0}) ArchiveFault → List ℕ
 room_in streams slot (Ok u) = free_part (stream_at streams slot)
 room_in streams slot (Err f) = []
@@ -31,11 +31,11 @@ SlotReply stopped streams slot (Err Stopped) = stopped ≡ true
 SlotReply stopped streams slot (Err NoStream) = (stopped ≡ false) × (stream_at streams slot ≡ None)
 SlotReply stopped streams slot (Err _) = ⊥
 
--- what is lent
+-- the bytes that are lent
 abbrev pub room_of : {D : Type 0} → Parts D → ℕ → Result (Unit {0}) ArchiveFault → List ℕ
 room_of a slot r = room_in a.streams slot r
 
--- what the archive is when the loan ends, with these as the last bytes that were lent
+-- the archive when the loan ends, with these as the last bytes that were lent
 abbrev pub room_left : {D : Type 0} → Parts D → ℕ → Result (Unit {0}) ArchiveFault → List ℕ → Parts D
 room_left a slot r ws = record a { streams = slots_left a.streams slot r ws }
 
@@ -44,7 +44,7 @@ abbrev pub FitsFree : Option StreamParts → ℕ → Type 0
 FitsFree None n = Unit {0}
 FitsFree (Some s) n = s.facts.len % 4096 + n ≤ 4096
 
--- where the free part begins, of what is in a slot that is there or not; at the end where nothing is lent
+-- the place where the free part begins, from the contents of a slot that may or may not exist; it is the end if nothing is lent
 abbrev pub IsFreeFrom : Bool → Bool → Option StreamParts → ℕ → Result (Unit {0}) ArchiveFault → ℕ → Type 0
 IsFreeFrom stopped there o end (Ok u) from = (stopped ≡ false) × (there ≡ true) × (s : StreamParts) × (o ≡ Some s) × (from ≡ s.facts.len % 4096)
 IsFreeFrom stopped there o end (Err Stopped) from = (stopped ≡ true) × (from ≡ end)

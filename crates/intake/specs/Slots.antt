@@ -1,7 +1,7 @@
--- What the slots for streams hold.
+-- The contents of the slots for streams.
 use Rattle.std.specs.Prelude.{ℕ, List, Option, None, map, slice_index_or}
 
--- what a slot holds, if anything
+-- the content of a slot, if it has any
 abbrev pub stream_at : {X : Type 0} → List (Option X) → ℕ → Option X
 stream_at slots slot = slice_index_or slots slot None
 

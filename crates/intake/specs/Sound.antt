@@ -1,5 +1,4 @@
--- What holds of every archive: each data block is free or used once, by a case or by a stream, and no two of these have
--- one name.
+-- Invariants of every archive: each data block is free or used once, by a case or by a stream, and no two of these have one name.
 use Rattle.std.specs.Prelude.{◌≡◌, ℕ, ◌+◌, ◌/◌, ◌^◌, ◌<◌, ◌≤◌, Bool, true, false, List, Option, None, Some, length, sum_by, nat_lt, option_map, IsTrue}
 use Rattle.std.specs.List.{All, count_by}
 use Rattle.disk_model.specs.declared.disk.Disk as disk

@@ -1,4 +1,4 @@
--- The state of an archive without the images' bytes: its cases, its streams, and what decides how a call is answered.
+-- The state of an archive without the images' bytes: its cases, its streams, and the facts that decide the answer of a call.
 use Rattle.std.specs.Prelude.{ℕ, ◌+◌, ◌/◌, Bool, List, [], Option, None, Some, sum_by, length}
 pub use Rattle.journal_layout.specs.Soundness.{blocks_for}
 use Rattle.journal_layout.specs.Case.{Case, Origin}

@@ -1,5 +1,5 @@
--- What each call does to the state without bytes, and when it is refused: relations by cases, the refusals in the order
--- in which they are tried.
+-- The effect of each call on the state without bytes, and the conditions under which the call is refused: relations by cases, with the
+-- refusals in the order in which they are tried.
 use Rattle.std.specs.Prelude.{◌≡◌, ◌≢◌, ℕ, zero, suc, ◌+◌, ◌*◌, ◌/◌, ◌%◌, ◌^◌, ◌<◌, ◌≤◌, Bool, true, false, List, [], ◌∷◌, ◌++◌, length, Option, None, Some, Result, Ok, Err, slice_set, ◌||◌, ◌⊎◌, map, nat_lt, sum_by, if◌then◌else◌}
 use Rattle.std.specs.List.{list_any}
 use Rattle.std.specs.Str.{bytes_eq}
@@ -78,7 +78,7 @@ abbrev pub FillsBlocks : ArchiveState → ℕ → StreamFacts → ℕ → List �
 FillsBlocks s slot stream total blocks =
     (count : ℕ) × (stream.len / 4096 + count ≡ total) × TakesLowest (with_stream s slot None) stream.blocks count blocks
 
--- room: lends the free part
+-- room: the free part is lent
 abbrev pub RoomReply : ArchiveState → ℕ → Result (Unit {0}) ArchiveFault → Type 0
 RoomReply old slot (Ok u) = (old.stopped ≡ false) × (stream_at old.streams slot ≢ None)
 RoomReply old slot (Err Stopped) = old.stopped ≡ true
@@ -126,7 +126,7 @@ MayHaveRuns len runs = (runs ≤ blocks_for len) × (0 < len → 0 < runs)
 abbrev pub label_size : List ℕ → ℕ
 label_size text = rounded (16 + length text)
 
--- the same where the journal is written anew: an empty label has no record there
+-- the same if the journal is written anew: an empty label has no record there
 abbrev pub label_bytes : List ℕ → ℕ
 label_bytes [] = 0
 label_bytes (b ∷ rest) = label_size (b ∷ rest)
@@ -163,7 +163,8 @@ abbrev pub IsFull : ArchiveState → ℕ → List Case → Type 0
 IsFull s size cases =
     (half_length s.shape < s.used + size + 1) × OverflowsAnew s cases
 
--- the same state with these cases, by a record of `size` bytes: it follows the others where it fits there, and else the other half has the cases, written anew
+-- the same state with these cases, by a record of `size` bytes: it follows the others if it
+-- fits there, otherwise the other half has the cases, written anew
 abbrev pub recorded : ArchiveState → ℕ → List Case → ArchiveState
 recorded s size cases = record s {
   cases = cases;
@@ -293,7 +294,7 @@ with_flag old seq flag = recorded old pin_size (cases_flagged old seq flag)
 abbrev pub PinFits : ArchiveState → ℕ → Bool → Type 0
 PinFits old seq flag = BytesFit old pin_size (cases_flagged old seq flag)
 
--- pin: the flag is set; where it is set already, nothing changes
+-- pin: the flag is set; nothing changes if it is set already
 abbrev pub PinStep : ArchiveState → ℕ → Bool → Result (Unit {0}) ArchiveFault → ArchiveState → Type 0
 PinStep old seq flag (Ok u) new =
     (c : Case) × HasCase old seq c
@@ -322,7 +323,7 @@ LabelFits old seq text = BytesFit old (label_size text) (cases_labelled old seq 
 abbrev pub MayLabel : ArchiveState → ℕ → Case → Type 0
 MayLabel old seq c = HasCase old seq c × (old.version ≡ 2)
 
--- label: the label is set; where it is set already, nothing changes. Version 1 keeps none, not even the empty one.
+-- label: the label is set; nothing changes if the case has it already. Version 1 keeps no labels, not even the empty one.
 abbrev pub LabelStep : ArchiveState → ℕ → List ℕ → Result (Unit {0}) ArchiveFault → ArchiveState → Type 0
 LabelStep old seq text (Ok u) new =
     (c : Case) × MayLabel old seq c
@@ -345,7 +346,7 @@ anew_in_two s = record s { version = 2; used = snapshot_size s.cases; generation
 abbrev pub MayUpgrade : ArchiveState → Type 0
 MayUpgrade old = (old.stopped ≡ false) × (old.version ≡ 1)
 
--- upgrade: the cases are written anew in version 2 of the layout; where the archive is of that version, nothing changes
+-- upgrade: the cases are written anew in version 2 of the layout; if the archive has that version, nothing changes
 abbrev pub UpgradeStep : ArchiveState → Result (Unit {0}) ArchiveFault → ArchiveState → Type 0
 UpgradeStep old (Ok u) new =
     (old.stopped ≡ false)
@@ -362,7 +363,7 @@ VersionReply old (Ok version) = (old.stopped ≡ false) × (version ≡ old.vers
 VersionReply old (Err Stopped) = old.stopped ≡ true
 VersionReply old (Err _) = ⊥
 
--- what the rule looks at of a case
+-- the fields of a case that the rule reads
 abbrev pub brief_of : Case → Brief
 brief_of c = record { seq = c.seq; time = c.origin.time; length = c.len; pinned = c.pinned }
 
@@ -370,7 +371,7 @@ brief_of c = record { seq = c.seq; time = c.origin.time; length = c.len; pinned 
 abbrev pub RetiresSome : ArchiveState → Policy → List ℕ → Bool → Type 0
 RetiresSome old policy dropped unmet = (old.stopped ≡ false) × IsDecision policy (map brief_of old.cases) dropped unmet × (dropped ≢ [])
 
--- retire: the cases that the rule drops are gone; where it drops none, nothing changes
+-- retire: the cases that the rule drops are gone; if it drops none, nothing changes
 abbrev pub RetireStep : ArchiveState → Policy → Result Decision ArchiveFault → ArchiveState → Type 0
 RetireStep old policy (Ok d) new =
     (old.stopped ≡ false) × IsDecision policy (map brief_of old.cases) d.dropped.items d.unmet

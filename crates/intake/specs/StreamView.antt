@@ -1,4 +1,4 @@
--- What contracts see of a stream.
+-- A stream as contracts see it.
 use Rattle.std.specs.Prelude.{ℕ, List, Option, option_map}
 use Rattle.journal_layout.specs.Case.{Case}
 use Rattle.intake.specs.State.{StreamFacts}

@@ -14,7 +14,7 @@ RefusalSpares (Ok x) old new = Unit {0}
 RefusalSpares (Err Disk) old new = Unit {0}
 RefusalSpares (Err _) old new = new ≡ old
 
--- advance: where the bytes fill no block, too
+-- advance: also if the bytes fill no block
 abbrev pub AdvanceSpares : {D : Type 0} → ArchiveState → ℕ → ℕ → Result (Unit {0}) ArchiveFault → D → D → Type 0
 AdvanceSpares s slot n (Ok u) old new =
     (t : StreamFacts) → stream_at s.streams slot ≡ Some t → (((n ≢ 0) × ((t.len + n) % 4096 ≡ 0)) → ⊥) → new ≡ old
@@ -27,22 +27,22 @@ FinishSpares (Err NoStream) old new = new ≡ old
 FinishSpares (Err SpaceFull) old new = new ≡ old
 FinishSpares _ old new = Unit {0}
 
--- pin: where the flag is set already, too
+-- pin: also if the flag is set already
 abbrev pub PinSpares : {D : Type 0} → ArchiveState → ℕ → Bool → Result (Unit {0}) ArchiveFault → D → D → Type 0
 PinSpares s seq flag (Ok u) old new = (c : Case) → HasCase s seq c → c.pinned ≡ flag → new ≡ old
 PinSpares s seq flag (Err f) old new = RefusalSpares {T = Unit {0}} (Err f) old new
 
--- label: where the label is set already, too
+-- label: also if the label is set already
 abbrev pub LabelSpares : {D : Type 0} → ArchiveState → ℕ → List ℕ → Result (Unit {0}) ArchiveFault → D → D → Type 0
 LabelSpares s seq text (Ok u) old new = (c : Case) → HasCase s seq c → c.label ≡ text → new ≡ old
 LabelSpares s seq text (Err f) old new = RefusalSpares {T = Unit {0}} (Err f) old new
 
--- upgrade: where the archive is of version 2, too
+-- upgrade: also if the archive has version 2
 abbrev pub UpgradeSpares : {D : Type 0} → ArchiveState → Result (Unit {0}) ArchiveFault → D → D → Type 0
 UpgradeSpares s (Ok u) old new = s.version ≡ 2 → new ≡ old
 UpgradeSpares s (Err f) old new = RefusalSpares {T = Unit {0}} (Err f) old new
 
--- retire: where no case goes, too
+-- retire: also if no case goes
 abbrev pub RetireSpares : {D : Type 0} → Result Decision ArchiveFault → D → D → Type 0
 RetireSpares (Ok d) old new = d.dropped.items ≡ [] → new ≡ old
 RetireSpares (Err f) old new = RefusalSpares {T = Decision} (Err f) old new

@@ -51,8 +51,8 @@ pub struct Settings {
     pub limit: u64,
 }
 
-/// An open archive over a disk: its cases, and the streams on their way into it. Contracts see it as the disk, what its
-/// journal encodes and the streams by slot.
+/// An open archive over a disk: its cases, and the streams on their way into it. Contracts see it as the disk, the
+/// content of its journal and the streams by slot.
 #[derive(Drop)]
 pub struct Archive<D: Disk> {
     disk: D,
@@ -207,8 +207,8 @@ impl<D: Disk> Archive<D> {
         Ok(())
     }
 
-    /// Lends the free part of the block that the stream in a slot fills, so never no bytes; where there is none to lend it
-    /// lends nothing. Answers, in this order: `Stopped`; `NoStream`.
+    /// Gives the caller the free part of the block that the stream in a slot fills, which is at least one byte; after a
+    /// refusal the slice is empty. Answers, in this order: `Stopped`; `NoStream`.
     pub fn room(&mut self, slot: u8) -> (Result<(), ArchiveFault>, &mut [u8])
         ensures* writes_back { sem 𝓛 (LendsRoom D.row D.Disk self.entry slot result) }
         ensures reply { RoomReply (state_of self.old) slot result.0 }
@@ -221,8 +221,8 @@ impl<D: Disk> Archive<D> {
     }
 
     /// Takes the first `n` bytes of the free part as they are. A block that is full is written, and the free part is
-    /// zeros again. Answers, in this order: `Stopped`; `NoStream`; `TooLong` where the image would pass the limit;
-    /// `SpaceFull` where a block is full and none is free; `OutOfMemory`; `Disk`. All but the first two drop the stream.
+    /// zeros again. Answers, in this order: `Stopped`; `NoStream`; `TooLong` if the image would pass the limit;
+    /// `SpaceFull` if a block is full and none is free; `OutOfMemory`; `Disk`. All but the first two drop the stream.
     pub fn advance(&mut self, slot: u8, n: usize) -> Result<(), ArchiveFault>
         requires { FitsFree (stream_at self.old.streams slot) n }
         ensures { AdvanceCall D.Disk self.old slot n result self.new }
@@ -254,10 +254,10 @@ impl<D: Disk> Archive<D> {
         Ok(())
     }
 
-    /// Makes the stream in a slot the last case, and answers its number. What of its bytes fills no block is written to
-    /// one with zeros after it, all is made stable, and then the case's record is appended. Answers, in this order:
-    /// `Stopped`; `NoStream`; `SpaceFull`; `OutOfMemory`; `Disk`; `JournalFull` where neither the record nor the cases with
-    /// this one, written anew, have room; `NumbersSpent`; `OutOfMemory`; `Disk`. All but the first two drop the stream.
+    /// Makes the stream in a slot the last case, and answers its number. Bytes that fill no block are written to one with
+    /// zeros after them, all is made stable, and then the case's record is appended. Answers, in this order: `Stopped`;
+    /// `NoStream`; `SpaceFull`; `OutOfMemory`; `Disk`; `JournalFull` if neither the record nor the cases with this one,
+    /// written anew, have room; `NumbersSpent`; `OutOfMemory`; `Disk`. All but the first two drop the stream.
     pub fn finish(&mut self, slot: u8) -> Result<u32, ArchiveFault>
         ensures { FinishCall D.Disk self.old slot result self.new }
     {
@@ -299,7 +299,7 @@ impl<D: Disk> Archive<D> {
 
     /// Whether the record of the case that the stream in a slot becomes has no room in the journal, if its image lies in one run of
     /// blocks more than the stream has: after the records that are there, or after the cases that are written anew. So `finish` may be
-    /// refused as `JournalFull`; if it has, `finish` is refused so only where no generation is left. False if no stream is there.
+    /// refused as `JournalFull`; if it has, `finish` is refused so only if no generation is left. False if no stream is there.
     pub fn lacks_record_room(&self, slot: u8) -> bool
         ensures { result ≡ lacks_record_room (state_of self.now) slot }
     {
@@ -324,9 +324,9 @@ impl<D: Disk> Archive<D> {
         Ok(())
     }
 
-    /// Keeps a case from deletion, or no longer; where that is so already, nothing is written. Answers, in this order:
-    /// `Stopped`; `NoCase`; `JournalFull`; `OutOfMemory`, where the journal is written anew alone; `Disk`. All but the last
-    /// change nothing.
+    /// Pins a case, which keeps it from deletion, or unpins it; nothing is written if the flag is set so already. Answers,
+    /// in this order: `Stopped`; `NoCase`; `JournalFull`; `OutOfMemory`, only if the journal is written anew; `Disk`. All
+    /// but the last change nothing.
     pub fn pin(&mut self, seq: u32, flag: bool) -> Result<(), ArchiveFault>
         ensures { PinCall D.Disk self.old seq flag result self.new }
     {
@@ -347,9 +347,9 @@ impl<D: Disk> Archive<D> {
         Err(fault)
     }
 
-    /// Gives a case a label; where it has that already, nothing is written. Answers, in this order: `Stopped`; `NoCase`;
-    /// `OldVersion` where the archive is of version 1 of the layout, which keeps no labels; `JournalFull`; `OutOfMemory`;
-    /// `Disk`. All but the last change nothing.
+    /// Gives a case a label; nothing is written if it has that label already. Answers, in this order: `Stopped`;
+    /// `NoCase`; `OldVersion` if the archive has version 1 of the layout, which keeps no labels; `JournalFull`;
+    /// `OutOfMemory`; `Disk`. All but the last change nothing.
     pub fn label(&mut self, seq: u32, text: &[u8]) -> Result<(), ArchiveFault>
         requires short { length text.now ≤ 64 }
         ensures { LabelCall D.Disk self.old seq text.now result self.new }
@@ -385,7 +385,7 @@ impl<D: Disk> Archive<D> {
     }
 
     /// Writes the cases anew in version 2 of the layout, which keeps labels; no case has one yet. On an archive of version 2
-    /// nothing is written. Answers, in this order: `Stopped`; `JournalFull` where the cases, written anew, have no room, or
+    /// nothing is written. Answers, in this order: `Stopped`; `JournalFull` if the cases, written anew, have no room, or
     /// no generation is left for them; `OutOfMemory`; `Disk`. All but the last change nothing.
     pub fn upgrade(&mut self) -> Result<(), ArchiveFault>
         ensures { UpgradeCall D.Disk self.old result self.new }
@@ -429,7 +429,7 @@ impl<D: Disk> Archive<D> {
     }
 
     /// Drops a case that is not pinned; its blocks are free then. Answers, in this order: `Stopped`; `NoCase`; `Pinned`;
-    /// `JournalFull`, on an honest disk only where no generation is left for writing the journal anew; `OutOfMemory`; `Disk`.
+    /// `JournalFull`, on an honest disk only if no generation is left for writing the journal anew; `OutOfMemory`; `Disk`.
     /// All but the last change nothing.
     pub fn delete(&mut self, seq: u32) -> Result<(), ArchiveFault>
         ensures { DeleteCall D.Disk self.old seq result self.new }
@@ -447,8 +447,8 @@ impl<D: Disk> Archive<D> {
         self.drop_cases(&[seq], &[name])
     }
 
-    /// Drops the cases that the rule drops under this policy, and answers what it says; where it drops none, nothing is
-    /// written. Answers, in this order: `Stopped`; `OutOfMemory`; `JournalFull`, as a deletion does; `OutOfMemory`; `Disk`. All
+    /// Drops the cases that the rule drops under this policy, and returns the rule's decision; nothing is written if it drops
+    /// no case. Answers, in this order: `Stopped`; `OutOfMemory`; `JournalFull`, as a deletion does; `OutOfMemory`; `Disk`. All
     /// but the last change nothing.
     pub fn retire(&mut self, policy: &Policy) -> Result<Decision, ArchiveFault>
         ensures { RetireCall D.Disk self.old policy.now result self.new }
@@ -479,7 +479,7 @@ impl<D: Disk> Archive<D> {
     }
 
     /// Drops the cases that the rule drops under this policy, as `retire` does, to make room for a stream of this name.
-    /// Where a case that stays has the name, no such stream can begin: nothing is done, and there is no answer.
+    /// If a case that stays has the name, no such stream can begin: nothing is done, and there is no answer.
     pub fn retire_for(
         &mut self,
         policy: &Policy,
@@ -499,12 +499,13 @@ impl<D: Disk> Archive<D> {
         Some(self.retire(policy))
     }
 
-    /// What it takes memory from.
+    /// The allocator that it takes memory from.
     pub fn allocator(&self) -> Global {
         self.alloc
     }
 
-    /// Whether a disk fault has stopped it. Unless one has, what a crash now leaves encodes the cases that it shows.
+    /// Whether a disk fault has stopped it. Unless one has, a disk
+    /// that a crash leaves now encodes the cases that it shows.
     pub fn is_stopped(&self) -> bool
         ensures value { result ≡ self.now.stopped }
         ensures stands { result ≡ false → IsTrue (D.is_honest self.now.disk) → (c : List ℕ) → D.may_leave self.now.disk c
@@ -559,7 +560,7 @@ impl<D: Disk> Archive<D> {
         }
     }
 
-    /// Where on the disk the bytes of a case's image lie, in their order: so they can be read piece by piece once the archive
+    /// The ranges of the disk that have the bytes of a case's image, in order: so they can be read piece by piece once the archive
     /// is closed, as long as nothing is written to the disk. Answers, in this order: `Stopped`; `NoCase`; `OutOfMemory`.
     pub fn image_ranges(&self, seq: u32) -> Result<Vec<ByteRange>, ArchiveFault>
         ensures { RangesReply D.Disk self.now seq result }

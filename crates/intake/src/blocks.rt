@@ -68,8 +68,8 @@ fn write_data<D: Disk>(
     Ok(())
 }
 
-/// Gives the lowest free block to an image and writes it. Answers `SpaceFull` where none is free, then `OutOfMemory`,
-/// then `Disk`. What is free and what the image has are together what they were, whatever is answered.
+/// Gives the lowest free block to an image and writes it. Answers `SpaceFull` if no block is free, then `OutOfMemory`,
+/// then `Disk`. Whatever the answer, the free blocks and the image's blocks together stay the same.
 pub(crate) fn add_block<D: Disk>(
     disk: &mut D,
     shape: Shape,
@@ -111,7 +111,7 @@ pub(crate) fn stops(fault: ArchiveFault) -> bool
     matches!(fault, ArchiveFault::Disk)
 }
 
-/// Takes the first `n` bytes of the free part of a stream's block, and writes the block where it is full.
+/// Takes the first `n` bytes of the free part of a stream's block, and writes the block if it is full.
 pub(crate) fn grow<D: Disk>(
     disk: &mut D,
     shape: Shape,
@@ -157,7 +157,7 @@ pub(crate) fn grow<D: Disk>(
     Ok(())
 }
 
-/// Writes the last block of a stream where it is part-filled, with zeros after its bytes, and makes all that was
+/// Writes the last block of a stream if it is part-filled, with zeros after its bytes, and makes all bytes that were
 /// written stable.
 pub(crate) fn seal<D: Disk>(
     disk: &mut D,
@@ -203,7 +203,7 @@ fn make_stable<D: Disk>(disk: &mut D) -> Result<(), ArchiveFault>
     ensures reply { DiskReply result }
     ensures seen { IsTrue (D.is_honest disk.old) → D.seen disk.new ≡ D.seen disk.old }
     ensures rests { (j : Journaled) → Guards D.Disk disk.old j → LeavesCases D.Disk disk.old disk.new j }
-    // What reads give is what a crash leaves from then on.
+    // From then on a crash leaves exactly the bytes that reads give.
     ensures settled { IsTrue (D.is_honest disk.old) → OnOk result (IsSettled D.Disk disk.new) }
     ensures disk { KeepsDisk D.Disk disk.old disk.new (IsDiskFault result) }
 {

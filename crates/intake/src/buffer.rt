@@ -24,7 +24,7 @@ impl Model for Buffer {
 impl Buffer {
     ghost use Rattle.intake.specs.Lending.{LendsTail};
 
-    /// No bytes, where no stream is open.
+    /// No bytes, if no stream is open.
     pub(crate) fn empty(alloc: Global) -> Buffer
         ensures { result ≡ [] }
     {
@@ -50,7 +50,7 @@ impl Buffer {
         self.bytes.len()
     }
 
-    /// Lends the bytes from a place on, with a reply.
+    /// Gives the caller the bytes from a place on, with a reply.
     pub(crate) fn lend(
         &mut self,
         reply: Result<(), ArchiveFault>,

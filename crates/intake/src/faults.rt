@@ -8,7 +8,7 @@ use disk_model::DiskFault;
 use std::alloc::AllocError;
 use thiserror::Error;
 
-/// Why a call of the archive is refused. A call checks those that it can give in this order, where it says no other.
+/// Why a call of the archive is refused. A call checks those that it can give in this order, unless it says another.
 #[derive(Clone, Copy, Debug, PartialEq, Eq, Error)]
 pub enum ArchiveFault {
     /// A disk fault has stopped the archive until it is opened again.

@@ -1,5 +1,5 @@
-// What an archive is opened with: its journal with the names of its cases and the blocks that they leave free, and the
-// slots.
+// The parts that an archive is opened with: its journal with the names
+// of its cases and the blocks that they leave free, and the slots.
 ghost use Rattle.std.specs.Prelude.{◌≡◌, ◌≤◌, ℕ, None, Err, IfOk, IsTrue, replicate, false};
 ghost use Rattle.disk_model.specs.Moments.{LeavesOnly};
 ghost use Rattle.disk_model.specs.Keeping.{KeepsDisk};

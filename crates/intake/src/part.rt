@@ -41,8 +41,8 @@ fn read_piece<D: Disk>(
     Ok(())
 }
 
-/// Reads bytes of what these runs hold one after another, from place `at` on, into all of `into`, with at most one read of the
-/// disk for each run. Answers `Disk` alone.
+/// Reads the bytes of these runs one after another, from place `at` on, into all of `into`, with at most one read of the disk
+/// for each run. Answers only `Disk`.
 pub(crate) fn read_part<D: Disk>(
     disk: &mut D,
     shape: Shape,

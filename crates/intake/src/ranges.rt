@@ -1,4 +1,4 @@
-// Where on the disk the bytes of an image lie.
+// The ranges of the disk that have the bytes of an image.
 ghost use Rattle.std.specs.Prelude.{IfOk};
 ghost use Rattle.journal_layout.specs.Layout.{IsWithinLimits};
 ghost use Rattle.intake.specs.Ranges.{CoversRuns, IsFrontOfRun};
@@ -27,7 +27,7 @@ fn front_of_run(shape: Shape, run: Run, most: u64) -> ByteRange
     }
 }
 
-/// Where an image of `len` bytes lies that fills these runs in their order, one range for each.
+/// The ranges of an image of `len` bytes that fills these runs in their order, one range for each.
 pub(crate) fn ranges_of(
     alloc: Global,
     shape: Shape,

@@ -1,4 +1,4 @@
-// What the rule says of an archive's cases.
+// The decision of the rule about an archive's cases.
 ghost use Rattle.std.specs.Prelude.{◌≡◌, map, IfOk};
 ghost use Rattle.std.specs.List.Sorted.{IsStrictlyIncreasing};
 ghost use Rattle.retention.specs.Rule.{IsDecision};
@@ -9,7 +9,7 @@ use journal_layout::Entry;
 use retention::{Brief, Decision, Policy, decide};
 use std::alloc::{AllocError, Global};
 
-// What the rule looks at of the entries.
+// The fields of the entries that the rule reads.
 fn briefs_of(alloc: Global, entries: &[Entry]) -> Result<Vec<Brief>, AllocError>
     ensures { IfOk result (λ briefs. briefs.items ≡ map brief_of_entry entries.now) }
 {
@@ -25,7 +25,7 @@ fn briefs_of(alloc: Global, entries: &[Entry]) -> Result<Vec<Brief>, AllocError>
     Ok(briefs)
 }
 
-/// What the rule says of the entries, whose numbers rise.
+/// The decision of the rule about the entries, whose numbers rise.
 pub(crate) fn decide_for(
     alloc: Global,
     entries: &[Entry],

@@ -19,15 +19,15 @@ use std::mem;
 /// How many slots there are.
 pub(crate) const SLOTS: usize = 8;
 
-/// A slot: the stream in it, if one is open, and the 4,096 bytes of the block that it fills now; any bytes where there is
-/// none.
+/// A slot: the stream in it, if one is open, and the 4,096 bytes
+/// of the block that it fills now; any bytes if no stream is open.
 #[derive(Drop)]
 pub(crate) struct Slot {
     pub(crate) stream: Option<Stream>,
     pub(crate) block: Buffer,
 }
 
-/// The slots for streams. Contracts see what each holds.
+/// The slots for streams. Contracts see the stream in each.
 #[derive(Drop)]
 pub(crate) struct Slots {
     slots: Vec<Slot>,
@@ -117,7 +117,7 @@ impl Slots {
         close_each(&mut self.slots);
     }
 
-    /// Lends the free part of the block of the stream in a slot; where there is none to lend it lends nothing.
+    /// Gives the caller the free part of the block of the stream in a slot; nothing if the call is refused.
     pub(crate) fn lend(&mut self, stopped: bool, slot: u8) -> (Result<(), ArchiveFault>, &mut [u8])
         requires { stopped ≡ false → HasBlock (stream_at self.old slot) }
         ensures* writes_back { sem 𝓛 (LendsSlot self.entry slot result) }
@@ -134,7 +134,7 @@ impl Slots {
 impl Slot {
     ghost use Rattle.intake.specs.Lending.{LendsBlock};
 
-    // Lends the bytes of the block from a place on, with a reply.
+    // Gives the caller the bytes of the block from a place on, with a reply.
     fn lend(
         &mut self,
         reply: Result<(), ArchiveFault>,
@@ -149,7 +149,7 @@ impl Slot {
     }
 }
 
-// Where the free part of a slot's block begins: at its end where nothing is lent.
+// The place in a slot's block where the free part starts: the end if nothing is lent.
 fn free_from(stopped: bool, there: bool, slot: &Slot) -> (Result<(), ArchiveFault>, usize)
     ensures { IsFreeFrom stopped there (parts_in slot.now) (length slot.now.block) result.0 result.1 }
 {

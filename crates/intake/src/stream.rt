@@ -7,7 +7,7 @@ ghost use Rattle.intake.specs.Needs.{longest_record};
 use extents::RunList;
 use journal_layout::{Entry, Kind, Label, Name};
 
-/// The facts of an image that is streamed, and what it has taken so far.
+/// The facts of an image that is streamed, and the bytes that it has taken so far.
 #[derive(Drop)]
 pub(crate) struct Stream {
     pub(crate) kind: Kind,

@@ -1,4 +1,4 @@
--- Laws of one record more: it follows the others, or the other half holds what is said then.
+-- Laws of one more record: it follows the others, or the other half holds the cases and the next number that then hold.
 use Rattle.std.proofs.Common.{◌≡◌, ◌+◌, ◌<◌, ◌≤◌, Bool, true, false, refl, arith, cond, sym, subst}
 use Rattle.std.proofs.lemmas.Bool.{lt-ltb, le-ltb}
 use Rattle.journal_layout.specs.Layout.{half_length}
@@ -7,7 +7,7 @@ use Rattle.journal_layout.specs.Folding.{after}
 use Rattle.journal_layout.specs.Standing.{Standing, folded_of, lengthened}
 use Rattle.journal_layout.specs.Rewriting.{other_half, snapshot_size, rewritten, fits, appended}
 
--- after one record more, where `t` says whether it follows the others
+-- after one more record; `t` says whether it follows the others
 abbrev placed : Bool → Standing → Record → Standing
 placed t s r = record s {
   half = cond t s.half (other_half s.half);
@@ -17,11 +17,11 @@ placed t s r = record s {
   used = cond t (s.used + record_size r) (snapshot_size (after r (folded_of s)));
 }
 
--- where it fits, it follows the others
+-- if it fits, it follows the others
 pub appended_behind : (s : Standing) (r : Record) → fits s r ≡ true → lengthened s r ≡ appended s r
 appended_behind s r e = subst (λ (t : Bool). lengthened s r ≡ placed t s r) (sym e) refl
 
--- and else the other half holds what is said then
+-- otherwise the other half holds the cases and the next number after the record
 pub appended_by_snapshot : (s : Standing) (r : Record) → fits s r ≡ false → rewritten s (after r (folded_of s)) ≡ appended s r
 appended_by_snapshot s r e = subst (λ (t : Bool). rewritten s (after r (folded_of s)) ≡ placed t s r) (sym e) refl
 

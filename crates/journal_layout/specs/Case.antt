@@ -1,9 +1,9 @@
--- A case as the journal keeps it: what its image is of, and the blocks that hold it.
+-- A case as the journal keeps it: the origin of its image, and the blocks that hold it.
 use Rattle.std.specs.Prelude.{ℕ, Bool, List, []}
 use Rattle.journal_layout.specs.declared.entry.Kind.{Kind}
 use Rattle.journal_layout.specs.declared.entry.Entry.{Entry}
 
--- what an image is of
+-- the origin of an image
 pub record Origin : Type 0 where
   pub kind : Kind
   pub name : List ℕ
@@ -19,10 +19,10 @@ pub record Case : Type 0 where
   pub len : ℕ
   -- the blocks that hold them, in order
   pub blocks : List ℕ
-  -- what was noted about it
+  -- its label
   pub label : List ℕ
 
--- what an entry says
+-- the case of an entry
 abbrev pub case_of : Entry → Case
 case_of e = record {
   seq = e.seq;

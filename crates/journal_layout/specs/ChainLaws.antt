@@ -7,7 +7,7 @@ use Rattle.extents.specs.declared.run_list.Run.{Run}
 use Rattle.extents.specs.Runs.{run_blocks, blocks_of, with_first, runs_of}
 use Rattle.journal_layout.specs.Checks.{is_adjoining, block_count}
 
--- each run has a block, and begins elsewhere than where the run before it ends
+-- each run has a block, and does not start at the end of the run before it
 abbrev pub AreInChain : Option ℕ → List Run → Type 0
 AreInChain end [] = Unit {0}
 AreInChain end (r ∷ rest) = (1 ≤ r.count) × (is_adjoining end r ≡ false) × AreInChain (Some (r.start + r.count)) rest

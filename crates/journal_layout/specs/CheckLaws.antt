@@ -1,4 +1,4 @@
--- Laws of the checks of a record: what it means that none of them fails.
+-- Laws of the checks of a record: the meaning of a list of checks of which no check fails.
 use Rattle.std.proofs.Common.{◌≡◌, ℕ, zero, suc, ◌+◌, ◌-◌, ◌%◌, ◌≤◌, Bool, true, false, ◌==◌, List, [], ◌∷◌, length, replicate, refl, ap, ◌∙◌, Option, Some, None, cond}
 use Rattle.std.specs.Option.{option_or, option_map}
 use Rattle.std.proofs.lemmas.Bool.{or_parts, or_from, not-false, not_from_true, and_parts, and_from, le-ltb, ltb-false, le-leb, leb-true, eq-eqb, eqb-true}
@@ -65,7 +65,7 @@ zeros_passed place (x ∷ xs) e =
     let parts : (x == 0 ≡ true) × (first_set (place + 1) xs ≡ None) = both (x == 0) e in
     ap (λ (z : ℕ). z ∷ xs) (eqb-true x 0 parts.0) ∙ ap (λ (zs : List ℕ). 0 ∷ zs) (zeros_passed (place + 1) xs parts.1)
 
--- what the checks that each record of a half of this version begins with tell
+-- the conditions that hold if the first checks of a record pass; each record of a half of this version has these checks
 pub record HasHead (version : ℕ) (rest : List ℕ) : Type 0 where
   pub enough : 17 ≤ length rest
   pub some_kind : 1 ≤ kind_at rest

@@ -1,6 +1,6 @@
--- The checks of a record, in their order, each with its place in the record and the field that is then at fault. The bytes
--- are those of the half from the record's gate on, `at` is the gate's place on the disk, and the cases and the next number
--- are those that the records before it say.
+-- The checks of a record, in their order, each with its place in the record and the field that is
+-- bad if the check fails. The bytes are those of the half from the record's gate on, `at` is the
+-- gate's place on the disk, and the cases and the next number come from the records before it.
 use Rattle.std.specs.Prelude.{ℕ, ◌+◌, ◌-◌, ◌*◌, ◌%◌, ◌^◌, ◌==◌, ◌&&◌, ◌||◌, not, nat_lt, nat_le, Bool, true, false, if◌then◌else◌, List, [], ◌∷◌, ◌++◌, length, slice_index, Option, None, Some}
 use Rattle.std.specs.Option.{option_or, option_map, is_none}
 use Rattle.std.specs.List.{list_any}
@@ -43,7 +43,7 @@ padding_fault at rest from = option_map (damaged at named.Padding) (first_set fr
 abbrev pub is_bad_length : List ℕ → Bool
 is_bad_length rest = nat_lt (length_at rest) 16 || not (length_at rest % 16 == 0) || nat_lt (length rest) (length_at rest + 1)
 
--- What every record begins with, in a half of this version. 17 bytes are left, at least.
+-- The checks of the first fields of every record, in a half of this version. 17 bytes are left, at least.
 abbrev pub head_checks : ℕ → List ℕ → List Check
 head_checks version rest =
     (nat_lt (length rest) 17, 4, named.Length)
@@ -76,7 +76,7 @@ abbrev pub is_bad_run : ℕ → List ℕ → Option ℕ → Run → Bool
 is_bad_run limit used end r =
     r.count == 0 || nat_lt limit (r.start + r.count) || is_adjoining end r || is_overlapping used r
 
--- the place of the first faulty run, the first run being at this place, after a run that ends there
+-- the place of the first bad run, if the first run is at this place and follows a run that ends there
 abbrev pub first_bad_run : ℕ → List ℕ → Option ℕ → ℕ → List Run → Option ℕ
 first_bad_run limit used end place [] = None
 first_bad_run limit used end place (r ∷ rest) =
@@ -114,7 +114,8 @@ abbrev pub is_kept : Option Case → Bool
 is_kept None = true
 is_kept (Some c) = c.pinned
 
--- the place of the first faulty number, the first of them being at this place, after the number `last`: not greater than that, of no live case, or of one that is pinned
+-- the place of the first bad number, if the first of them is at this place and follows the number `last`. A number is bad if it is not greater than
+-- the one before, if no live case has it, or if its case is pinned.
 abbrev pub first_bad_seq : List Case → ℕ → ℕ → List ℕ → Option ℕ
 first_bad_seq cases last place [] = None
 first_bad_seq cases last place (seq ∷ rest) =
@@ -156,7 +157,7 @@ label_checks rest f =
 abbrev pub label_fault : ℕ → List ℕ → Folded → Option OpenFault
 label_fault at rest f = option_or (first_failing at (label_checks rest f)) (padding_fault at rest (16 + label_length_at rest))
 
--- by the record's kind; a byte of no kind is at fault itself
+-- by the record's kind; a byte that is no kind is itself the bad field
 abbrev pub body_fault : ℕ → ℕ → List ℕ → Folded → Option OpenFault
 body_fault limit at rest f =
     by_kind (kind_at rest)

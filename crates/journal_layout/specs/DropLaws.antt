@@ -19,7 +19,7 @@ use Rattle.journal_layout.specs.Stands.{StandsFirst}
 use Rattle.journal_layout.specs.ByteLaws.{number_read, field_spelled, field_small}
 use Rattle.journal_layout.specs.CheckLaws.{HasHead, passes, passed, or_none, none_or, map_none, none_map}
 use Rattle.journal_layout.specs.KindLaws.{body_of, record_of, kind_high}
-use Rattle.journal_layout.specs.SpellLaws.{tells_kind, tells_length, tells_head, tells_zeros, rounded_up}
+use Rattle.journal_layout.specs.SpellLaws.{prints_kind, prints_length, prints_head, prints_zeros, rounded_up}
 use Rattle.journal_layout.specs.FoundLaws.{record_passes, put_together, zeros_found}
 
 -- numbers that are written are read again, and the other way round
@@ -59,7 +59,7 @@ droppable cases seq e = of (case_numbered seq cases) refl e
     of None same e = cc
     of (Some c) same e = (c, same, e)
 
--- what the checks of the numbers tell, both ways
+-- the checks of the numbers pass if and only if the numbers rise and each may be dropped
 seqs_pass : (cases : List Case) (last place : ℕ) (seqs : List ℕ) → Rise last seqs → AllByRecursion (IsDroppable cases) seqs → first_bad_seq cases last place seqs ≡ None
 seqs_pass cases last place [] rise each = refl
 seqs_pass cases last place (seq ∷ seqs) rise each =
@@ -78,7 +78,7 @@ seqs_passed cases last place (seq ∷ seqs) e =
     first true g = cc
     first false g = (refl, g)
 
--- what the check of the count tells, both ways
+-- the check of the count passes if and only if there is a number and the record has the length for its count
 count_passes : (at : ℕ) (rest : List ℕ) → 0 < seq_count_at rest → length_at rest ≡ rounded (12 + 4 * seq_count_at rest) → first_failing at (count_checks rest) ≡ None
 count_passes at rest some long =
     passes at (count_checks rest) (
@@ -100,41 +100,41 @@ module _ (seqs tail : List ℕ) where
   abbrev zeros : List ℕ
   zeros = replicate (record_size (Drop seqs) - plain_size (Drop seqs)) 0
 
-  tells_count : length seqs < 2 ^ 32 → seq_count_at (spelling (Drop seqs) ++ tail) ≡ length seqs
+  prints_count : length seqs < 2 ^ 32 → seq_count_at (spelling (Drop seqs) ++ tail) ≡ length seqs
   unfolding behind_gate plain body number_bytes
-  tells_count small = number_read 4 (length seqs) [] small
+  prints_count small = number_read 4 (length seqs) [] small
 
   seqs_stand : drop 12 (spelling (Drop seqs) ++ tail) ≡ (flat_map seq_bytes seqs ++ zeros) ++ tail
   unfolding behind_gate plain body number_bytes
   seqs_stand = refl
 
-  tells_seqs : length seqs < 2 ^ 32 → AllByRecursion (λ (seq : ℕ). seq < 2 ^ 32) seqs → drop_seqs (spelling (Drop seqs) ++ tail) ≡ seqs
-  tells_seqs few small =
-      ap (seqs_at (drop 12 (spelling (Drop seqs) ++ tail))) (tells_count few)
+  prints_seqs : length seqs < 2 ^ 32 → AllByRecursion (λ (seq : ℕ). seq < 2 ^ 32) seqs → drop_seqs (spelling (Drop seqs) ++ tail) ≡ seqs
+  prints_seqs few small =
+      ap (seqs_at (drop 12 (spelling (Drop seqs) ++ tail))) (prints_count few)
       ∙ ap (λ (l : List ℕ). seqs_at l (length seqs)) (seqs_stand ∙ append_assoc (flat_map seq_bytes seqs) zeros tail)
       ∙ seqs_read seqs (zeros ++ tail) small
 
--- what is written is read again
+-- a Drop record that is written is read back
 pub drop_again : (limit at : ℕ) (seqs tail : List ℕ) (f : Folded) → record_size (Drop seqs) < 2 ^ 32 → record_size (Drop seqs) + 1 ≤ length (spelling (Drop seqs) ++ tail) → IsSound limit f (Drop seqs)
     → (record_fault limit at (spelling (Drop seqs) ++ tail) f ≡ None) × (record_at (spelling (Drop seqs) ++ tail) ≡ Drop seqs)
 drop_again limit at seqs tail f small in_half sound =
     let b = spelling (Drop seqs) ++ tail in
     let few : length seqs < 2 ^ 32 = omega (arith, rounded_up (plain_size (Drop seqs))) in
-    let count : seq_count_at b ≡ length seqs = tells_count seqs tail few in
-    let same : drop_seqs b ≡ seqs = tells_seqs seqs tail few sound.2 in
-    let long : length_at b ≡ rounded (12 + 4 * seq_count_at b) = tells_length (Drop seqs) tail small ∙ ap (λ (n : ℕ). rounded (12 + 4 * n)) (sym count) in
+    let count : seq_count_at b ≡ length seqs = prints_count seqs tail few in
+    let same : drop_seqs b ≡ seqs = prints_seqs seqs tail few sound.2 in
+    let long : length_at b ≡ rounded (12 + 4 * seq_count_at b) = prints_length (Drop seqs) tail small ∙ ap (λ (n : ℕ). rounded (12 + 4 * n)) (sym count) in
     let some : 0 < seq_count_at b = rw count sound.0 in
     let good : first_bad_seq f.cases 0 12 (drop_seqs b) ≡ None = ap (first_bad_seq f.cases 0 12) same ∙ seqs_pass f.cases 0 12 seqs sound.1 sound.3 in
-    let padded : padding_fault at b (12 + 4 * seq_count_at b) ≡ None = ap (λ (n : ℕ). padding_fault at b (12 + 4 * n)) count ∙ tells_zeros (Drop seqs) tail at small in (
-      record_passes limit at b f (tells_head (Drop seqs) tail f.version (kind_high limit f (Drop seqs) sound) small in_half)
-          (body_of limit at b f (Drop seqs) (tells_kind (Drop seqs) tail)
+    let padded : padding_fault at b (12 + 4 * seq_count_at b) ≡ None = ap (λ (n : ℕ). padding_fault at b (12 + 4 * n)) count ∙ prints_zeros (Drop seqs) tail at small in (
+      record_passes limit at b f (prints_head (Drop seqs) tail f.version (kind_high limit f (Drop seqs) sound) small in_half)
+          (body_of limit at b f (Drop seqs) (prints_kind (Drop seqs) tail)
           ∙ none_or (first_failing at (count_checks b)) _ (count_passes at b some long)
           (none_or (option_map (damaged at named.Seq) (first_bad_seq f.cases 0 12 (drop_seqs b))) (padding_fault at b (12 + 4 * seq_count_at b))
           (none_map (damaged at named.Seq) (first_bad_seq f.cases 0 12 (drop_seqs b)) good) padded)),
-      record_of b (Drop seqs) (tells_kind (Drop seqs) tail) ∙ ap (λ (l : List ℕ). Drop l) same,
+      record_of b (Drop seqs) (prints_kind (Drop seqs) tail) ∙ ap (λ (l : List ℕ). Drop l) same,
     )
 
--- what is read is in the grammar
+-- a Drop record that is read is in the grammar
 pub drop_found : (limit at : ℕ) (rest : List ℕ) (f : Folded) → AreBytes rest → slice_index rest 0 ≡ 165 → HasHead f.version rest → kind_at rest ≡ 2
     → body_fault limit at rest f ≡ None → StandsFirst limit rest f (Drop (drop_seqs rest)) × (record_size (Drop (drop_seqs rest)) ≡ length_at rest)
 unfolding body part

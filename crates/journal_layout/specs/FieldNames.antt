@@ -1,4 +1,4 @@
--- The names by which the layout's fields are told.
+-- The names of the layout's fields in reports.
 use Rattle.std.specs.Prelude.{ℕ, List, codes}
 use Rattle.journal_layout.specs.declared.faults.Field.{Field}
 use Rattle.journal_layout.specs.declared.faults.Field.TheVariants as field

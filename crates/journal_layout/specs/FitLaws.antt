@@ -1,5 +1,5 @@
--- Laws of the room that a snapshot takes: the records that say some cases are as long as their snapshot without its last record, and the snapshot of what a drop leaves
--- has room where they have.
+-- Laws of the room that a snapshot takes: the records of some cases are as long as their snapshot without its last record. If the cases before a drop
+-- have room, the snapshot of the cases after it has room too.
 use Rattle.std.proofs.Common.{◌≡◌, inl, inr, ℕ, ◌+◌, ◌≤◌, Bool, true, false, not, nat_eq, ◌||◌, ◌==◌, List, [], ◌∷◌, ◌++◌, map, drop, refl, ap, ◌∙◌, arith, Some, cond}
 use Rattle.std.specs.List.{filter, flat_map, list_any}
 use Rattle.std.proofs.lemmas.Bool.{cases_eq, cond_both, eq-eqb, ne_eqb}
@@ -115,7 +115,7 @@ bytes_replayed limit bytes (r ∷ rest) f live row =
     let sound = row.0.sound in
     omega (arith, bytes_after limit r f live sound, bytes_replayed limit (drop (record_size r) bytes) rest (after r f) (live_after limit f r live sound) row.1)
 
--- what a disk encodes has them in its taken half
+-- the taken half of a disk holds the bytes of the cases that the disk encodes
 pub stands_bytes : (b : List ℕ) (s : Standing) → Stands b s → 32 + case_bytes s.cases ≤ s.used
 stands_bytes b s stands =
     let read = stands.records in
@@ -150,7 +150,7 @@ bytes_dropped seqs seq (d ∷ rest) c among found =
         (λ _. omega (arith, bytes_more d (dropped seqs rest), bytes_more d rest))
         (λ _. omega (arith, bytes_more d rest))
 
--- a snapshot of what a drop leaves takes no more than the records that were there before it
+-- the snapshot of the cases that stay after a drop takes no more bytes than the records before the drop
 pub drops_have_bytes : (limit used : ℕ) (f : Folded) (seqs : List ℕ) → 32 + case_bytes f.cases ≤ used → IsSound limit f (Drop seqs)
     → snapshot_size (after (Drop seqs) f) ≤ used
 drops_have_bytes limit used f [] in_half sound = absurd (omega (arith, sound.0))
@@ -162,7 +162,7 @@ drops_have_bytes limit used f (seq ∷ seqs) in_half sound =
     first : (t : Bool) → nat_eq seq seq ≡ true → (nat_eq seq seq || t) ≡ true
     first t e = rw e refl
 
--- What a drop leaves fits into the other half.
+-- The snapshot of the cases that stay after a drop fits into the other half.
 pub drops_fit : (b : List ℕ) (s : Standing) (seqs : List ℕ) → Stands b s → IsSound s.shape.data_blocks (folded_of s) (Drop seqs)
     → snapshot_size (after (Drop seqs) (folded_of s)) + 1 ≤ half_length s.shape
 drops_fit b s seqs stands sound =

@@ -1,4 +1,4 @@
--- What the records of a journal say together: its cases and the number of the next one.
+-- The meaning of all records of a journal together: its cases and the number of the next one.
 use Rattle.std.specs.Prelude.{ℕ, ◌+◌, Bool, not, List, [], ◌∷◌, ◌++◌, map, if◌then◌else◌, ◌==◌, nat_eq, Option, Some, None}
 use Rattle.std.specs.List.{filter, list_any, flat_map}
 use Rattle.std.specs.Str.{bytes_eq}
@@ -25,14 +25,14 @@ is_among seqs seq = list_any (nat_eq seq) seqs
 abbrev pub dropped : List ℕ → List Case → List Case
 dropped seqs cases = filter (λ (c : Case). not (is_among seqs c.seq)) cases
 
--- the case, pinned or not where it has this number
+-- the case, with this pin flag if it has this number
 abbrev pub pinned_as : ℕ → Bool → Case → Case
 pinned_as seq flag c = if c.seq == seq then record c { pinned = flag } else c
 
 abbrev pub with_pin : ℕ → Bool → List Case → List Case
 with_pin seq flag cases = map (pinned_as seq flag) cases
 
--- the case, with this label where it has this number
+-- the case, with this label if it has this number
 abbrev pub labelled_as : ℕ → List ℕ → Case → Case
 labelled_as seq text c = if c.seq == seq then record c { label = text } else c
 
@@ -54,7 +54,7 @@ next_after (Pin seq flag) f = f.next
 next_after (Next n) f = n
 next_after (Label seq text) f = f.next
 
--- what a record makes of what the records before it say
+-- the cases and the next number after one more record
 abbrev pub after : Record → Folded → Folded
 after r f = record f { cases = cases_after r f; next = next_after r f }
 
@@ -68,12 +68,12 @@ abbrev pub sizes : List Record → ℕ
 sizes [] = 0
 sizes (r ∷ rest) = record_size r + sizes rest
 
--- where the last record begins once these are read from a place on, of which the one before them begins there, if there is one
+-- the start of the last record once these are read from a place on; the start of the one before them is given, if there is one
 abbrev pub last_from : List Record → ℕ → Option ℕ → Option ℕ
 last_from [] at last = last
 last_from (r ∷ rest) at last = last_from rest (at + record_size r) (Some at)
 
--- where the last of a list of records begins, if there is one
+-- the start of the last of a list of records, if there is one
 abbrev pub last_start : List Record → Option ℕ
 last_start records = last_from records 0 None
 

@@ -13,7 +13,7 @@ use Rattle.journal_layout.specs.ByteLaws.{field_spelled}
 use Rattle.journal_layout.specs.CheckLaws.{HasHead, or_none, none_or, head_passes, head_passed, padding_passed}
 use Rattle.journal_layout.specs.SpellLaws.{rounded_up}
 
--- a record passes its checks where its head and its body do
+-- a record passes its checks if its head and its body do
 pub record_passes : (limit at : ℕ) (rest : List ℕ) (f : Folded) → HasHead f.version rest → body_fault limit at rest f ≡ None → record_fault limit at rest f ≡ None
 unfolding record_fault
 record_passes limit at rest f head e =
@@ -39,7 +39,7 @@ front_four (a ∷ b ∷ []) long = absurd (omega (arith, long))
 front_four (a ∷ b ∷ c ∷ []) long = absurd (omega (arith, long))
 front_four (a ∷ b ∷ c ∷ d ∷ xs) long = refl
 
--- what every record begins with
+-- the first fields of every record
 pub front_eight : (version : ℕ) (rest : List ℕ) → AreBytes rest → slice_index rest 0 ≡ 165 → HasHead version rest
     → take 8 rest ≡ (165 ∷ kind_at rest ∷ 0 ∷ 0 ∷ []) ++ number_bytes 4 (length_at rest)
 unfolding part

@@ -1,5 +1,4 @@
--- What the superblock and the headers of the halves tell: the first checks of an opening, each with the place and the
--- name of its field.
+-- The superblock and the headers of the halves: the first checks of an opening, each with the place and the name of its field.
 use Rattle.std.specs.Prelude.{ℕ, ◌+◌, Bool, ◌&&◌, ◌||◌, not, ◌==◌, nat_lt, nat_le, nat_eq, List, slice_index, drop, length, if◌then◌else◌, Result, Ok, Err}
 use Rattle.std.specs.List.{starts_with}
 use Rattle.disk_model.specs.Places.{part}
@@ -28,14 +27,14 @@ is_shape_of size s =
     nat_le 1 s.half_blocks && nat_le s.half_blocks 4096 && nat_le 1 s.data_blocks && nat_le s.data_blocks 16777216
     && (disk_length s == size)
 
--- the shape that a superblock tells, on a disk of this length
+-- the shape that a superblock gives, on a disk of this length
 abbrev pub shape_opening : ℕ → List ℕ → Result Shape OpenFault
 shape_opening size b =
     if is_archive b
     then (if is_shape_of size (shape_at b) then Ok (shape_at b) else Err (Damaged 16 named.Shape))
     else Err NotAnArchive
 
--- what a half's header tells
+-- the fields of a half's header
 pub record Header : Type 0 where
   pub is_open : Bool
   pub version : ℕ
@@ -74,7 +73,7 @@ half_opening s half h =
     then Ok (record { shape = s; half = half; version = h.version; generation = h.generation })
     else Err (UnknownVersion h.version)
 
--- what the headers of the halves tell
+-- the front that the headers of the halves give
 abbrev pub headers_opening : Shape → Header → Header → Result Half OpenFault → Result Front OpenFault
 headers_opening s a b (Ok A) = half_opening s A a
 headers_opening s a b (Ok B) = half_opening s B b
@@ -89,7 +88,7 @@ halves_opening b (Ok s) =
     headers_opening s (header_of_half s b A) (header_of_half s b B) (taken_half s (header_of_half s b A) (header_of_half s b B))
 halves_opening b (Err f) = Err f
 
--- what precedes the records of a disk with these bytes
+-- the front before the records of a disk with these bytes
 abbrev pub front_opening : List ℕ → Result Front OpenFault
 front_opening b =
     if nat_lt (length b) 4096 then Err NotAnArchive else halves_opening b (shape_opening (length b) (part b 0 24))

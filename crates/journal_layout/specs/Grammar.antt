@@ -15,19 +15,19 @@ use Rattle.journal_layout.specs.Stands.{StandsFirst, Stands, Opening}
 use Rattle.journal_layout.specs.Live.{AreLive, HasNoLabel, AreLabelled}
 use Rattle.journal_layout.specs.Rewriting.{other_start, label_records, snapshot, snapshot_size, AreSound, rewritten, in_version_two, upgraded, HoldsSnapshot, MayRewrite}
 
--- the bytes tell this record: its gate is open, no check of it fails, and it is what they say
+-- the bytes are read as this record: its gate is open, no check of it fails, and its fields are those of the record
 pub record IsToldBy (limit at : ℕ) (rest : List ℕ) (f : Folded) (r : Record) : Type 0 where
   pub opened : slice_index rest 0 ≡ 165
   pub faultless : record_fault limit at rest f ≡ None
   pub is : record_at rest ≡ r
 
--- what is written is read again
+-- a record that is written is read back
 abbrev pub RecordsAreReadAgain : Type 0
 RecordsAreReadAgain =
     (limit at : ℕ) (rest : List ℕ) (f : Folded) (r : Record) → limit ≤ 16777216 → length rest ≤ 2 ^ 32
     → StandsFirst limit rest f r → IsToldBy limit at rest f r
 
--- what is read is in the grammar, and as long as its length says
+-- a record that is read is in the grammar, and has the length in its length field
 abbrev pub WhatIsReadStands : Type 0
 WhatIsReadStands =
     (limit at : ℕ) (rest : List ℕ) (f : Folded) → AreBytes rest → slice_index rest 0 ≡ 165 → record_fault limit at rest f ≡ None
@@ -43,11 +43,11 @@ RecordsAreApart =
 abbrev pub OpeningsHaveOneAnswer : Type 0
 OpeningsHaveOneAnswer = (b : List ℕ) (x y : Result Standing OpenFault) → Opening b x → Opening b y → x ≡ y
 
--- and what the bytes encode opens as that and nothing else
+-- bytes that encode an archive open as that archive and as nothing else
 abbrev pub WhatStandsOpens : Type 0
 WhatStandsOpens = (b : List ℕ) (s : Standing) (x : Result Standing OpenFault) → Stands b s → Opening b x → x ≡ Ok s
 
--- what the bytes encode has live cases, of which all holds that always does
+-- the cases that bytes encode are live: all invariants of live cases hold
 abbrev pub WhatStandsIsLive : Type 0
 WhatStandsIsLive = (b : List ℕ) (s : Standing) → Stands b s → AreLive s.shape.data_blocks s.cases s.next
 
@@ -77,8 +77,8 @@ AnOpenedHalfStands =
     (b c : List ℕ) (s : Standing) (f : Folded) → Stands b s → MayRewrite s f → HoldsSnapshot s f b → SameOutside (other_start s) 1 b c
     → slice_index c (other_start s) ≡ 165 → Stands c (rewritten s f)
 
--- The snapshot of what is encoded in version 1 may be written anew in version 2, where it has room. Once the other half is opened over it, the bytes encode the same
--- cases and the same next number, and still no case has a label.
+-- The cases that are encoded in version 1 may be written anew as a snapshot in version 2, if it has room. Once the other half is opened over it, the
+-- bytes encode the same cases and the same next number, and still no case has a label.
 abbrev pub AnUpgradeSaysTheSame : Type 0
 AnUpgradeSaysTheSame =
     (b c : List ℕ) (s : Standing) → Stands b s → s.version ≡ 1
@@ -93,7 +93,7 @@ LabelsTakeTheirRecords =
     (limit seq : ℕ) (f : Folded) (text : List ℕ) (c : Case) → AreLive limit f.cases f.next → case_numbered seq f.cases ≡ Some c
     → snapshot_size (after (Label seq text) f) + sizes (label_records seq c.label) ≡ snapshot_size f + sizes (label_records seq text)
 
--- the snapshot of what a drop leaves fits into the other half
+-- the snapshot of the cases that stay after a drop fits into the other half
 abbrev pub DropsFit : Type 0
 DropsFit =
     (b : List ℕ) (s : Standing) (seqs : List ℕ) → Stands b s → IsSound s.shape.data_blocks (folded_of s) (Drop seqs)

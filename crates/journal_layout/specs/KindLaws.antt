@@ -1,4 +1,4 @@
--- Laws of the kinds of records: what is chosen by the byte of a kind, and which bytes are one.
+-- Laws of the kinds of records: the byte of a kind selects the checks, and only some bytes are kinds.
 use Rattle.std.proofs.Common.{◌≡◌, ℕ, zero, suc, ◌≤◌, ◌==◌, Bool, true, false, cond, List, [], slice_index, refl, ap, arith, Some}
 use Rattle.std.proofs.lemmas.Bool.{eqb-true}
 use Rattle.journal_layout.specs.declared.faults.Field.TheVariants as named
@@ -26,7 +26,7 @@ kind_chosen (Pin seq flag) kind store drop pin next label none is = ap (λ (k : 
 kind_chosen (Next n) kind store drop pin next label none is = ap (λ (k : ℕ). by_kind k store drop pin next label none) is
 kind_chosen (Label seq text) kind store drop pin next label none is = ap (λ (k : ℕ). by_kind k store drop pin next label none) is
 
--- what a record of this kind is checked for, and what it is
+-- the checks of a record of this kind, and its meaning
 pub body_of : (limit at : ℕ) (rest : List ℕ) (f : Folded) (r : Record) → kind_at rest ≡ record_kind r
     → body_fault limit at rest f
     ≡ by_record r (store_fault limit at rest f) (drop_fault at rest f) (pin_fault at rest f) (first_failing at (next_checks rest f)) (label_fault at rest f)
@@ -34,7 +34,7 @@ body_of limit at rest f r kind =
     kind_chosen r (kind_at rest) (store_fault limit at rest f) (drop_fault at rest f) (pin_fault at rest f) (first_failing at (next_checks rest f)) (label_fault at rest f)
     (Some (damaged at named.Kind 1)) kind
 
--- the record that these bytes tell, of the kind of another
+-- the record that these bytes give if they are read as the kind of another record
 abbrev pub told_as : Record → List ℕ → Record
 told_as r rest =
     by_record r (Store (case_at rest)) (Drop (drop_seqs rest)) (Pin (field rest 8 4) (slice_index rest 12 == 1)) (Next (field rest 8 8)) (Label (field rest 8 4) (label_at rest))

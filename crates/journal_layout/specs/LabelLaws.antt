@@ -14,10 +14,10 @@ use Rattle.journal_layout.specs.Stands.{StandsFirst}
 use Rattle.journal_layout.specs.ByteLaws.{number_read, field_spelled, field_small}
 use Rattle.journal_layout.specs.CheckLaws.{HasHead, passes, passed, or_none, none_or}
 use Rattle.journal_layout.specs.KindLaws.{body_of, record_of, kind_high, label_version}
-use Rattle.journal_layout.specs.SpellLaws.{tells_kind, tells_length, tells_head, tells_zeros, rounded_up}
+use Rattle.journal_layout.specs.SpellLaws.{prints_kind, prints_length, prints_head, prints_zeros, rounded_up}
 use Rattle.journal_layout.specs.FoundLaws.{record_passes, put_together, zeros_found, none_of_some, some_found}
 
--- what the checks before the padding tell
+-- the conditions that hold if the checks before the padding pass
 record HasLabel (rest : List ℕ) (f : Folded) : Type 0 where
   pub live : IsLive f.cases (field rest 8 4)
   pub short : label_length_at rest ≤ 64
@@ -47,61 +47,61 @@ label_passed at rest f e =
       long = sym (eqb-true (rounded (16 + label_length_at rest)) (length_at rest) (not-false _ h.1.1.1.0));
     }
 
--- What the spelling of a Label with anything after it tells.
+-- The fields of the spelling of a Label, whatever bytes follow it.
 module _ (seq : ℕ) (text tail : List ℕ) where
   abbrev zeros : List ℕ
   zeros = replicate (record_size (Label seq text) - plain_size (Label seq text)) 0
 
-  tells_seq : seq < 2 ^ 32 → field (spelling (Label seq text) ++ tail) 8 4 ≡ seq
+  prints_seq : seq < 2 ^ 32 → field (spelling (Label seq text) ++ tail) 8 4 ≡ seq
   unfolding behind_gate plain body number_bytes
-  tells_seq small = number_read 4 seq [] small
+  prints_seq small = number_read 4 seq [] small
 
-  tells_label_length : length text < 65536 → label_length_at (spelling (Label seq text) ++ tail) ≡ length text
+  prints_label_length : length text < 65536 → label_length_at (spelling (Label seq text) ++ tail) ≡ length text
   unfolding behind_gate plain body number_bytes
-  tells_label_length small = number_read 2 (length text) [] small
+  prints_label_length small = number_read 2 (length text) [] small
 
-  tells_two_zeros : field (spelling (Label seq text) ++ tail) 14 2 ≡ 0
+  prints_two_zeros : field (spelling (Label seq text) ++ tail) 14 2 ≡ 0
   unfolding behind_gate plain body number_bytes
-  tells_two_zeros = refl
+  prints_two_zeros = refl
 
   text_stands : drop 16 (spelling (Label seq text) ++ tail) ≡ (text ++ zeros) ++ tail
   unfolding behind_gate plain body number_bytes
   text_stands = refl
 
-  tells_label : length text < 65536 → label_at (spelling (Label seq text) ++ tail) ≡ text
+  prints_label : length text < 65536 → label_at (spelling (Label seq text) ++ tail) ≡ text
   unfolding part
-  tells_label short =
-      ap (λ (n : ℕ). take n (drop 16 (spelling (Label seq text) ++ tail))) (tells_label_length short)
+  prints_label short =
+      ap (λ (n : ℕ). take n (drop 16 (spelling (Label seq text) ++ tail))) (prints_label_length short)
       ∙ ap (take (length text)) (text_stands ∙ append_assoc text zeros tail)
       ∙ take_at text (zeros ++ tail) (length text) refl
 
--- what is written is read again
+-- a Label record that is written is read back
 pub label_again : (limit at seq : ℕ) (text tail : List ℕ) (f : Folded) → record_size (Label seq text) + 1 ≤ length (spelling (Label seq text) ++ tail) → IsSound limit f (Label seq text)
     → (record_fault limit at (spelling (Label seq text) ++ tail) f ≡ None) × (record_at (spelling (Label seq text) ++ tail) ≡ Label seq text)
 label_again limit at seq text tail f in_half sound =
     let b = spelling (Label seq text) ++ tail in
     let short : length text ≤ 64 = sound.3.short in
     let small : record_size (Label seq text) < 2 ^ 32 = omega arith in
-    let told = tells_seq seq text tail sound.1 in
-    let long = tells_label_length seq text tail (omega arith) in
-    let is = tells_label seq text tail (omega arith) in
+    let told = prints_seq seq text tail sound.1 in
+    let long = prints_label_length seq text tail (omega arith) in
+    let is = prints_label seq text tail (omega arith) in
     let size : rounded (16 + label_length_at b) ≡ record_size (Label seq text) = ap (λ (n : ℕ). rounded (16 + n)) long in
     let has : HasLabel b f = record {
       live = rw told sound.2;
       short = rw long short;
-      reserved = tells_two_zeros seq text tail;
-      long = tells_length (Label seq text) tail small ∙ sym size;
+      reserved = prints_two_zeros seq text tail;
+      long = prints_length (Label seq text) tail small ∙ sym size;
     } in
-    let padded : padding_fault at b (16 + label_length_at b) ≡ None = ap (λ (n : ℕ). padding_fault at b (16 + n)) long ∙ tells_zeros (Label seq text) tail at small in (
-      record_passes limit at b f (tells_head (Label seq text) tail f.version (kind_high limit f (Label seq text) sound) small in_half)
-          (body_of limit at b f (Label seq text) (tells_kind (Label seq text) tail)
+    let padded : padding_fault at b (16 + label_length_at b) ≡ None = ap (λ (n : ℕ). padding_fault at b (16 + n)) long ∙ prints_zeros (Label seq text) tail at small in (
+      record_passes limit at b f (prints_head (Label seq text) tail f.version (kind_high limit f (Label seq text) sound) small in_half)
+          (body_of limit at b f (Label seq text) (prints_kind (Label seq text) tail)
           ∙ none_or (first_failing at (label_checks b f)) (padding_fault at b (16 + label_length_at b)) (label_passes at b f has) padded),
-      record_of b (Label seq text) (tells_kind (Label seq text) tail)
+      record_of b (Label seq text) (prints_kind (Label seq text) tail)
           ∙ ap (λ (m : ℕ). Label m (label_at b)) told
           ∙ ap (λ (l : List ℕ). Label seq l) is,
     )
 
--- What bytes tell that pass the checks of a Label.
+-- The fields of bytes that pass the checks of a Label.
 module _ (rest : List ℕ) (f : Folded) (are : AreBytes rest) (head : HasHead f.version rest) (has : HasLabel rest f) where
   -- the places of the record up to its padding lie in the bytes
   within : 16 + label_length_at rest ≤ length rest
@@ -132,7 +132,7 @@ module _ (rest : List ℕ) (f : Folded) (are : AreBytes rest) (head : HasHead f.
       put_label : (a b c x y z l : List ℕ) → a ≡ x → b ≡ y → c ≡ z → a ++ b ++ c ++ l ≡ x ++ y ++ z ++ l
       put_label a b c x y z l e g h = cc
 
--- what is read is in the grammar
+-- a Label record that is read is in the grammar
 pub label_found : (limit at : ℕ) (rest : List ℕ) (f : Folded) → AreBytes rest → slice_index rest 0 ≡ 165 → HasHead f.version rest → kind_at rest ≡ 5
     → body_fault limit at rest f ≡ None
     → StandsFirst limit rest f (Label (field rest 8 4) (label_at rest)) × (record_size (Label (field rest 8 4) (label_at rest)) ≡ length_at rest)

@@ -57,12 +57,12 @@ pub labelled_row : (limit : ℕ) (bytes : List ℕ) (f : Folded) (rs : List Reco
 labelled_row limit bytes f [] labels row = labels
 labelled_row limit bytes f (r ∷ rest) labels row = labelled_row limit (drop (record_size r) bytes) (after r f) rest (labelled_after limit f r labels row.0.sound) row.1
 
--- it holds of what bytes say
+-- it holds of the cases that bytes give
 pub labelled_read : (limit version : ℕ) (bytes : List ℕ) (said : Folded) (n : ℕ) → AreRead limit bytes (nothing_yet version) said n → AreLabelled said.version said.cases
 labelled_read limit version bytes said n read =
     subst (λ (g : Folded). AreLabelled g.version g.cases) read.folded (labelled_row limit bytes (nothing_yet version) read.records (labelled_none version) read.row)
 
--- it holds of what a disk encodes
+-- it holds of the cases that a disk encodes
 pub stands_labelled : (b : List ℕ) (s : Standing) → Stands b s → AreLabelled s.version s.cases
 stands_labelled b s stands = labelled_read s.shape.data_blocks s.version (records_area b s.shape s.half) (folded_of s) (s.used - 32) stands.records
 

@@ -28,12 +28,12 @@ disk_length s = 4096 * (1 + 2 * s.half_blocks + s.data_blocks)
 abbrev pub half_length : Shape → ℕ
 half_length s = 4096 * s.half_blocks
 
--- where a half begins
+-- the start of a half
 abbrev pub half_start : Shape → Half → ℕ
 half_start s A = 4096
 half_start s B = 4096 * (1 + s.half_blocks)
 
--- where the data blocks begin
+-- the start of the data blocks
 abbrev pub data_start : Shape → ℕ
 data_start s = 4096 * (1 + 2 * s.half_blocks)
 

@@ -1,4 +1,4 @@
--- What holds of the cases that a journal's records say, always.
+-- Invariants of the cases that a journal's records give.
 use Rattle.std.specs.Prelude.{◌≡◌, ◌≢◌, ℕ, ◌^◌, ◌<◌, ◌≤◌, false, List, [], ◌∷◌, length, map}
 use Rattle.std.specs.List.{All, filter}
 use Rattle.journal_layout.specs.Case.{Case}
@@ -8,7 +8,7 @@ use Rattle.journal_layout.specs.Soundness.{IsWritable, IsLabel, Rise, blocks_for
 abbrev pub seq_of_case : Case → ℕ
 seq_of_case c = c.seq
 
--- a case by itself, where the next one gets this number
+-- a case by itself, if the next one gets this number
 pub record IsWhole (next : ℕ) (c : Case) : Type 0 where
   pub below : c.seq < next
   pub origin : IsWritable c.origin
@@ -22,7 +22,7 @@ abbrev pub AreNamedApart : List Case → Type 0
 AreNamedApart [] = Unit {0}
 AreNamedApart (c ∷ rest) = (is_name_of rest c.origin.name ≡ false) × AreNamedApart rest
 
--- The cases of an archive of `limit` data blocks, where the next one gets this number.
+-- The cases of an archive of `limit` data blocks, if the next one gets this number.
 pub record AreLive (limit : ℕ) (cases : List Case) (next : ℕ) : Type 0 where
   pub some_next : 1 ≤ next
   pub numbers : next ≤ 2 ^ 32

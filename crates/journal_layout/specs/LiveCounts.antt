@@ -61,7 +61,7 @@ count_here : (c : Case) (rest : List Case) (name : List ℕ) (t : Bool) → byte
 count_here c rest name t e =
     sum_by-cons (λ (d : Case). cond (bytes_eq d.origin.name name) 1 0) c rest ∙ ap (λ (s : Bool). cond s 1 0 + count_by (λ (d : Case). bytes_eq d.origin.name name) rest) e
 
--- none has it just where the test says so
+-- no case has the name if and only if the test says so
 pub none_named : (cases : List Case) (name : List ℕ) → is_name_of cases name ≡ false → count_by (λ (c : Case). bytes_eq c.origin.name name) cases ≡ 0
 none_named [] name none = refl
 none_named (c ∷ rest) name none =
@@ -78,7 +78,7 @@ not_named (c ∷ rest) name none =
     by true e low = absurd (omega arith)
     by false e low = low (omega arith)
 
--- no two cases have one name just where at most one case has each name
+-- no two cases have one name if and only if at most one case has each name
 pub named_once : (cases : List Case) (name : List ℕ) → AreNamedApart cases → count_by (λ (c : Case). bytes_eq c.origin.name name) cases ≤ 1
 named_once [] name apart = omega arith
 named_once (c ∷ rest) name apart =
@@ -163,7 +163,7 @@ live_runs limit cases next c live among k =
 pub live_named : (limit : ℕ) (cases : List Case) (next : ℕ) → AreLive limit cases next → (name : List ℕ) → count_by (λ (c : Case). bytes_eq c.origin.name name) cases ≤ 1
 live_named limit cases next live name = named_once cases name live.different
 
--- cases are live where the counts say so
+-- cases are live if the counts say so
 pub live_from_counts : (limit : ℕ) (cases : List Case) (next : ℕ) → 1 ≤ next → next ≤ 2 ^ 32 → All (IsWhole next) cases → Rise 0 (map seq_of_case cases)
     → ((k : ℕ) → sum_by (λ (c : Case). count_by (λ (b : ℕ). nat_eq b k) c.blocks) cases ≤ cond (nat_lt k limit) 1 0)
     → ((name : List ℕ) → count_by (λ (c : Case). bytes_eq c.origin.name name) cases ≤ 1) → AreLive limit cases next
@@ -190,7 +190,7 @@ live_from_counts limit cases next some numbers each rise apart named = record {
           | inr high ↦ absurd (omega (arith, rw (le-ltb k limit high) at h))
         ]
 
--- blocks are spare where they are data blocks, each once, and no case's
+-- blocks are spare if they are data blocks, each once, and no case's
 pub spare_from_counts : (limit : ℕ) (cases : List Case) (blocks : List ℕ)
     → ((k : ℕ) → sum_by (λ (c : Case). count_by (λ (b : ℕ). nat_eq b k) c.blocks) cases + count_by (λ (b : ℕ). nat_eq b k) blocks ≤ cond (nat_lt k limit) 1 0)
     → AreSpare limit (used_blocks cases) blocks

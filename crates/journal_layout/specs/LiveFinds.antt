@@ -96,7 +96,7 @@ dropped_chosen last test (c ∷ rest) rise =
 pub live_found : (limit : ℕ) (cases : List Case) (next : ℕ) (c : Case) → AreLive limit cases next → Contains cases c → case_numbered c.seq cases ≡ Some c
 live_found limit cases next c live among = numbered_found 0 cases c live.rise among
 
--- what holds of a live case by itself
+-- the invariants of a live case by itself
 pub live_whole : (limit : ℕ) (cases : List Case) (next : ℕ) (c : Case) → AreLive limit cases next → Contains cases c → IsWhole next c
 live_whole limit cases next c live among = All-contains (IsWhole next) cases c live.each among
 
@@ -180,7 +180,7 @@ uses_at k (c ∷ rest) (suc i) d within = omega (arith, uses-append k c.blocks (
 pub uses_among : (k : ℕ) (cases : List Case) (c : Case) → Contains cases c → uses k c.blocks ≤ uses k (used_blocks cases)
 uses_among k cases c among = subst (λ (d : Case). uses k d.blocks ≤ uses k (used_blocks cases)) among.2 (uses_at k cases among.0 c among.1)
 
--- and so are those of two
+-- the blocks of two cases together are among those of the cases
 pub uses_of_two : (k : ℕ) (cases : List Case) (i j : ℕ) (d : Case) → i < j → j < length cases
     → uses k (get_or cases i d).blocks + uses k (get_or cases j d).blocks ≤ uses k (used_blocks cases)
 uses_of_two k [] i j d less within = absurd (omega arith)

@@ -1,4 +1,4 @@
--- Laws of the cases that a journal's records say: what always holds of them, and what that gives.
+-- Laws of the cases that a journal's records say: invariants that always hold of them, and their consequences.
 use Rattle.std.proofs.Common.{◌≡◌, inl, inr, ℕ, ◌+◌, ◌-◌, ◌^◌, ◌<◌, ◌≤◌, Bool, true, false, not, ◌||◌, ◌==◌, List, [], ◌∷◌, ◌++◌, map, drop, refl, sym, ap, ◌∙◌, subst, arith, cond}
 use Rattle.std.proofs.lemmas.Bool.{cases_eq, cond_both, or_parts, or_from, both_ways, false_from_ne_true}
 use Rattle.std.proofs.lemmas.List.Concat.{flat_map-append}
@@ -41,14 +41,14 @@ rise_kept test last (c ∷ rest) rise =
 pub name_sym : (x y : List ℕ) → bytes_eq x y ≡ false → bytes_eq y x ≡ false
 name_sym x y e = false_from_ne_true (bytes_eq y x) (λ t. both_ways (bytes_eq x y) e ((bytes_eq-Decides x y).1 (sym ((bytes_eq-Decides y x).0 t))))
 
--- what is no case's name is none of these and one more case of another name
+-- a name that none of these cases has is still unused after one more case of another name
 pub name_push : (cases : List Case) (c : Case) (name : List ℕ) → is_name_of cases name ≡ false → bytes_eq c.origin.name name ≡ false → is_name_of (cases ++ c ∷ []) name ≡ false
 name_push [] c name none other = or_from (bytes_eq c.origin.name name) false other refl
 name_push (d ∷ rest) c name none other =
     let h = or_parts (bytes_eq d.origin.name name) (is_name_of rest name) none in
     or_from (bytes_eq d.origin.name name) (is_name_of (rest ++ c ∷ []) name) h.0 (name_push rest c name h.1 other)
 
--- what is no case's name is no name of some of them
+-- a name that none of these cases has is the name of none of some of them
 pub name_kept : (test : Case → Bool) (cases : List Case) (name : List ℕ) → is_name_of cases name ≡ false → is_name_of (filter test cases) name ≡ false
 name_kept test [] name none = refl
 name_kept test (d ∷ rest) name none =
@@ -169,7 +169,7 @@ whole_labelled seq text next c label whole =
     })
     (λ _. whole)
 
--- what stays of the cases with a flag or a label that changes
+-- the facts that stay if a flag or a label of the cases changes
 pub used_pinned : (seq : ℕ) (flag : Bool) (cases : List Case) → used_blocks (with_pin seq flag cases) ≡ used_blocks cases
 used_pinned seq flag cases = used_changed (pinned_as seq flag) (flag_keeps seq flag) cases
 
@@ -182,7 +182,7 @@ names_pinned seq flag cases name = names_changed (pinned_as seq flag) (flag_keep
 pub names_labelled : (seq : ℕ) (text : List ℕ) (cases : List Case) (name : List ℕ) → is_name_of (with_label seq text cases) name ≡ is_name_of cases name
 names_labelled seq text cases name = names_changed (labelled_as seq text) (label_keeps seq text) cases name
 
--- what always holds
+-- the invariants
 
 whole_later : (next later : ℕ) (c : Case) → next ≤ later → IsWhole next c → IsWhole later c
 whole_later next later c high whole = record {
@@ -318,11 +318,11 @@ pub live_row : (limit : ℕ) (bytes : List ℕ) (f : Folded) (rs : List Record) 
 live_row limit bytes f [] live row = live
 live_row limit bytes f (r ∷ rest) live row = live_row limit (drop (record_size r) bytes) (after r f) rest (live_after limit f r live row.0.sound) row.1
 
--- it holds of what bytes say
+-- it holds of the cases that bytes give
 pub live_read : (limit version : ℕ) (bytes : List ℕ) (said : Folded) (n : ℕ) → AreRead limit bytes (nothing_yet version) said n → AreLive limit said.cases said.next
 live_read limit version bytes said n read =
     subst (λ (g : Folded). AreLive limit g.cases g.next) read.folded (live_row limit bytes (nothing_yet version) read.records (live_none limit) read.row)
 
--- it holds of what a disk encodes
+-- it holds of the cases that a disk encodes
 pub stands_live : (b : List ℕ) (s : Standing) → Stands b s → AreLive s.shape.data_blocks s.cases s.next
 stands_live b s stands = live_read s.shape.data_blocks s.version (records_area b s.shape s.half) (folded_of s) (s.used - 32) stands.records

@@ -113,7 +113,7 @@ module _ (b c : List ℕ) (s : Standing) (f : Folded) (stands : Stands b s) (may
       subst (λ (m : ℕ). AreRead s.shape.data_blocks area (nothing_yet f.version) f m) n
       (a_snapshot_is_read s.shape.data_blocks area f may.live may.labels (omega (arith, long)) records_spelled gate_behind)
 
--- Once the gate of the other half is open over a snapshot, the bytes encode that in place of what they encoded.
+-- Once the gate of the other half is open over a snapshot, the bytes encode the snapshot instead of the old cases.
 pub an_opened_half_stands : (b c : List ℕ) (s : Standing) (f : Folded) → Stands b s → MayRewrite s f → HoldsSnapshot s f b
     → SameOutside (other_start s) 1 b c → slice_index c (other_start s) ≡ 165 → Stands c (rewritten s f)
 an_opened_half_stands b c s f stands may holds same opened = record {

@@ -13,10 +13,10 @@ use Rattle.journal_layout.specs.Stands.{StandsFirst}
 use Rattle.journal_layout.specs.ByteLaws.{number_read, field_spelled, field_small}
 use Rattle.journal_layout.specs.CheckLaws.{HasHead, passes, passed, or_none, none_or}
 use Rattle.journal_layout.specs.KindLaws.{body_of, record_of, kind_high}
-use Rattle.journal_layout.specs.SpellLaws.{tells_kind, tells_length, tells_head, tells_zeros}
+use Rattle.journal_layout.specs.SpellLaws.{prints_kind, prints_length, prints_head, prints_zeros}
 use Rattle.journal_layout.specs.FoundLaws.{record_passes, put_together, byte_part, zeros_found, flag_short, flag_back, flag_found, none_of_some, some_found}
 
--- what the checks tell, both ways
+-- the checks pass if and only if these conditions hold
 pub pin_passes : (at : ℕ) (rest : List ℕ) (f : Folded) → length_at rest ≡ 16 → IsLive f.cases (field rest 8 4) → slice_index rest 12 ≤ 1 → first_failing at (pin_checks rest f) ≡ None
 pin_passes at rest f long live flag =
     passes at (pin_checks rest f) (
@@ -29,33 +29,33 @@ pin_passed at rest f e =
     let h = passed at (pin_checks rest f) e in
     (eqb-true (length_at rest) 16 (not-false _ h.0), some_found (case_numbered (field rest 8 4) f.cases) h.1.0, ltb-false 1 (slice_index rest 12) h.1.1.0)
 
-tells_seq : (seq : ℕ) (flag : Bool) (tail : List ℕ) → seq < 2 ^ 32 → field (spelling (Pin seq flag) ++ tail) 8 4 ≡ seq
+prints_seq : (seq : ℕ) (flag : Bool) (tail : List ℕ) → seq < 2 ^ 32 → field (spelling (Pin seq flag) ++ tail) 8 4 ≡ seq
 unfolding behind_gate plain body number_bytes
-tells_seq seq flag tail small = number_read 4 seq [] small
+prints_seq seq flag tail small = number_read 4 seq [] small
 
-tells_flag : (seq : ℕ) (flag : Bool) (tail : List ℕ) → slice_index (spelling (Pin seq flag) ++ tail) 12 ≡ flag_byte flag
+prints_flag : (seq : ℕ) (flag : Bool) (tail : List ℕ) → slice_index (spelling (Pin seq flag) ++ tail) 12 ≡ flag_byte flag
 unfolding behind_gate plain body number_bytes
-tells_flag seq flag tail = refl
+prints_flag seq flag tail = refl
 
--- what is written is read again
+-- a Pin record that is written is read back
 pub pin_again : (limit at seq : ℕ) (flag : Bool) (tail : List ℕ) (f : Folded) → record_size (Pin seq flag) + 1 ≤ length (spelling (Pin seq flag) ++ tail) → IsSound limit f (Pin seq flag)
     → (record_fault limit at (spelling (Pin seq flag) ++ tail) f ≡ None) × (record_at (spelling (Pin seq flag) ++ tail) ≡ Pin seq flag)
 pin_again limit at seq flag tail f in_half sound =
     let b = spelling (Pin seq flag) ++ tail in
-    let told = tells_seq seq flag tail sound.0 in
-    let set = tells_flag seq flag tail in
+    let told = prints_seq seq flag tail sound.0 in
+    let set = prints_flag seq flag tail in
     let live : IsLive f.cases (field b 8 4) = rw told sound.1 in (
-      record_passes limit at b f (tells_head (Pin seq flag) tail f.version (kind_high limit f (Pin seq flag) sound) (omega arith) in_half)
-          (body_of limit at b f (Pin seq flag) (tells_kind (Pin seq flag) tail)
+      record_passes limit at b f (prints_head (Pin seq flag) tail f.version (kind_high limit f (Pin seq flag) sound) (omega arith) in_half)
+          (body_of limit at b f (Pin seq flag) (prints_kind (Pin seq flag) tail)
           ∙ none_or (first_failing at (pin_checks b f)) (padding_fault at b 13)
-          (pin_passes at b f (tells_length (Pin seq flag) tail (omega arith)) live (rw set (flag_short flag)))
-          (tells_zeros (Pin seq flag) tail at (omega arith))),
-      record_of b (Pin seq flag) (tells_kind (Pin seq flag) tail)
+          (pin_passes at b f (prints_length (Pin seq flag) tail (omega arith)) live (rw set (flag_short flag)))
+          (prints_zeros (Pin seq flag) tail at (omega arith))),
+      record_of b (Pin seq flag) (prints_kind (Pin seq flag) tail)
           ∙ ap (λ (m : ℕ). Pin m (slice_index b 12 == 1)) told
           ∙ ap (λ (t : Bool). Pin seq t) (ap (λ (m : ℕ). m == 1) set ∙ flag_back flag),
     )
 
--- what is read is in the grammar
+-- a Pin record that is read is in the grammar
 pub pin_found : (limit at : ℕ) (rest : List ℕ) (f : Folded) → AreBytes rest → slice_index rest 0 ≡ 165 → HasHead f.version rest → kind_at rest ≡ 3
     → body_fault limit at rest f ≡ None → StandsFirst limit rest f (Pin (field rest 8 4) (slice_index rest 12 == 1)) × (record_size (Pin (field rest 8 4) (slice_index rest 12 == 1)) ≡ length_at rest)
 unfolding body

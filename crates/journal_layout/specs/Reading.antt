@@ -1,4 +1,4 @@
--- What the bytes of a record tell, field by field. The bytes are those of the half from the record's gate on.
+-- Reading a record from its bytes, field by field. The bytes are those of the half from the record's gate on.
 use Rattle.std.specs.Prelude.{ℕ, zero, suc, ◌+◌, ◌*◌, ◌==◌, List, [], ◌∷◌, slice_index, drop, if◌then◌else◌}
 use Rattle.disk_model.specs.Places.{part}
 use Rattle.extents.specs.declared.run_list.Run.{Run}
@@ -41,7 +41,7 @@ runs_at bytes (suc n) = record { start = field bytes 0 4; count = field bytes 4 
 abbrev pub store_runs : List ℕ → List Run
 store_runs rest = runs_at (drop 48 rest) (run_count_at rest)
 
--- where the name begins, after the runs
+-- the start of the name, after the runs
 abbrev pub name_place : List ℕ → ℕ
 name_place rest = 48 + 8 * run_count_at rest
 
@@ -90,7 +90,7 @@ label_length_at rest = field rest 12 2
 abbrev pub label_at : List ℕ → List ℕ
 label_at rest = part rest 16 (label_length_at rest)
 
--- the record, or one that is never sound where the byte is of no kind
+-- the record, or one that is never sound if the byte is no kind
 unfoldable pub record_at : List ℕ → Record
 record_at rest =
     by_kind (kind_at rest)

@@ -1,4 +1,4 @@
--- Laws of what an opening reads: bytes hold one row of records, and an opening has one answer.
+-- Laws of the reading of an opening: bytes hold one row of records, and an opening has one answer.
 use Rattle.std.proofs.Common.{◌≡◌, ◌≢◌, inl, inr, ℕ, ◌+◌, ◌-◌, ◌^◌, ◌≤◌, List, [], ◌∷◌, length, drop, slice_index, refl, sym, ap, ◌∙◌, subst, arith, Some, Result, Ok, Err}
 use Rattle.std.proofs.lemmas.List.{drop-drop, get_or-drop, length-drop, length-take}
 use Rattle.disk_model.specs.Places.{part}
@@ -30,7 +30,7 @@ closed_stops limit n bytes f closed r first =
 faulty_stops : (limit at : ℕ) (bytes : List ℕ) (f : Folded) (fault : OpenFault) → limit ≤ 16777216 → length bytes ≤ 2 ^ 32 → record_fault limit at bytes f ≡ Some fault → NoRecord limit bytes f
 faulty_stops limit at bytes f fault low short e r first = let none = (record_again limit at bytes f r low short first).faultless in cc
 
--- bytes begin with one row of records, up to where there is none
+-- bytes begin with exactly one row of records that no further record follows
 pub one_row : (limit : ℕ) (bytes : List ℕ) (f : Folded) (rs ss : List Record) → limit ≤ 16777216 → length bytes ≤ 2 ^ 32
     → StandInRow limit bytes f rs → NoRecord limit (drop (sizes rs) bytes) (replayed rs f)
     → StandInRow limit bytes f ss → NoRecord limit (drop (sizes ss) bytes) (replayed ss f) → rs ≡ ss
@@ -63,7 +63,7 @@ module _ (limit : ℕ) (bytes : List ℕ) (f : Folded) (low : limit ≤ 16777216
       faulty_stops limit (at + sizes w.records) (drop (sizes w.records) bytes) (replayed w.records f) fault low
       (omega (arith, length-drop (sizes w.records) bytes)) w.found
 
-  -- what is read has no fault
+  -- bytes that are read have no fault
   pub read_or_faulty : (at n : ℕ) (g : Folded) (fault : OpenFault) → AreRead limit bytes f g n → AreFaulty limit at bytes f fault → ⊥
   read_or_faulty at n g fault one two =
       let same : one.records ≡ two.records =
@@ -88,7 +88,7 @@ area_short b s half limits =
     let most = limits.half in
     omega (arith, length-take (half_length s - 32) (drop (records_start s half) b))
 
--- what an opening with this front reads
+-- the journal that an opening with this front reads
 abbrev IsReadAs : List ℕ → Front → Folded → ℕ → Type 0
 IsReadAs b t said used = AreRead t.shape.data_blocks (records_area b t.shape t.half) (nothing_yet t.version) said used
 
@@ -139,14 +139,14 @@ stands_once b s u one two =
     (ap (λ (t : Front). t.shape) e) (ap (λ (t : Front). t.half) e) (ap (λ (t : Front). t.version) e) (ap (λ (t : Front). t.generation) e)
     (ap (λ (t : Folded). t.cases) said.0) (ap (λ (t : Folded). t.next) said.0) used
 
--- what the bytes encode isn't refused
+-- bytes that encode an archive are not refused
 pub stands_or_refused : (b : List ℕ) (s : Standing) (fault : OpenFault) → Stands b s → IsRefused b fault → ⊥
 stands_or_refused b s fault stands (inl e) = ok_or_err (front_opening b) (front_of s) fault stands.front e
 stands_or_refused b s fault stands (inr w) =
     let same : w.0 ≡ front_of s = same_ok (front_opening b) w.0 (front_of s) w.1 stands.front in
     said_or_faulty b (front_of s) stands.front (folded_of s) (s.used - 32) fault stands.records (subst (λ (t : Front). HasFault b t fault) same w.2)
 
--- what is refused is refused so
+-- bytes are refused for one fault only
 pub refused_once : (b : List ℕ) (e d : OpenFault) → IsRefused b e → IsRefused b d → e ≡ d
 refused_once b e d (inl x) (inl y) = same_err (front_opening b) e d x y
 refused_once b e d (inl x) (inr v) = absurd (ok_or_err (front_opening b) v.0 e v.1 x)
@@ -162,6 +162,6 @@ one_opening b (Ok s) (Err d) one two = absurd (stands_or_refused b s d one two)
 one_opening b (Err e) (Ok u) one two = absurd (stands_or_refused b u e two one)
 one_opening b (Err e) (Err d) one two = ap (λ (t : OpenFault). Err t) (refused_once b e d one two)
 
--- what the bytes encode opens as that
+-- bytes that encode an archive open as that archive
 pub stands_opens : (b : List ℕ) (s : Standing) (x : Result Standing OpenFault) → Stands b s → Opening b x → x ≡ Ok s
 stands_opens b s x stands opening = one_opening b x (Ok s) opening stands

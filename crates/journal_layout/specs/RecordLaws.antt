@@ -26,7 +26,7 @@ again_at limit at (Pin seq flag) tail f low small in_half sound = pin_again limi
 again_at limit at (Next n) tail f low small in_half sound = next_again limit at n tail f in_half sound
 again_at limit at (Label seq text) tail f low small in_half sound = label_again limit at seq text tail f in_half sound
 
--- what is written is read again
+-- a record that is written is read back
 pub record_again : (limit at : ℕ) (rest : List ℕ) (f : Folded) (r : Record) → limit ≤ 16777216 → length rest ≤ 2 ^ 32 → StandsFirst limit rest f r → IsToldBy limit at rest f r
 record_again limit at rest f r low short first =
     let same = as_spelled r rest first.spelled in
@@ -47,7 +47,7 @@ found_at limit at rest f (Pin seq flag) are opened head kind e = pin_found limit
 found_at limit at rest f (Next n) are opened head kind e = next_found limit at rest f are opened head kind e
 found_at limit at rest f (Label seq text) are opened head kind e = label_found limit at rest f are opened head kind e
 
--- what is read is a record that is there, as long as it says
+-- a record that is read stands at the start of the bytes, and has the length in its length field
 pub record_told : (limit at : ℕ) (rest : List ℕ) (f : Folded) → AreBytes rest → slice_index rest 0 ≡ 165 → record_fault limit at rest f ≡ None → IsFoundAs limit rest f (record_at rest)
 record_told limit at rest f are opened e =
     let parts = record_passed limit at rest f e in
@@ -55,7 +55,7 @@ record_told limit at rest f are opened e =
     let kind = kind_found rest (kind_at rest) head.some_kind (omega (arith, head.known_kind, last_high f.version)) in
     subst (λ (r : Record). IsFoundAs limit rest f r) (sym (record_of rest kind.0 kind.1)) (found_at limit at rest f kind.0 are opened head kind.1 parts.1)
 
--- what is read is in the grammar
+-- a record that is read is in the grammar
 pub record_found : (limit at : ℕ) (rest : List ℕ) (f : Folded) → AreBytes rest → slice_index rest 0 ≡ 165 → record_fault limit at rest f ≡ None → StandsFirst limit rest f (record_at rest)
 record_found limit at rest f are opened e = (record_told limit at rest f are opened e).0
 
@@ -68,6 +68,6 @@ pub one_record : (limit : ℕ) (bytes : List ℕ) (f g : Folded) (r s : Record) 
 one_record limit bytes f g r s low short first second =
     sym (record_again limit 0 bytes f r low short first).is ∙ (record_again limit 0 bytes g s low short second).is
 
--- where a record is, its gate is open
+-- the gate of a record is open
 pub opened_first : (limit : ℕ) (bytes : List ℕ) (f : Folded) (r : Record) → StandsFirst limit bytes f r → slice_index bytes 0 ≡ 165
 opened_first limit bytes f r first = ap (λ (l : List ℕ). slice_index l 0) (as_spelled r bytes first.spelled)

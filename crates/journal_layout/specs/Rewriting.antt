@@ -1,4 +1,4 @@
--- What a rewriting of the journal leaves: the other half holds the cases anew, and is taken.
+-- The journal after it is rewritten: the other half holds the cases anew, and is taken.
 use Rattle.std.specs.Prelude.{◌≡◌, ◌≢◌, ℕ, ◌+◌, ◌^◌, ◌<◌, ◌≤◌, Bool, true, nat_lt, if◌then◌else◌, List, [], ◌∷◌, ◌++◌, slice_index}
 use Rattle.std.specs.List.{flat_map}
 use Rattle.disk_model.specs.Places.{part}
@@ -17,11 +17,11 @@ abbrev pub other_half : Half → Half
 other_half A = B
 other_half B = A
 
--- where the half begins that is not taken
+-- the start of the half that is not taken
 abbrev pub other_start : Standing → ℕ
 other_start s = half_start s.shape (other_half s.half)
 
--- the record of a case's label, where it is not empty
+-- the record of a case's label, if the label is not empty
 abbrev pub label_records : ℕ → List ℕ → List Record
 label_records seq [] = []
 label_records seq (b ∷ rest) = Label seq (b ∷ rest) ∷ []
@@ -31,7 +31,7 @@ abbrev pub case_records : Case → List Record
 case_records c = Store (unlabelled c) ∷ label_records c.seq c.label
 
 -- The records that say these cases and this next number, and nothing else: those of each case, in the order of their
--- numbers, and one of the next number. Where no case has a label, they are records of both versions.
+-- numbers, and one of the next number. If no case has a label, they are records of both versions.
 abbrev pub snapshot : Folded → List Record
 snapshot f = flat_map case_records f.cases ++ Next f.next ∷ []
 
@@ -87,7 +87,7 @@ pub record MayRewrite (s : Standing) (f : Folded) : Type 0 where
 abbrev pub fits : Standing → Record → Bool
 fits s r = nat_lt (s.used + record_size r) (half_length s.shape)
 
--- After one record more: after the others where it fits there, and else in the other half, with all that is said then written anew.
+-- After one more record: after the others if it fits there, otherwise in the other half, with all written anew.
 abbrev pub appended : Standing → Record → Standing
 appended s r = record s {
   half = if fits s r then s.half else other_half s.half;

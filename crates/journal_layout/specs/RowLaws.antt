@@ -5,7 +5,7 @@ use Rattle.journal_layout.specs.Record.{Record, record_size}
 use Rattle.journal_layout.specs.Folding.{Folded, after, replayed, sizes, last_from}
 use Rattle.journal_layout.specs.Stands.{StandsFirst, StandInRow}
 
--- what a row and one record more say, and their bytes
+-- the meaning of a row with one more record, and its bytes
 pub replayed_push : (rs : List Record) (r : Record) (f : Folded) → replayed (rs ++ r ∷ []) f ≡ after r (replayed rs f)
 replayed_push [] r f = refl
 replayed_push (s ∷ rest) r f = replayed_push rest r (after s f)
@@ -31,7 +31,7 @@ row_push limit bytes f (s ∷ rest) r row last =
 front_same : (n q : ℕ) (b c : List ℕ) → n ≤ q → take q c ≡ take q b → take n c ≡ take n b
 front_same n q b c low same = sym (take-take n q c low) ∙ ap (take n) same ∙ take-take n q b low
 
--- what follows them
+-- the bytes after them
 rest_same : (n q : ℕ) (b c : List ℕ) → n ≤ q → take q c ≡ take q b → take (q - n) (drop n c) ≡ take (q - n) (drop n b)
 rest_same n q b c low same =
     let e : q ≡ n + (q - n) = omega arith in
@@ -47,7 +47,7 @@ first_same limit q b c f r long low same first = record {
   sound = first.sound;
 }
 
--- and so does a row
+-- a row depends on its bytes alone
 pub row_same : (limit q : ℕ) (b c : List ℕ) (f : Folded) (rs : List Record)
     → length c ≡ length b → sizes rs ≤ q → take q c ≡ take q b → StandInRow limit b f rs → StandInRow limit c f rs
 row_same limit q b c f [] long low same row = tt
@@ -58,7 +58,7 @@ row_same limit q b c f (r ∷ rest) long low same row =
           (rest_same n q b c (omega arith) same) row.1,
     )
 
--- a row ends within its bytes, with room for a gate where there are bytes
+-- a row ends within its bytes, and leaves room for a gate if there are bytes at all
 pub row_in_half : (limit : ℕ) (bytes : List ℕ) (f : Folded) (rs : List Record) → 0 < length bytes → StandInRow limit bytes f rs → sizes rs + 1 ≤ length bytes
 row_in_half limit bytes f [] some row = omega arith
 row_in_half limit bytes f (r ∷ rest) some row =

@@ -1,4 +1,5 @@
--- Three records byte by byte, as a disk has them: their spelling, and that they are read as what they are. And what a snapshot of the first one's case is.
+-- Three records byte by byte, as a disk has them: their spelling, and that they
+-- are read back as those records. The snapshot of the first one's case follows.
 use Rattle.std.proofs.Common.{◌≡◌, ℕ, List, [], ◌∷◌, ◌++◌, refl, false, None, Some}
 use Rattle.disk_model.specs.Places.{part}
 use Rattle.journal_layout.specs.declared.entry.Kind.TheVariants.{Exec}
@@ -47,7 +48,7 @@ next_spelled : spelling (Next 1) ≡ 0xa5 ∷ 4 ∷ 0 ∷ 0 ∷ 0x10 ∷ 0 ∷ 0
 unfolding behind_gate plain body number_bytes
 next_spelled = refl
 
--- the snapshot of no case, and of the sample alone, where the next case gets number 3
+-- the snapshot of no case, and of the sample alone, if the next case gets number 3
 none_said : snapshot_size (nothing_yet 1) ≡ 48
 none_said = refl
 

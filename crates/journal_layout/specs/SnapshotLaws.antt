@@ -42,7 +42,7 @@ row_spelled limit bytes f (r ∷ rest) sound in_half e =
           (back_of_join n (sizes rest) bytes (spelling r) (flat_map spelling rest) long e),
     )
 
--- and are read, where a gate after them is not open
+-- and are read, if a gate after them is not open
 pub read_spelled : (limit : ℕ) (bytes : List ℕ) (f : Folded) (rs : List Record) → AreSound limit f rs → sizes rs + 1 ≤ length bytes
     → take (sizes rs) bytes ≡ flat_map spelling rs → slice_index bytes (sizes rs) ≢ 165 → AreRead limit bytes f (replayed rs f) (sizes rs)
 read_spelled limit bytes f rs sound in_half e closed = record {
@@ -55,7 +55,7 @@ read_spelled limit bytes f rs sound in_half e closed = record {
 
 -- the records of live cases
 
--- The cases `done` are said already, the last of them under the number `last`. What is left goes with them.
+-- The cases `done` have their records already, and `last` is the number of the last of them. The rest may follow them.
 record MayFollow (limit version next last : ℕ) (done rest : List Case) : Type 0 where
   numbers : next ≤ 2 ^ 32
   low : last + 1 ≤ next
@@ -68,7 +68,7 @@ record MayFollow (limit version next last : ℕ) (done rest : List Case) : Type 
   different : AreNamedApart rest
   new : AllByRecursion (λ (c : Case). is_name_of done c.origin.name ≡ false) rest
 
--- what these cases and this next number say in this version
+-- these cases and this next number, in this version
 abbrev told : ℕ → List Case → ℕ → Folded
 told version cases next = record { version = version; cases = cases; next = next }
 

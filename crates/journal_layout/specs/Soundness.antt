@@ -1,4 +1,4 @@
--- When a record may follow others: what it says goes with what they say.
+-- When a record may follow others: it agrees with the cases and the next number of the records before it.
 use Rattle.std.specs.Prelude.{◌≡◌, ◌≢◌, ℕ, ◌+◌, ◌/◌, ◌^◌, ◌<◌, ◌≤◌, false, List, [], ◌∷◌, length, if◌then◌else◌, ◌==◌, Option, Some, None}
 use Rattle.std.specs.List.{AllByRecursion}
 use Rattle.disk_model.specs.Places.{AreBytes}
@@ -26,7 +26,7 @@ pub record IsName (name : List ℕ) : Type 0 where
   pub bytes : AreBytes name
   pub no_nul : AllByRecursion (λ (b : ℕ). b ≢ 0) name
 
--- what an image is of, as a record says it
+-- the origin of an image, as a record gives it
 pub record IsWritable (o : Origin) : Type 0 where
   pub name : IsName o.name
   pub pid : o.pid < 2 ^ 32
@@ -38,12 +38,12 @@ pub record IsLabel (text : List ℕ) : Type 0 where
   pub short : length text ≤ 64
   pub bytes : AreBytes text
 
--- The greatest byte of a kind of record in a half of this version: labels came with version 2.
+-- The highest byte of a kind of record in a half of this version: labels came with version 2.
 abbrev pub last_kind : ℕ → ℕ
 last_kind version = if version == 2 then 5 else 4
 
--- A case may be stored where these cases are live, on an archive of `limit` data blocks. Its number isn't looked at. It has no
--- label yet: that is said by a record of its own.
+-- A case may be stored if these cases are live, on an archive of `limit` data blocks.
+-- Its number isn't checked. It has no label yet: that has a record of its own.
 pub record IsStorable (limit : ℕ) (cases : List Case) (c : Case) : Type 0 where
   pub origin : IsWritable c.origin
   pub new_name : is_name_of cases c.origin.name ≡ false
@@ -70,7 +70,7 @@ abbrev pub Rise : ℕ → List ℕ → Type 0
 Rise last [] = Unit {0}
 Rise last (seq ∷ rest) = (last < seq) × Rise seq rest
 
--- the record may follow where the records before it say this
+-- the record may follow if the records before it give this
 abbrev pub IsSound : ℕ → Folded → Record → Type 0
 IsSound limit f (Store c) = (f.next ≤ c.seq) × (c.seq < 2 ^ 32) × IsStorable limit f.cases c
 IsSound limit f (Drop seqs) = (0 < length seqs) × Rise 0 seqs × AllByRecursion (λ (seq : ℕ). seq < 2 ^ 32) seqs × AllByRecursion (IsDroppable f.cases) seqs

@@ -1,4 +1,4 @@
--- Laws of the checks of runs: what it means that no run is faulty.
+-- Laws of the checks of runs: the meaning of the checks if no run is bad.
 use Rattle.std.proofs.Common.{◌≡◌, inl, inr, ℕ, zero, suc, ◌+◌, ◌-◌, ◌<◌, ◌≤◌, Bool, true, false, ◌==◌, nat_eq, nat_lt, List, [], ◌∷◌, ◌++◌, refl, sym, arith, Option, Some, None, cond}
 use Rattle.std.proofs.lemmas.Bool.{eqb-false, eq-eqb, ne_eqb, cases_lt, cases_eq, or_parts, or_from, le-ltb, ltb-false}
 use Rattle.std.specs.List.{range_with_len, list_any}

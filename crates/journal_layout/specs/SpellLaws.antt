@@ -96,7 +96,7 @@ pub spelling_unlabelled : (c : Case) → spelling (Store (unlabelled c)) ≡ spe
 unfolding behind_gate plain body store_facts
 spelling_unlabelled c = refl
 
--- What a spelling with anything after it tells.
+-- The fields of a spelling, whatever bytes follow it.
 module _ (r : Record) (tail : List ℕ) where
   abbrev spelled : List ℕ
   spelled = spelling r ++ tail
@@ -104,49 +104,49 @@ module _ (r : Record) (tail : List ℕ) where
   abbrev zeros : ℕ
   zeros = record_size r - plain_size r
 
-  pub tells_kind : kind_at (spelling r ++ tail) ≡ record_kind r
+  pub prints_kind : kind_at (spelling r ++ tail) ≡ record_kind r
   unfolding behind_gate plain
-  tells_kind = refl
+  prints_kind = refl
 
-  pub tells_reserved : field (spelling r ++ tail) 2 2 ≡ 0
+  pub prints_reserved : field (spelling r ++ tail) 2 2 ≡ 0
   unfolding behind_gate plain number_bytes
-  tells_reserved = refl
+  prints_reserved = refl
 
-  pub tells_length : record_size r < 2 ^ 32 → length_at (spelling r ++ tail) ≡ record_size r
+  pub prints_length : record_size r < 2 ^ 32 → length_at (spelling r ++ tail) ≡ record_size r
   unfolding behind_gate plain number_bytes
-  tells_length small = number_read 4 (record_size r) [] small
+  prints_length small = number_read 4 (record_size r) [] small
 
-  pub tells_body : drop 8 (spelling r ++ tail) ≡ (body r ++ replicate (record_size r - plain_size r) 0) ++ tail
+  pub prints_body : drop 8 (spelling r ++ tail) ≡ (body r ++ replicate (record_size r - plain_size r) 0) ++ tail
   unfolding behind_gate plain number_bytes
-  tells_body = refl
+  prints_body = refl
 
-  pub tells_padding : part (spelling r ++ tail) (plain_size r) (record_size r - plain_size r) ≡ replicate (record_size r - plain_size r) 0
+  pub prints_padding : part (spelling r ++ tail) (plain_size r) (record_size r - plain_size r) ≡ replicate (record_size r - plain_size r) 0
   unfolding behind_gate part
-  tells_padding =
+  prints_padding =
       ap (take zeros)
       (ap (drop (plain_size r)) (append_assoc (165 ∷ plain r) (replicate zeros 0) tail)
       ∙ drop_at (165 ∷ plain r) (replicate zeros 0 ++ tail) (plain_size r) (omega (arith, length-plain r)))
       ∙ take_at (replicate zeros 0) tail zeros (length-replicate zeros 0)
 
   -- the checks that every record begins with pass, in a half of a version that has its kind
-  pub tells_head : (version : ℕ) → record_kind r ≤ last_kind version → record_size r < 2 ^ 32 → record_size r + 1 ≤ length (spelling r ++ tail)
+  pub prints_head : (version : ℕ) → record_kind r ≤ last_kind version → record_size r < 2 ^ 32 → record_size r + 1 ≤ length (spelling r ++ tail)
       → HasHead version (spelling r ++ tail)
-  tells_head version known small in_half = record {
+  prints_head version known small in_half = record {
     enough = omega (arith, record_some r);
-    some_kind = rw tells_kind (kind_low r);
-    known_kind = rw tells_kind known;
-    reserved = tells_reserved;
-    long = rw (tells_length small) (record_some r);
-    whole = rw (tells_length small) (rounded_whole (plain_size r));
-    in_half = rw (tells_length small) in_half;
+    some_kind = rw prints_kind (kind_low r);
+    known_kind = rw prints_kind known;
+    reserved = prints_reserved;
+    long = rw (prints_length small) (record_some r);
+    whole = rw (prints_length small) (rounded_whole (plain_size r));
+    in_half = rw (prints_length small) in_half;
   }
 
-  pub tells_zeros : (at : ℕ) → record_size r < 2 ^ 32 → padding_fault at (spelling r ++ tail) (plain_size r) ≡ None
-  tells_zeros at small =
+  pub prints_zeros : (at : ℕ) → record_size r < 2 ^ 32 → padding_fault at (spelling r ++ tail) (plain_size r) ≡ None
+  prints_zeros at small =
       padding_passes at (spelling r ++ tail) (plain_size r)
-      (ap (λ (n : ℕ). part (spelling r ++ tail) (plain_size r) (n - plain_size r)) (tells_length small)
-      ∙ tells_padding
-      ∙ ap (λ (n : ℕ). replicate (n - plain_size r) 0) (sym (tells_length small)))
+      (ap (λ (n : ℕ). part (spelling r ++ tail) (plain_size r) (n - plain_size r)) (prints_length small)
+      ∙ prints_padding
+      ∙ ap (λ (n : ℕ). replicate (n - plain_size r) 0) (sym (prints_length small)))
 
 -- bytes that begin with a spelling
 pub as_spelled : (r : Record) (bytes : List ℕ) → take (record_size r) bytes ≡ spelling r → bytes ≡ spelling r ++ drop (record_size r) bytes

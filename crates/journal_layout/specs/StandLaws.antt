@@ -1,4 +1,4 @@
--- Laws of what a disk encodes: its limits, on which bytes it depends, and one record more.
+-- Laws of the archive that a disk encodes: its limits, the bytes on which it depends, and one more record.
 use Rattle.std.proofs.Common.{◌≡◌, ◌≢◌, ℕ, ◌+◌, ◌-◌, ◌<◌, ◌≤◌, List, [], ◌∷◌, ◌++◌, length, take, drop, slice_index, refl, sym, ap, ◌∙◌, subst, arith, Ok}
 use Rattle.std.proofs.lemmas.List.{get_or-take, length-drop, take-take}
 use Rattle.disk_model.specs.Places.{part}

@@ -1,4 +1,4 @@
--- What the journal of an archive encodes.
+-- The content of an archive's journal.
 use Rattle.std.specs.Prelude.{ℕ, ◌+◌, [], List}
 use Rattle.journal_layout.specs.declared.shape.Shape.{Shape}
 use Rattle.journal_layout.specs.declared.shape.Half.{Half}
@@ -19,7 +19,7 @@ pub record Standing : Type 0 where
   -- the bytes of the taken half's header and records
   pub used : ℕ
 
--- what its records say
+-- the meaning of its records
 abbrev pub folded_of : Standing → Folded
 folded_of s = record { version = s.version; cases = s.cases; next = s.next }
 

@@ -1,4 +1,4 @@
--- What the bytes of a disk encode, and what an opening answers of them.
+-- The archive that the bytes of a disk encode, and the answer of an opening of these bytes.
 use Rattle.std.specs.Prelude.{◌≡◌, ◌≢◌, ◌⊎◌, ℕ, ◌+◌, ◌-◌, ◌≤◌, List, [], ◌∷◌, length, take, drop, slice_index, Some, Result, Ok, Err}
 use Rattle.disk_model.specs.Places.{part}
 use Rattle.journal_layout.specs.declared.shape.Shape.{Shape}
@@ -31,7 +31,7 @@ pub record AreRead (limit : ℕ) (bytes : List ℕ) (f said : Folded) (used : �
   pub folded : replayed records f ≡ said
   pub size : sizes records ≡ used
 
--- These bytes are records in a row, and then a faulty one after an open gate. The first byte is at this place of the disk.
+-- These bytes are records in a row, and then a bad one after an open gate. The first byte is at this place of the disk.
 pub record AreFaulty (limit at : ℕ) (bytes : List ℕ) (f : Folded) (fault : OpenFault) : Type 0 where
   pub records : List Record
   pub row : StandInRow limit bytes f records

@@ -23,13 +23,13 @@ use Rattle.journal_layout.specs.Stands.{StandsFirst}
 use Rattle.journal_layout.specs.ByteLaws.{number_read, field_spelled, field_small}
 use Rattle.journal_layout.specs.CheckLaws.{HasHead, passes, passed, or_none, none_or, map_none, none_map}
 use Rattle.journal_layout.specs.KindLaws.{body_of, record_of, kind_high}
-use Rattle.journal_layout.specs.SpellLaws.{tells_kind, tells_length, tells_head, tells_zeros, rounded_up, length-runs}
+use Rattle.journal_layout.specs.SpellLaws.{prints_kind, prints_length, prints_head, prints_zeros, rounded_up, length-runs}
 use Rattle.journal_layout.specs.FoundLaws.{record_passes, put_together, zeros_found, byte_part, flag_short, flag_back, flag_found, some_number, joined}
 use Rattle.journal_layout.specs.ChainLaws.{chain_of, blocks_back, shortest_back, blocks_counted}
 use Rattle.journal_layout.specs.SpareLaws.{runs_pass, runs_passed}
 use Rattle.journal_layout.specs.RunBytesLaws.{IsSmallRun, spare_runs_small, runs_read, runs_spelled, length-runs_at}
 
--- what the checks up to the runs tell
+-- the conditions that hold if the checks up to the runs pass
 record HasFacts (rest : List ℕ) (f : Folded) : Type 0 where
   pub next : f.next ≤ field rest 8 4
   pub kind : (slice_index rest 12 ≡ 1) ⊎ (slice_index rest 12 ≡ 2)
@@ -91,7 +91,7 @@ nul_passed (b ∷ rest) e =
     let h = or_parts (nat_eq 0 b) (list_any (nat_eq 0) rest) e in
     ((λ s. eqb-false 0 b h.0 (sym s)), nul_passed rest h.1)
 
--- what the checks after the runs tell
+-- the conditions that hold if the checks after the runs pass
 record HasName (rest : List ℕ) (f : Folded) : Type 0 where
   pub enough : block_count (store_runs rest) ≡ blocks_for (field rest 32 8)
   pub no_nul : is_among (name_at rest) 0 ≡ false
@@ -125,50 +125,50 @@ kind_known Exec = inr refl
 kind_found : (n : ℕ) → (n ≡ 1) ⊎ (n ≡ 2) → kind_byte (kind_of_byte n) ≡ n
 kind_found n h = ⊎_elim (λ e. ap (λ (m : ℕ). kind_byte (kind_of_byte m)) e ∙ sym e) (λ e. ap (λ (m : ℕ). kind_byte (kind_of_byte m)) e ∙ sym e) h
 
--- What the spelling of a Store with anything after it tells.
+-- The fields of the spelling of a Store, whatever bytes follow it.
 module _ (c : Case) (tail : List ℕ) where
   abbrev zeros : List ℕ
   zeros = replicate (record_size (Store c) - plain_size (Store c)) 0
 
-  tells_seq : c.seq < 2 ^ 32 → field (spelling (Store c) ++ tail) 8 4 ≡ c.seq
+  prints_seq : c.seq < 2 ^ 32 → field (spelling (Store c) ++ tail) 8 4 ≡ c.seq
   unfolding behind_gate plain body store_facts number_bytes
-  tells_seq small = number_read 4 c.seq [] small
+  prints_seq small = number_read 4 c.seq [] small
 
-  tells_case_kind : slice_index (spelling (Store c) ++ tail) 12 ≡ kind_byte c.origin.kind
+  prints_case_kind : slice_index (spelling (Store c) ++ tail) 12 ≡ kind_byte c.origin.kind
   unfolding behind_gate plain body store_facts number_bytes
-  tells_case_kind = refl
+  prints_case_kind = refl
 
-  tells_pinned : slice_index (spelling (Store c) ++ tail) 13 ≡ flag_byte c.pinned
+  prints_pinned : slice_index (spelling (Store c) ++ tail) 13 ≡ flag_byte c.pinned
   unfolding behind_gate plain body store_facts number_bytes
-  tells_pinned = refl
+  prints_pinned = refl
 
-  tells_name_length : length c.origin.name < 65536 → name_length_at (spelling (Store c) ++ tail) ≡ length c.origin.name
+  prints_name_length : length c.origin.name < 65536 → name_length_at (spelling (Store c) ++ tail) ≡ length c.origin.name
   unfolding behind_gate plain body store_facts number_bytes
-  tells_name_length small = number_read 2 (length c.origin.name) [] small
+  prints_name_length small = number_read 2 (length c.origin.name) [] small
 
-  tells_pid : c.origin.pid < 2 ^ 32 → field (spelling (Store c) ++ tail) 16 4 ≡ c.origin.pid
+  prints_pid : c.origin.pid < 2 ^ 32 → field (spelling (Store c) ++ tail) 16 4 ≡ c.origin.pid
   unfolding behind_gate plain body store_facts number_bytes
-  tells_pid small = number_read 4 c.origin.pid [] small
+  prints_pid small = number_read 4 c.origin.pid [] small
 
-  tells_signal : c.origin.signal < 2 ^ 32 → field (spelling (Store c) ++ tail) 20 4 ≡ c.origin.signal
+  prints_signal : c.origin.signal < 2 ^ 32 → field (spelling (Store c) ++ tail) 20 4 ≡ c.origin.signal
   unfolding behind_gate plain body store_facts number_bytes
-  tells_signal small = number_read 4 c.origin.signal [] small
+  prints_signal small = number_read 4 c.origin.signal [] small
 
-  tells_time : c.origin.time < 2 ^ 64 → field (spelling (Store c) ++ tail) 24 8 ≡ c.origin.time
+  prints_time : c.origin.time < 2 ^ 64 → field (spelling (Store c) ++ tail) 24 8 ≡ c.origin.time
   unfolding behind_gate plain body store_facts number_bytes
-  tells_time small = number_read 8 c.origin.time [] small
+  prints_time small = number_read 8 c.origin.time [] small
 
-  tells_len : c.len < 2 ^ 64 → field (spelling (Store c) ++ tail) 32 8 ≡ c.len
+  prints_len : c.len < 2 ^ 64 → field (spelling (Store c) ++ tail) 32 8 ≡ c.len
   unfolding behind_gate plain body store_facts number_bytes
-  tells_len small = number_read 8 c.len [] small
+  prints_len small = number_read 8 c.len [] small
 
-  tells_run_count : length (runs_of c.blocks) < 2 ^ 32 → run_count_at (spelling (Store c) ++ tail) ≡ length (runs_of c.blocks)
+  prints_run_count : length (runs_of c.blocks) < 2 ^ 32 → run_count_at (spelling (Store c) ++ tail) ≡ length (runs_of c.blocks)
   unfolding behind_gate plain body store_facts number_bytes
-  tells_run_count small = number_read 4 (length (runs_of c.blocks)) [] small
+  prints_run_count small = number_read 4 (length (runs_of c.blocks)) [] small
 
-  tells_zero : field (spelling (Store c) ++ tail) 44 4 ≡ 0
+  prints_zero : field (spelling (Store c) ++ tail) 44 4 ≡ 0
   unfolding behind_gate plain body store_facts number_bytes
-  tells_zero = refl
+  prints_zero = refl
 
   runs_stand : drop 48 (spelling (Store c) ++ tail) ≡ ((flat_map run_bytes (runs_of c.blocks) ++ c.origin.name) ++ zeros) ++ tail
   unfolding behind_gate plain body store_facts number_bytes
@@ -180,19 +180,19 @@ module _ (c : Case) (tail : List ℕ) where
       ∙ append_assoc (flat_map run_bytes (runs_of c.blocks) ++ c.origin.name) zeros tail
       ∙ append_assoc (flat_map run_bytes (runs_of c.blocks)) c.origin.name (zeros ++ tail)
 
-  tells_runs : length (runs_of c.blocks) < 2 ^ 32 → AllByRecursion IsSmallRun (runs_of c.blocks) → store_runs (spelling (Store c) ++ tail) ≡ runs_of c.blocks
-  tells_runs few small =
-      ap (runs_at (drop 48 (spelling (Store c) ++ tail))) (tells_run_count few)
+  prints_runs : length (runs_of c.blocks) < 2 ^ 32 → AllByRecursion IsSmallRun (runs_of c.blocks) → store_runs (spelling (Store c) ++ tail) ≡ runs_of c.blocks
+  prints_runs few small =
+      ap (runs_at (drop 48 (spelling (Store c) ++ tail))) (prints_run_count few)
       ∙ ap (λ (l : List ℕ). runs_at l (length (runs_of c.blocks))) runs_front
       ∙ runs_read (runs_of c.blocks) (c.origin.name ++ (zeros ++ tail)) small
 
-  tells_name : length (runs_of c.blocks) < 2 ^ 32 → length c.origin.name < 65536 → name_at (spelling (Store c) ++ tail) ≡ c.origin.name
+  prints_name : length (runs_of c.blocks) < 2 ^ 32 → length c.origin.name < 65536 → name_at (spelling (Store c) ++ tail) ≡ c.origin.name
   unfolding part
-  tells_name few short =
+  prints_name few short =
       let b = spelling (Store c) ++ tail in
       let n = length (runs_of c.blocks) in
-      ap (λ (m : ℕ). take (name_length_at b) (drop (48 + 8 * m) b)) (tells_run_count few)
-      ∙ ap (λ (m : ℕ). take m (drop (48 + 8 * n) b)) (tells_name_length short)
+      ap (λ (m : ℕ). take (name_length_at b) (drop (48 + 8 * m) b)) (prints_run_count few)
+      ∙ ap (λ (m : ℕ). take m (drop (48 + 8 * n) b)) (prints_name_length short)
       ∙ ap (take (length c.origin.name))
       (sym (drop-drop (8 * n) 48 b)
       ∙ ap (drop (8 * n)) runs_front
@@ -209,7 +209,7 @@ same_case : (seq len seq2 len2 : ℕ) (origin origin2 : Origin) (blocks blocks2 
     (record { seq = seq2; origin = origin2; pinned = pinned2; len = len2; blocks = blocks2; label = label2 })
 same_case seq len seq2 len2 origin origin2 blocks blocks2 label label2 pinned pinned2 a b c d e f = cc
 
--- what is written is read again
+-- a Store record that is written is read back
 pub store_again : (limit at : ℕ) (c : Case) (tail : List ℕ) (f : Folded) → limit ≤ 16777216 → record_size (Store c) < 2 ^ 32 → record_size (Store c) + 1 ≤ length (spelling (Store c) ++ tail) → IsSound limit f (Store c)
     → (record_fault limit at (spelling (Store c) ++ tail) f ≡ None) × (record_at (spelling (Store c) ++ tail) ≡ Store c)
 store_again limit at c tail f low small in_half sound =
@@ -222,15 +222,15 @@ store_again limit at c tail f low small in_half sound =
     let some : 1 ≤ length c.origin.name = fine.origin.name.some in
     let spare : AreSpare limit (used_blocks f.cases) (blocks_of rs) = rw (blocks_back c.blocks) fine.spare in
     let chain = chain_of c.blocks in
-    let count = tells_run_count c tail few in
-    let name_length = tells_name_length c tail (omega arith) in
-    let runs = tells_runs c tail few (spare_runs_small limit (used_blocks f.cases) None rs low chain spare) in
-    let name = tells_name c tail few (omega arith) in
-    let len = tells_len c tail fine.bytes in
-    let pinned = tells_pinned c tail in
-    let kind = tells_case_kind c tail in
-    let seq = tells_seq c tail sound.1 in
-    let origin = same_origin _ _ _ _ _ _ _ _ _ _ (ap kind_of_byte kind ∙ kind_back c.origin.kind) name (tells_pid c tail fine.origin.pid) (tells_signal c tail fine.origin.signal) (tells_time c tail fine.origin.time) in
+    let count = prints_run_count c tail few in
+    let name_length = prints_name_length c tail (omega arith) in
+    let runs = prints_runs c tail few (spare_runs_small limit (used_blocks f.cases) None rs low chain spare) in
+    let name = prints_name c tail few (omega arith) in
+    let len = prints_len c tail fine.bytes in
+    let pinned = prints_pinned c tail in
+    let kind = prints_case_kind c tail in
+    let seq = prints_seq c tail sound.1 in
+    let origin = same_origin _ _ _ _ _ _ _ _ _ _ (ap kind_of_byte kind ∙ kind_back c.origin.kind) name (prints_pid c tail fine.origin.pid) (prints_signal c tail fine.origin.signal) (prints_time c tail fine.origin.time) in
     let size : 48 + 8 * run_count_at b + name_length_at b ≡ plain_size (Store c) = ap (λ (n : ℕ). 48 + 8 * n + name_length_at b) count ∙ ap (λ (n : ℕ). 48 + 8 * length rs + n) name_length in
     let facts : HasFacts b f = record {
       next = rw seq sound.0;
@@ -238,8 +238,8 @@ store_again limit at c tail f low small in_half sound =
       pinned = rw pinned (flag_short c.pinned);
       some_name = rw name_length some;
       short_name = rw name_length short;
-      long = tells_length (Store c) tail small ∙ ap rounded (sym size);
-      reserved = tells_zero c tail;
+      long = prints_length (Store c) tail small ∙ ap rounded (sym size);
+      reserved = prints_zero c tail;
     } in
     let behind : HasName b f = record {
       enough = ap block_count runs ∙ sym (blocks_counted rs) ∙ ap length (blocks_back c.blocks) ∙ fine.enough ∙ ap blocks_for (sym len);
@@ -247,18 +247,18 @@ store_again limit at c tail f low small in_half sound =
       new_name = ap (is_name_of f.cases) name ∙ fine.new_name;
     } in
     let good : first_bad_run limit (used_blocks f.cases) None 48 (store_runs b) ≡ None = ap (first_bad_run limit (used_blocks f.cases) None 48) runs ∙ runs_pass limit (used_blocks f.cases) None 48 rs chain spare in
-    let padded : padding_fault at b (name_place b + name_length_at b) ≡ None = ap (padding_fault at b) size ∙ tells_zeros (Store c) tail at small in (
-      record_passes limit at b f (tells_head (Store c) tail f.version (kind_high limit f (Store c) sound) small in_half)
-          (body_of limit at b f (Store c) (tells_kind (Store c) tail)
+    let padded : padding_fault at b (name_place b + name_length_at b) ≡ None = ap (padding_fault at b) size ∙ prints_zeros (Store c) tail at small in (
+      record_passes limit at b f (prints_head (Store c) tail f.version (kind_high limit f (Store c) sound) small in_half)
+          (body_of limit at b f (Store c) (prints_kind (Store c) tail)
           ∙ none_or (first_failing at (store_checks b f)) _ (facts_pass at b f facts)
           (none_or (runs_fault limit at b f) _ (none_map (damaged at named.Run) (first_bad_run limit (used_blocks f.cases) None 48 (store_runs b)) good)
           (none_or (first_failing at (name_checks b f)) (padding_fault at b (name_place b + name_length_at b)) (name_passes at b f behind) padded))),
-      record_of b (Store c) (tells_kind (Store c) tail)
+      record_of b (Store c) (prints_kind (Store c) tail)
           ∙ ap (λ (x : Case). Store x)
           (same_case _ _ _ _ _ _ _ _ _ _ _ _ seq origin (ap (λ (n : ℕ). n == 1) pinned ∙ flag_back c.pinned) len (ap blocks_of runs ∙ blocks_back c.blocks) (sym fine.no_label)),
     )
 
--- What bytes tell that pass the checks of a Store.
+-- The fields of bytes that pass the checks of a Store.
 module _ (rest : List ℕ) (f : Folded) (are : AreBytes rest) (head : HasHead f.version rest) (facts : HasFacts rest f) where
   -- the places of the record up to its padding lie in the bytes
   within : 48 + 8 * run_count_at rest + name_length_at rest ≤ length rest
@@ -331,7 +331,7 @@ module _ (rest : List ℕ) (f : Folded) (are : AreBytes rest) (head : HasHead f.
       ∙ joined (part rest 8 40) (part rest 48 n) (part rest (8 + (40 + n)) m) (store_facts (case_at rest)) (flat_map run_bytes (runs_of (blocks_of (store_runs rest)))) (name_at rest)
       (facts_spelled same) (runs_found ∙ ap (flat_map run_bytes) (sym same)) (ap (λ (k : ℕ). part rest k m) e)
 
--- what is read is in the grammar
+-- a Store record that is read is in the grammar
 pub store_found : (limit at : ℕ) (rest : List ℕ) (f : Folded) → AreBytes rest → slice_index rest 0 ≡ 165 → HasHead f.version rest → kind_at rest ≡ 1
     → body_fault limit at rest f ≡ None → StandsFirst limit rest f (Store (case_at rest)) × (record_size (Store (case_at rest)) ≡ length_at rest)
 store_found limit at rest f are open_gate head kind e =

@@ -1,4 +1,5 @@
--- Laws of which half is taken: what the front tells of that half's header, and when it or the other one is taken.
+-- Laws of the half that is taken: the fields of its header that the front
+-- gives, and the conditions under which it or the other one is taken.
 use Rattle.std.proofs.Common.{◌≡◌, ◌≢◌, ℕ, ◌+◌, ◌^◌, ◌<◌, Bool, true, false, cond, not, ◌&&◌, ◌||◌, ◌==◌, nat_lt, List, [], ◌∷◌, length, slice_index, refl, sym, ap, ◌∙◌, subst, arith, Result, Ok, Err}
 use Rattle.std.proofs.lemmas.Bool.{lt-ltb, le-ltb, ne_eqb}
 use Rattle.disk_model.specs.Places.{part}
@@ -25,7 +26,7 @@ chosen s a b zero_a zero_b same greater =
     (cond (a && b && same) (Err (generation_fault s B))
     (cond (a && (not b || greater)) (Ok A) (Ok B)))))
 
--- what the choice tells of the half that is taken
+-- the half that is chosen is open, and its generation is not 0
 told_A : (s : Shape) (a b zero_a zero_b same greater : Bool) → chosen s a b zero_a zero_b same greater ≡ Ok A → (a ≡ true) × (zero_a ≡ false)
 told_A s true b true zero_b same greater e = cc
 told_A s true b false zero_b same greater e = (refl, refl)
@@ -49,7 +50,7 @@ alone_A s a b zero_a zero_b same greater e f g = rw (e, f, g) refl
 alone_B : (s : Shape) (a b zero_a zero_b same greater : Bool) → b ≡ true → zero_b ≡ false → a ≡ false → chosen s a b zero_a zero_b same greater ≡ Ok B
 alone_B s a b zero_a zero_b same greater e f g = rw (e, f, g) refl
 
--- and so is one that is later than the other
+-- if both are open, the later one is taken
 later_A : (s : Shape) (a b zero_a zero_b same greater : Bool) → a ≡ true → b ≡ true → zero_a ≡ false → zero_b ≡ false → same ≡ false → greater ≡ true → chosen s a b zero_a zero_b same greater ≡ Ok A
 later_A s a b zero_a zero_b same greater e f g h i j = rw (e, f, g, h, i, j) refl
 
@@ -62,7 +63,7 @@ header_for A a b = a
 header_for B a b = b
 
 module _ (s : Shape) (a b : Header) where
-  -- what the choice tells of that half's header
+  -- the conditions that hold of the header of the half that is chosen
   record IsTaken (half : Half) (t : Front) : Type 0 where
     opened : (header_for half a b).is_open ≡ true
     some : ((header_for half a b).generation == 0) ≡ false
@@ -82,7 +83,7 @@ module _ (s : Shape) (a b : Header) where
   taken_alone A opened some closed = alone_A s a.is_open b.is_open (a.generation == 0) (b.generation == 0) (a.generation == b.generation) (nat_lt b.generation a.generation) opened some closed
   taken_alone B opened some closed = alone_B s a.is_open b.is_open (a.generation == 0) (b.generation == 0) (a.generation == b.generation) (nat_lt b.generation a.generation) opened some closed
 
-  -- and so is one of the next generation
+  -- if the other half is open with the next generation, it is taken
   taken_later : (half : Half) → (header_for half a b).is_open ≡ true → ((header_for half a b).generation == 0) ≡ false
       → (header_for (other_half half) a b).is_open ≡ true → (header_for (other_half half) a b).generation ≡ (header_for half a b).generation + 1
       → taken_half s a b ≡ Ok (other_half half)
@@ -131,7 +132,7 @@ front_put c s u long shape headers =
     ∙ ap (halves_opening c) shape
     ∙ headers
 
--- what the front tells of the half that is taken
+-- the conditions that the front gives for the half that is taken
 pub record HasTaken (b : List ℕ) (t : Front) : Type 0 where
   pub opened : (header_of_half t.shape b t.half).is_open ≡ true
   pub some : ((header_of_half t.shape b t.half).generation == 0) ≡ false
@@ -229,7 +230,7 @@ module _ (b c : List ℕ) (t : Front) (e : front_opening b ≡ Ok t) (same : Has
       (ap (half_opening t.shape (other_half t.half)) there
       ∙ ap (λ (known : Bool). cond known (Ok front) (Err (UnknownVersion version))) known)
 
--- a header that is spelled tells its version and its generation
+-- a spelled header is read back with its version and its generation
 pub header_told : (version generation : ℕ) → version < 2 ^ 32 → generation < 2 ^ 64
     → header_at (165 ∷ half_header version generation) ≡ record { is_open = true; version = version; generation = generation }
 unfolding half_header number_bytes

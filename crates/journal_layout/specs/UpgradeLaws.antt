@@ -1,4 +1,4 @@
--- Laws of an upgrade: what is encoded, written anew in version 2, is the same.
+-- Laws of an upgrade: an archive that is written anew in version 2 has the same content.
 use Rattle.std.proofs.Common.{◌≡◌, ℕ, ◌+◌, ◌^◌, ◌<◌, ◌≤◌, List, slice_index, refl}
 use Rattle.std.specs.List.{All}
 use Rattle.disk_model.specs.Places.{SameOutside}
@@ -11,7 +11,7 @@ use Rattle.journal_layout.specs.LabelledLaws.{labelled_two, no_labels_in_one}
 use Rattle.journal_layout.specs.Rewriting.{other_start, snapshot_size, in_version_two, upgraded, HoldsSnapshot, MayRewrite}
 use Rattle.journal_layout.specs.OtherHalfLaws.{an_opened_half_stands}
 
--- what is encoded may be written anew in version 2, where it has room
+-- an archive may be written anew in version 2, if its snapshot has room
 pub may_upgrade : (b : List ℕ) (s : Standing) → Stands b s
     → snapshot_size (in_version_two (folded_of s)) + 1 ≤ half_length s.shape → s.generation + 1 < 2 ^ 64 → MayRewrite s (in_version_two (folded_of s))
 may_upgrade b s stands in_half generation = record {

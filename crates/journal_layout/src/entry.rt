@@ -1,14 +1,14 @@
-// What the journal keeps of an image.
+// The facts of an image that the journal keeps.
 use arrayvec::ArrayVec;
 use extents::RunList;
 
 /// A name of 1 to 128 bytes, none of them NUL.
 pub type Name = ArrayVec<u8, 128>;
 
-/// What was noted about a case: 0 to 64 bytes of any value.
+/// The label of a case: 0 to 64 bytes of any value.
 pub type Label = ArrayVec<u8, 64>;
 
-/// What an image is.
+/// The kind of an image.
 #[derive(Clone, Copy, Debug, PartialEq, Eq)]
 pub enum Kind {
     /// A core file.

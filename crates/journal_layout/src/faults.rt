@@ -5,7 +5,7 @@ ghost use Rattle.journal_layout.specs.FieldNames.{field_name};
 use std::fmt;
 use thiserror::Error;
 
-/// The field of the layout that is at fault, by the name that it is told by.
+/// A field of the layout that can be bad; reports print its name.
 #[derive(Clone, Copy, Debug, PartialEq, Eq)]
 pub enum Field {
     Shape,

@@ -1,14 +1,14 @@
-// What the definitions that the contracts cite say together. These functions do nothing.
+// Consequences of the definitions that the contracts cite. These functions do nothing.
 ghost use Rattle.journal_layout.specs.Grammar.{RecordsAreReadAgain, WhatIsReadStands, RecordsAreApart, OpeningsHaveOneAnswer, WhatStandsOpens, WhatStandsIsLive, WhatStandsIsLabelled, VersionOneHasNoLabels, SnapshotsSayAll, TheOtherHalfIsApart, AnOpenedHalfStands, AnUpgradeSaysTheSame, LabelsTakeTheirRecords, DropsFit};
 
-/// What is written is read again: where the spelling of a sound record is followed by room for a gate, no check of an
-/// opening fails, at any place of any archive, and the fields that an opening reads are those of the record.
+/// A record that is written is read back: if the spelling of a sound record is followed by room for a gate, no check of
+/// an opening fails, at any place of any archive, and the fields that an opening reads are those of the record.
 pub fn records_are_read_again()
     ensures { RecordsAreReadAgain }
 {}
 
-/// What is read was written so: where no check of an opening fails, the bytes are the spelling of the record that the
-/// fields tell, the record is sound, and it is as long as its length field says.
+/// Bytes that are read were written as that record: if no check of an opening fails, the bytes are the spelling of the
+/// record that the fields give, the record is sound, and it has the length in its length field.
 pub fn what_is_read_is_a_record()
     ensures { WhatIsReadStands }
 {}
@@ -36,22 +36,22 @@ pub fn labels_are_of_version_two()
     ensures none { VersionOneHasNoLabels }
 {}
 
-/// A snapshot says all: its records are one Store record for each live case in the order of their numbers, followed by its
-/// Label record where it has a label, and then one Next record. They are sound one after the other from the first of a half
-/// on, and say exactly these cases and this next number.
+/// A snapshot is complete: its records are one Store record for each live case in the order of their numbers, followed by
+/// its Label record if it has a label, and then one Next record. They are sound one after the other from the first of a
+/// half on, and give exactly these cases and this next number.
 pub fn a_snapshot_says_all()
     ensures { SnapshotsSayAll }
 {}
 
-/// The half that is not taken is apart: while its gate is not open, a disk encodes what it encoded, whatever is written
-/// there. Once that gate is opened over a header of the next generation and a snapshot, with a gate after it that is not
-/// open, the disk encodes what the snapshot says, with that half taken.
+/// The half that is not taken is independent: while its gate is not open, the disk encodes the same archive, whatever is
+/// written there. Once that gate is opened over a header of the next generation and a snapshot, with a gate after it that
+/// is not open, the disk encodes the content of the snapshot, with that half taken.
 pub fn the_other_half_is_apart()
     ensures closed { TheOtherHalfIsApart }
     ensures opened { AnOpenedHalfStands }
 {}
 
-/// An upgrade says the same: what is encoded in version 1 is written anew in version 2 into the half that is not taken.
+/// An upgrade keeps the content: an archive in version 1 is written anew in version 2 into the half that is not taken.
 /// Once that half's gate is opened, the bytes encode the same cases and the same next number, and no case has a label.
 pub fn an_upgrade_says_the_same()
     ensures { AnUpgradeSaysTheSame }
@@ -63,7 +63,8 @@ pub fn labels_take_their_records()
     ensures { LabelsTakeTheirRecords }
 {}
 
-/// The snapshot of what is left by a Drop record that may follow fits into a half: a drop is never short of bytes.
+/// The snapshot of the cases that stay after a Drop record that
+/// may follow fits into a half: a drop is never short of bytes.
 pub fn what_a_drop_leaves_fits()
     ensures { DropsFit }
 {}

@@ -1,5 +1,5 @@
-//! The layout of an archive's journal: its records, how each is spelled, what its records say together, and the checks
-//! of an opening.
+//! The layout of an archive's journal: its records, the spelling
+//! of each, their meaning together, and the checks of an opening.
 #![tactic(auto)]
 
 mod entry;

@@ -43,7 +43,7 @@ impl Shape {
         Ok(BLOCK * (1 + 2 * half + data))
     }
 
-    /// Where a half begins on the disk, in bytes.
+    /// The start of a half on the disk, in bytes.
     pub fn half_start(&self, half: Half) -> u64
         ensures { result ≡ half_start self.now half }
     {
@@ -60,7 +60,7 @@ impl Shape {
         BLOCK * u64::from(self.half_blocks)
     }
 
-    /// Where the data blocks begin on the disk, in bytes.
+    /// The start of the data blocks on the disk, in bytes.
     pub fn data_start(&self) -> u64
         ensures { result ≡ data_start self.now }
     {

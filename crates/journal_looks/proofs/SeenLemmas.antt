@@ -130,8 +130,8 @@ module _ (moments : List (List ℕ)) (shape : Shape) (half : Half) (front : List
       ∙ field_by_places front seen at at 8 (λ k below. sym (seen_front (at + k) (omega (arith, below, within))))
 
   -- so the front tells the half that was chosen
-  tells_chosen : (f : Front) → f.shape ≡ shape → front_opening seen ≡ Ok f → f.half ≡ half
-  tells_chosen f same_shape opens =
+  prints_chosen : (f : Front) → f.shape ≡ shape → front_opening seen ≡ Ok f → f.half ≡ half
+  prints_chosen f same_shape opens =
       of f.half half chosen
       (subst (λ (x : Shape). slice_index seen (half_start x f.half) ≡ 165) same_shape (gate_open seen f opens))
       (subst (λ (x : Shape). field seen (half_start x f.half + 8) 8 ≡ f.generation) same_shape (generation_there seen f opens))
@@ -200,7 +200,7 @@ module _ (moments : List (List ℕ)) (shape : Shape) (half : Half) (front : List
     from = early;
     until = late;
     look = λ f same_shape opens.
-        let same_half = tells_chosen f same_shape opens in
+        let same_half = prints_chosen f same_shape opens in
         (the_look f same_shape same_half opens, refl, omega arith, omega arith, same_half);
   }
 

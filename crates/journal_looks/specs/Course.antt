@@ -1,4 +1,4 @@
--- What the halves of a journal are from moment to moment, in numbers: which one is taken, its generation, and the bytes of both.
+-- The halves of a journal from moment to moment, in numbers: which one is taken, its generation, and the bytes of both.
 use Rattle.std.specs.Prelude.{◌≡◌, ◌≢◌, ◌⊎◌, ℕ, ◌+◌, ◌<◌, ◌≤◌}
 use Rattle.journal_layout.specs.declared.shape.Half.{Half}
 use Rattle.journal_layout.specs.Rewriting.{other_half}
@@ -14,7 +14,7 @@ HasMoved half generation next later = (next ≡ other_half half) × (later ≡ g
 -- The moments are numbered, and there are n of them. Each half has `size` bytes from its start on.
 pub record IsCourse (n size : ℕ) (start : Half → ℕ) (byte : ℕ → ℕ → ℕ) (half : ℕ → Half) (generation used : ℕ → ℕ) : Type 0 where
   pub moves : (k : ℕ) → k + 1 < n → IsStill (half k) (generation k) (half (k + 1)) (generation (k + 1)) ⊎ HasMoved (half k) (generation k) (half (k + 1)) (generation (k + 1))
-  -- what the taken half has in use stays
+  -- the bytes that the taken half has in use stay
   pub kept : (k p : ℕ) → k + 1 < n → start (half k) ≤ p → p < start (half k) + used k → byte (k + 1) p ≡ byte k p
   pub grows : (k : ℕ) → k + 1 < n → generation (k + 1) ≡ generation k → used k ≤ used (k + 1)
   -- The other half stays as it is while its gate is open.

@@ -1,4 +1,4 @@
--- Laws of a course: what is read of a half whose generation and gate are the same before and after is of one moment.
+-- Laws of a course: the bytes that are read of a half whose generation and gate are the same before and after are of one moment.
 use Rattle.std.proofs.Common.{◌≡◌, ◌≢◌, ◌⊎◌, inl, inr, ⊎_elim, ℕ, zero, suc, ◌+◌, ◌-◌, ◌%◌, ◌<◌, ◌≤◌, refl, sym, ap, ◌∙◌, subst, arith}
 use Rattle.std.proofs.lemmas.Bool.{cases_eq}
 use Rattle.journal_layout.specs.declared.shape.Half.{Half}
@@ -12,7 +12,7 @@ along_by P i (suc d) first step =
     let e : i + d + 1 ≡ i + suc d = omega arith in
     subst P e (step (i + d) (omega arith) (omega arith) (along_by P i d first (λ k low high. step k low (omega (arith, high)))))
 
--- what holds at a moment, and at the next one if at one, holds later
+-- a property that holds at a moment, and at the next one if at one, holds later
 pub along : (P : ℕ → Type 0) (i j : ℕ) → i ≤ j → P i → ((k : ℕ) → i ≤ k → k < j → P k → P (k + 1)) → P j
 along P i j le first step =
     let e : i + (j - i) ≡ j = omega (arith, le) in
@@ -173,7 +173,7 @@ module _ (n size : ℕ) (start : Half → ℕ) (byte : ℕ → ℕ → ℕ) (hal
           absurd (omega (arith, older, constant, now_taken, d)))
           (moves_once m e low before high)
 
-      -- What it has in use at e stays until its gate is read as open.
+      -- The bytes that it has in use at e stay until its gate is read as open.
       pub kept_open : (e k j p : ℕ) → a ≤ e → e ≤ k → k ≤ j → j ≤ z → byte j (start (half e)) ≡ 165 → start (half e) ≤ p → p < start (half e) + used e → byte k p ≡ byte e p
       kept_open e k j p low from before high gate above below =
           let header = c.header e (omega (arith, from, before, high, within)) in

@@ -1,4 +1,5 @@
--- What a front that opens tells of both halves: the shape is that of the superblock, the taken half is open, and the other one is older if it is open too.
+-- Facts about both halves if the front opens: the shape is that of the superblock,
+-- the taken half is open, and the other one is older if it is open too.
 use Rattle.std.proofs.Common.{◌≡◌, ℕ, ◌+◌, ◌<◌, Bool, true, false, cond, not, ◌&&◌, ◌||◌, ◌==◌, nat_lt, List, length, drop, slice_index, refl, sym, ap, ◌∙◌, subst, arith, Result, Ok, Err}
 use Rattle.std.proofs.lemmas.Bool.{eqb-true, eqb-false, ltb-true, ltb-false, eq-eqb}
 use Rattle.byteorder.specs.Numbers.{little_from-take}
@@ -47,7 +48,7 @@ chosen s a b zero_a zero_b same greater =
     (cond (a && b && same) (Err (generation_fault s B))
     (cond (a && (not b || greater)) (Ok A) (Ok B)))))
 
--- where both are open, the later one is taken
+-- if both are open, the later one is taken
 later_A : (s : Shape) (a b zero_a zero_b same greater : Bool) → a ≡ true → b ≡ true → chosen s a b zero_a zero_b same greater ≡ Ok A → greater ≡ true
 later_A s true true false false false true f g e = refl
 later_A s true true false false false false f g e = cc
@@ -66,7 +67,7 @@ later_B s true true false false true greater f g e = cc
 later_B s false b zero_a zero_b same greater f g e = cc
 later_B s true false zero_a zero_b same greater f g e = cc
 
--- the half that the headers tell
+-- the half that the headers give
 half_is : (s : Shape) (half : Half) (h : Header) (t : Front) → half_opening s half h ≡ Ok t → half ≡ t.half
 half_is s half h t e =
     let of = (ok_in (is_known h.version) (UnknownVersion h.version) (Ok (record { shape = s; half = half; version = h.version; generation = h.generation })) t e).1 in

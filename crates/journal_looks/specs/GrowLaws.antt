@@ -28,7 +28,7 @@ same_front : (shape shape2 : Shape) (half half2 : Half) (version version2 genera
     → ◌≡◌ {A = Front} (record { shape = shape; half = half; version = version; generation = generation }) (record { shape = shape2; half = half2; version = version2; generation = generation2 })
 same_front shape shape2 half half2 version version2 generation generation2 a b c d = cc
 
--- a row in the taken half that a front tells
+-- a row in the taken half that a front gives
 abbrev pub RowAt : List ℕ → List Record → Front → Type 0
 RowAt b records f = StandInRow f.shape.data_blocks (records_area b f.shape f.half) (nothing_yet f.version) records
 
@@ -82,7 +82,7 @@ module _ (moments : List (List ℕ)) (standing : ℕ → Standing) (are : AreMom
     abbrev stands_t : Stands c t
     stands_t = stands_at moments standing are j within
 
-    -- what was in use stays
+    -- the bytes that were in use stay
     in_use : (p : ℕ) → half_start s.shape s.half ≤ p → p < half_start s.shape s.half + s.used → (t.half ≡ s.half) × (s.used ≤ t.used) × (slice_index c p ≡ slice_index b p)
     in_use p from below =
         let place : half_start s.shape s.half ≡ half_start (standing 0).shape s.half = ap (λ (x : Shape). half_start x s.half) (shape_at moments standing are i earlier) in

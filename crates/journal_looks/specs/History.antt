@@ -1,5 +1,5 @@
--- What a disk holds while others change the archive on it, one write after the other: its moments, in order. Between two moments that follow each
--- other there is a part of one write of a call, so each place of a write has its old byte or its new one, and each part of the write is a moment.
+-- The content of a disk while others change the archive on it, one write after the other: its moments, in order. From one moment to the next, a
+-- part of one write of a call is done: each place of the write has its old byte or its new one, and each part of the write is a moment.
 use Rattle.std.specs.Prelude.{◌≡◌, ◌≢◌, ◌⊎◌, ℕ, ◌+◌, ◌%◌, ◌<◌, ◌≤◌, List, [], ◌∷◌, ◌++◌, length, get_or, slice_index}
 use Rattle.disk_model.specs.Places.{part, SameOutside}
 use Rattle.journal_layout.specs.declared.shape.Shape.{Shape}
@@ -18,8 +18,9 @@ use Rattle.case_journal.specs.Doubting.{DiffersUnread}
 abbrev pub moment : List (List ℕ) → ℕ → List ℕ
 moment moments k = get_or moments k []
 
--- Bytes were written that no opening reads: what follows the gate behind the records of the taken half, what follows the gate of the other half while
--- it is closed, or data blocks. What `publish` writes behind a gate is so, and what `rewrite` writes into the other half before it opens its gate.
+-- Bytes were written that no opening reads: those after the gate behind the records of the taken half, those after the gate of the other half while
+-- it is closed, or data blocks. The bytes that `publish` writes behind a gate are such bytes, and so are those that `rewrite` writes into the other
+-- half before it opens its gate.
 pub record WritesUnread (b : List ℕ) (s : Standing) (c : List ℕ) (t : Standing) : Type 0 where
   pub same : t ≡ s
   pub long : length c ≡ length b
@@ -61,8 +62,8 @@ pub record AreMoments (moments : List (List ℕ)) (standing : ℕ → Standing) 
   pub first : Stands (moment moments 0) (standing 0)
   pub steps : (k : ℕ) → k + 1 < length moments → MayLead (moment moments k) (standing k) (moment moments (k + 1)) (standing (k + 1))
 
--- Generations are used once and rise. `mark` is the generation that the lowest byte of a half's generation is of: where the half's gate is open, its
--- generation; where it is closed, the one that it had, or the next one, which is written there byte by byte.
+-- Generations are used once and rise. `mark` is the generation that the lowest byte of a half's generation belongs to: if the half's gate is open,
+-- its generation; if it is closed, the one that it had, or the next one, which is written there byte by byte.
 pub record AreMarked (moments : List (List ℕ)) (shape : Shape) (mark : Half → ℕ → ℕ) : Type 0 where
   pub lowest : (h : Half) (k : ℕ) → k < length moments → slice_index (moment moments k) (half_start shape h + 8) ≡ mark h k % 256
   pub rises : (h : Half) (k : ℕ) → k + 1 < length moments → mark h k ≤ mark h (k + 1)

@@ -1,4 +1,4 @@
--- Moments are a course: what each step leaves, in numbers.
+-- Moments are a course: the effect of each step, in numbers.
 use Rattle.std.proofs.Common.{◌≡◌, ◌≢◌, ◌⊎◌, ℕ, ◌+◌, ◌<◌, ◌≤◌, List, length, slice_index, refl, ◌∙◌, subst, arith}
 use Rattle.journal_layout.specs.declared.shape.Shape.{Shape}
 use Rattle.journal_layout.specs.declared.shape.Half.{Half}

@@ -1,4 +1,4 @@
--- What a look takes is of one moment: the one at which all gates of its records had been read in their order.
+-- A look takes the content of one moment: the one at which all gates of its records had been read in their order.
 use Rattle.std.proofs.Common.{◌≡◌, ◌≢◌, inl, inr, ⊎_elim, ℕ, ◌+◌, ◌-◌, ◌%◌, ◌<◌, ◌≤◌, List, [], ◌∷◌, ◌++◌, length, slice_index, refl, sym, ap, ◌∙◌, subst, arith, append_assoc, Ok}
 use Rattle.std.proofs.lemmas.Bool.{cases_eq}
 use Rattle.disk_model.specs.Places.{part}
@@ -200,7 +200,7 @@ module _ (moments : List (List ℕ)) (standing : ℕ → Standing) (mark : Half 
       gate_is_open _ _ _ _ _ _ _ (course moments standing are) mark (marks moments standing are mark marked) a z z_within marks_same before.0 e behind.0 (slice_index seen (start taken))
       b_low (omega (arith, b_high, one)) (omega (arith, h_low, two)) h_high (sym before.3) (sym behind.3)
 
-  -- what it had in use stayed until all was read
+  -- the bytes that it had in use stayed until all was read
   taken_kept : (k p : ℕ) → e ≤ k → k ≤ look.has_records → start taken ≤ p → p < start taken + s.used → slice_index (moment moments k) p ≡ slice_index c p
   taken_kept k p from until above below =
       let h_low = behind.1 in
@@ -265,7 +265,7 @@ module _ (moments : List (List ℕ)) (standing : ℕ → Standing) (mark : Half 
       (taken_open ∙ sym (subst (λ (x : Shape). slice_index c (half_start x taken) ≡ 165) (shape_at moments standing are e e_within) (gate_open c (front_of s) stands.front)))
       (λ k p from until above below. taken_kept k p from until above (let header = stands.header in omega (arith, below, header)))
 
-  -- what is seen has the front of that moment
+  -- the bytes that are seen have the front of that moment
   front_seen : front_opening seen ≡ Ok (front_of s)
   front_seen =
       ⊎_elim
@@ -322,7 +322,7 @@ module _ (moments : List (List ℕ)) (standing : ℕ → Standing) (mark : Half 
   area_place : (k : ℕ) → k < half_length s.shape - 32 → slice_index area k ≡ slice_index c (first + k)
   area_place k below = part_place c first (half_length s.shape - 32) k 0 below
 
-  -- what is seen of what was in use then
+  -- the bytes that are seen are those that were in use then
   seen_same : (p : ℕ) → first ≤ p → p < half_start s.shape s.half + s.used → p ≤ look.behind → slice_index seen p ≡ slice_index c p
   seen_same p above below reached =
       let place : half_start s.shape s.half ≡ start taken = ap (λ (x : Shape). half_start x s.half) (shape_at moments standing are e e_within) in
@@ -341,7 +341,7 @@ module _ (moments : List (List ℕ)) (standing : ℕ → Standing) (mark : Half 
       let gate : half_start (standing k).shape (standing k).half + (standing k).used ≡ first + n = omega (arith, here, used) in
       closed_gate (moment moments k) (standing k) (stands_at moments standing are k within) (ap (slice_index (moment moments k)) gate ∙ opened)
 
-  -- a record of that moment is as long as what is seen tells
+  -- a record of that moment has the length that the seen bytes give
   length_seen : (ps : List Record) (q : Record) (qs : List Record) → there ≡ ps ++ q ∷ qs → first + sizes ps + 16 ≤ look.behind → field seen (first + sizes ps + 4) 4 ≡ record_size q
   length_seen ps q qs whole reached =
       let limits = stands_limits c s stands in
@@ -358,7 +358,7 @@ module _ (moments : List (List ℕ)) (standing : ℕ → Standing) (mark : Half 
       ∙ sym (area_place (sizes ps + 4 + k) (omega (arith, below, size, some, there_used, space))))
       ∙ row_length s.shape.data_blocks area (nothing_yet s.version) ps q qs (area_short c s.shape s.half limits) row
 
-  -- What is seen ends where the records did: the gates were read in order, each when the records before it were there.
+  -- The seen records end where the records of that moment did: the gates were read in order, each when the records before it were there.
   follows : (ps qs : List Record) (places : List ℕ) (at w : ℕ) → look.has_gates ≤ w → there ≡ ps ++ qs → at ≡ first + sizes ps → 32 + sizes ps ≤ (standing w).used
       → IsChain seen at places look.behind → OpensInTurn moments w e places → (look.behind ≡ first + sizes there) × (slice_index seen (first + sizes there) ≢ 165)
   follows ps [] [] at w from whole place inside chain turn =
@@ -422,7 +422,7 @@ module _ (moments : List (List ℕ)) (standing : ℕ → Standing) (mark : Half 
       let header = (stands_at moments standing are look.has_gates (omega (arith, x, y))).header in
       follows [] there look.places first look.has_gates (omega arith) refl (omega arith) (omega (arith, header)) chain_seen look.order
 
-  -- so it encodes what that moment does
+  -- so the seen bytes encode the archive of that moment
   seen_stands : Stands seen s
   seen_stands =
       let limits = stands_limits c s stands in

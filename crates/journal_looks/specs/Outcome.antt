@@ -1,4 +1,4 @@
--- What a look hands out.
+-- The result of a look.
 use Rattle.std.specs.Prelude.{◌≡◌, ℕ, ◌<◌, ◌≤◌, List, ◌++◌, length, drop, Ok}
 use Rattle.journal_layout.specs.declared.shape.Shape.{Shape}
 use Rattle.journal_layout.specs.declared.shape.Half.{Half}
@@ -12,8 +12,8 @@ use Rattle.journal_looks.specs.Looks.{IsLook, AreFew}
 abbrev pub seen_over : List ℕ → List ℕ → List ℕ
 seen_over front c = front ++ drop (length front) c
 
--- A look from moment i to moment j read these bytes of the superblock and of both halves. Let the data blocks be those of a moment meanwhile. Where the
--- front tells this shape, it tells this half, and it is a look that is taken.
+-- A look from moment i to moment j read these bytes of the superblock and of both halves. Let the data blocks be those of a moment meanwhile. If the
+-- front gives this shape, it gives this half, and it is a look that is taken.
 pub record IsSeen (moments : List (List ℕ)) (i j : ℕ) (shape : Shape) (half : Half) (front : List ℕ) : Type 0 where
   pub at : ℕ
   pub from : i ≤ at
@@ -21,7 +21,7 @@ pub record IsSeen (moments : List (List ℕ)) (i j : ℕ) (shape : Shape) (half 
   pub look : (f : Front) → f.shape ≡ shape → front_opening (seen_over front (moment moments at)) ≡ Ok f
       → (l : IsLook moments (seen_over front (moment moments at)) f) × (l.has_order ≡ at) × (i ≤ l.begin) × (l.finish ≤ j) × (f.half ≡ half)
 
--- What is seen encodes what the disk did at that moment, where its front tells this shape.
+-- The seen bytes encode the archive that the disk encoded at that moment, if their front gives this shape.
 abbrev pub WhatIsSeenIsAMoment : Type 0
 WhatIsSeenIsAMoment =
     (moments : List (List ℕ)) (standing : ℕ → Standing) (mark : Half → ℕ → ℕ) (i j : ℕ) (shape : Shape) (half : Half) (front : List ℕ) (f : Front)

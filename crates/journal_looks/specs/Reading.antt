@@ -1,4 +1,4 @@
--- What a read of a disk that others change gives.
+-- The bytes that a read of a disk gives while others change the disk.
 use Rattle.std.specs.Prelude.{◌≡◌, ℕ, ◌+◌, ◌<◌, ◌≤◌, List, length, slice_index}
 use Rattle.journal_looks.specs.History.{moment}
 

@@ -7,7 +7,7 @@ use Rattle.journal_layout.specs.declared.shape.Shape.{Shape}
 use Rattle.journal_layout.specs.declared.shape.Half.{Half}
 use Rattle.journal_layout.specs.Layout.{field, half_start, half_length}
 use Rattle.journal_layout.specs.Record.{Record, record_size}
-use Rattle.journal_layout.specs.SpellLaws.{record_some, tells_length, as_spelled}
+use Rattle.journal_layout.specs.SpellLaws.{record_some, prints_length, as_spelled}
 use Rattle.journal_layout.specs.ByteLaws.{field-drop}
 use Rattle.journal_layout.specs.Folding.{Folded, after, sizes}
 use Rattle.journal_layout.specs.Stands.{StandsFirst, StandInRow, records_area}
@@ -61,12 +61,12 @@ pub sizes_append : (rs ss : List Record) → sizes (rs ++ ss) ≡ sizes rs + siz
 sizes_append [] ss = omega arith
 sizes_append (r ∷ rs) ss = let e = sizes_append rs ss in omega (arith, e)
 
--- records of no bytes are none
+-- a list of records with no bytes is empty
 pub sizes_none : (rs : List Record) → sizes rs ≡ 0 → rs ≡ []
 sizes_none [] e = refl
 sizes_none (r ∷ rs) e = let some = record_some r in absurd (omega (arith, e, some))
 
--- a front that ends behind the begin of a record has that record
+-- a row that ends after the start of a record contains that record
 pub next_boundary : (ps : List Record) (q : Record) (qs rs more : List Record) → ps ++ q ∷ qs ≡ rs ++ more → sizes ps < sizes rs → sizes ps + record_size q ≤ sizes rs
 next_boundary [] q qs [] more e less = absurd (omega (arith, less))
 next_boundary [] q qs (r ∷ rs) more e less =
@@ -81,7 +81,7 @@ next_boundary (p ∷ ps) q qs (r ∷ rs) more e less =
     let deeper = next_boundary ps q qs rs more rest (omega (arith, less, size)) in
     omega (arith, size, deeper)
 
--- The bytes of a half after its header begin alike where the half does.
+-- The bytes of a half after its header start alike if the half does.
 pub area_agrees : (b c : List ℕ) (shape : Shape) (half : Half) (n : ℕ) → half_start shape half + half_length shape ≤ length b → length c ≡ length b → n + 32 ≤ half_length shape
     → ((p : ℕ) → half_start shape half + 32 ≤ p → p < half_start shape half + 32 + n → slice_index c p ≡ slice_index b p)
     → take n (records_area c shape half) ≡ take n (records_area b shape half)
@@ -121,11 +121,11 @@ field_by_places b c p q (suc w) same =
     ap (slice_index b) one ∙ same (suc k) (omega (arith, below)) ∙ ap (slice_index c) two) in
     rw (here, rest) refl
 
--- a record in a row is as long as its bytes tell
+-- a record in a row has the length that its bytes give
 first_length : (limit : ℕ) (bytes : List ℕ) (f : Folded) (r : Record) → length bytes ≤ 2 ^ 32 → StandsFirst limit bytes f r → field bytes 4 4 ≡ record_size r
 first_length limit bytes f r short first =
     let in_half = first.in_half in
-    ap (λ (l : List ℕ). field l 4 4) (as_spelled r bytes first.spelled) ∙ tells_length r (drop (record_size r) bytes) (omega (arith, in_half, short))
+    ap (λ (l : List ℕ). field l 4 4) (as_spelled r bytes first.spelled) ∙ prints_length r (drop (record_size r) bytes) (omega (arith, in_half, short))
 
 pub row_length : (limit : ℕ) (bytes : List ℕ) (f : Folded) (rs : List Record) (r : Record) (more : List Record) → length bytes ≤ 2 ^ 32 → StandInRow limit bytes f (rs ++ r ∷ more)
     → field bytes (sizes rs + 4) 4 ≡ record_size r

@@ -1,4 +1,4 @@
--- Each moment encodes an archive: what a part of one write leaves of what was encoded.
+-- Each moment encodes an archive: the archive that is encoded after a part of one write.
 use Rattle.std.proofs.Common.{◌≡◌, ◌≢◌, ⊎_elim, ℕ, ◌+◌, ◌<◌, ◌≤◌, List, [], ◌∷◌, ◌++◌, length, get_or, slice_index, refl, sym, ap, ◌∙◌, subst, arith}
 use Rattle.std.proofs.lemmas.List.{take_at, get_or_at}
 use Rattle.disk_model.specs.Places.{part, SameOutside}
@@ -84,7 +84,7 @@ module _ (b c : List ℕ) (s t : Standing) (stands : Stands b s) where
       let some = (stands_limits b s stands).some_half in
       widened (other_start s) 1 b c others (other_start s) (half_length s.shape) (omega arith) (omega (arith, some))
 
-  -- what a part of a write makes encodes what is then said
+  -- the bytes after a part of a write encode the archive that then holds
   pub step_stands : MayLead b s c t → Stands c t
   step_stands step =
       ⊎_elim (λ unread. subst (λ (x : Standing). Stands c x) (sym unread.same) (read_stands b c s stands unread.long unread.differs))

@@ -20,15 +20,15 @@ AHalfGrowsOnly =
     (moments : List (List ℕ)) (standing : ℕ → Standing) (i j : ℕ) → AreMoments moments standing → i ≤ j → j < length moments
     → (standing j).generation ≡ (standing i).generation → HasGrown (moment moments i) (standing i) (moment moments j) (standing j)
 
--- What a look takes encodes what a moment between its begin and its end does: the one at which all gates had been read in their order, and the records
--- were not yet. So it opens, and as that moment.
+-- A look takes bytes that encode the archive of a moment between its start and its end: the one at which all gates had been read in their order, and
+-- the records were not yet. So it opens, as the archive of that moment.
 abbrev pub TwoReadingsAreAMoment : Type 0
 TwoReadingsAreAMoment =
     (moments : List (List ℕ)) (standing : ℕ → Standing) (mark : Half → ℕ → ℕ) (seen : List ℕ) (f : Front) → AreMoments moments standing
     → AreMarked moments (standing 0).shape mark → (look : IsLook moments seen f) → AreFew mark look.begin look.finish
     → (t : Standing) × (look.begin ≤ look.has_order) × (look.has_order ≤ look.finish) × (f ≡ front_of t) × Stands seen t × Stands (moment moments look.has_order) t
 
--- While nobody writes, a look is taken: what is read at one moment is what that moment encodes.
+-- While nobody writes, a look is taken: bytes that are read at one moment encode the archive of that moment.
 abbrev pub AStillLookIsTaken : Type 0
 AStillLookIsTaken =
     (moments : List (List ℕ)) (standing : ℕ → Standing) (k : ℕ) → AreMoments moments standing → k < length moments

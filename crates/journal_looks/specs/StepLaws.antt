@@ -1,4 +1,4 @@
--- Laws of a part of one write: what it leaves.
+-- Laws of a part of one write: the bytes after it.
 use Rattle.std.proofs.Common.{◌≡◌, ◌≢◌, ◌⊎◌, inl, inr, ⊎_elim, ℕ, ◌+◌, ◌<◌, ◌≤◌, List, length, slice_index, sym, ap, ◌∙◌, arith}
 use Rattle.std.proofs.lemmas.Bool.{cases_lt}
 use Rattle.disk_model.specs.Places.{SameOutside}
@@ -49,7 +49,8 @@ module _ (b c : List ℕ) (s t : Standing) (stands : Stands b s) (step : MayLead
   apart : (start + half_length s.shape ≤ other_start s) ⊎ (other_start s + half_length s.shape ≤ start)
   apart = halves_apart s.shape s.half (half_length s.shape) (omega arith)
 
-  -- A place that no step reaches: before the halves, among what the taken half has in use, or in the other half behind its open gate.
+  -- A place that no step reaches: before the halves, among the bytes that
+  -- the taken half has in use, or in the other half behind its open gate.
   pub record IsSpared (p : ℕ) : Type 0 where
     pub low : p < data_start s.shape
     pub not_behind : p ≢ gate_behind s
@@ -82,7 +83,7 @@ module _ (b c : List ℕ) (s t : Standing) (stands : Stands b s) (step : MayLead
             (λ behind. let after = behind.1 in omega (arith, after, below, second)) unread;
       })
 
-  -- what the taken half has in use stays
+  -- the bytes that the taken half has in use stay
   pub step_kept : (p : ℕ) → start ≤ p → p < start + s.used → slice_index c p ≡ slice_index b p
   step_kept p from below =
       let in_half = stands_in_half b s stands in

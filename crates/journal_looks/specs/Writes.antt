@@ -13,14 +13,14 @@ use Rattle.journal_looks.specs.History.{MayLead}
 
 -- Any bytes may come into the range, since between two moments any part of a write may be done.
 pub record WritesAreSteps : Type 0 where
-  -- what follows the gate behind the records, as `publish` writes it first
+  -- the bytes after the gate behind the records, as `publish` writes them first
   pub behind_records : (b c : List ℕ) (s : Standing) (at n : ℕ) → Stands b s → SameOutside at n b c → gate_behind s < at → at + n ≤ half_start s.shape s.half + half_length s.shape → MayLead b s c s
   -- then the gate, over a record that is there
   pub record_gate : (b : List ℕ) (s : Standing) (r : Record) (gate : ℕ) (behind : List ℕ) → Stands b s → Publishes s r gate behind
       → MayLead (overwritten b (gate + 1) behind) s (overwritten (overwritten b (gate + 1) behind) gate (165 ∷ [])) (lengthened s r)
   -- the gate of the other half, which a rewriting closes first
   pub other_gate : (b : List ℕ) (s : Standing) → Stands b s → MayLead b s (overwritten b (other_start s) (0 ∷ [])) s
-  -- what follows it
+  -- the bytes after the other half's gate
   pub behind_other : (b c : List ℕ) (s : Standing) (at n : ℕ) → Stands b s → slice_index b (other_start s) ≢ 165 → SameOutside at n b c
       → other_start s < at → at + n ≤ other_start s + half_length s.shape → MayLead b s c s
   -- then that gate again, over a snapshot

@@ -1,4 +1,4 @@
-// The gates of a half's records, read one after the other, and the same in what was read of the half.
+// The gates of a half's records, read one after the other, and the same in the bytes that were read of the half.
 ghost use Rattle.std.specs.Prelude.{◌≡◌, ◌+◌, ◌^◌, ◌<◌, ◌≤◌, ℕ, length, slice_index, IsTrue, OnOk, IfOk, IfSome};
 ghost use Rattle.journal_layout.specs.Layout.{field};
 ghost use Rattle.journal_looks.specs.Looks.{OpensInTurn, IsChain};
@@ -17,7 +17,7 @@ pub enum WatchFault {
     /// The disk could not be read.
     #[error("the disk could not be read")]
     Read,
-    /// There is no memory for what is seen of it.
+    /// There is no memory for the bytes that are seen of it.
     #[error("out of memory")]
     OutOfMemory,
 }
@@ -45,7 +45,7 @@ fn read_head<D: WatchedDisk>(disk: &mut D, at: u64) -> Result<(bool, u64), DiskF
 }
 
 /// Reads the gates of records from place `first` on, in their order and each by a read of its own, up to one that is not open.
-/// Where the lengths lead out of the half, which ends at `end`, others write there: then it is no chain.
+/// If the lengths lead out of the half, which ends at `end`, others write there: then it is no chain.
 pub(crate) fn read_chain<D: WatchedDisk>(
     alloc: Global,
     disk: &mut D,
@@ -80,7 +80,7 @@ pub(crate) fn read_chain<D: WatchedDisk>(
     Ok(None)
 }
 
-// Whether a record is here that is followed by this place, as far as its gate and length tell.
+// Whether a record is here that is followed by this place, as far as its gate and length show.
 fn is_record(front: &[u8], place: u64, next: u64) -> bool
     requires { next < length front.now }
     ensures opened { IsTrue result → slice_index front.now place ≡ 165 }
@@ -93,7 +93,8 @@ fn is_record(front: &[u8], place: u64, next: u64) -> bool
         && u64::from(LittleEndian::read_u32(&front[place as usize + 4..])) == next - place
 }
 
-/// Whether what was read of a half is a chain of records at these places, from `first` on, with a gate behind them that is not open.
+/// Whether the bytes that were read of a half are a chain of records at
+/// these places, from `first` on, with a gate behind them that is not open.
 pub(crate) fn is_chain(front: &[u8], first: u64, chain: &Chain) -> bool
     requires { chain.now.behind < length front.now }
     ensures { IsTrue result → IsChain front.now first chain.now.places.items chain.now.behind }

@@ -1,4 +1,4 @@
-// What of both halves is read first and last: their generations and their gates.
+// The parts of both halves that are read first and last: their generations and their gates.
 ghost use Rattle.std.specs.Prelude.{◌≡◌, ◌+◌, ◌≤◌, ℕ, length, IsTrue, IfOk, IfSome};
 ghost use Rattle.disk_model.specs.Places.{part};
 ghost use Rattle.journal_layout.specs.Layout.{data_start, disk_length, IsWithinLimits};
@@ -65,7 +65,7 @@ pub(crate) fn read_heads_again<D: WatchedDisk>(
 }
 
 impl Heads {
-    /// The half that is taken, as far as these tell.
+    /// The half that is taken, as far as these headers show.
     pub(crate) fn taken(&self) -> Option<Half>
         ensures { IfSome result (IsLater self.now) }
     {

@@ -1,4 +1,4 @@
-// What the definitions of moments and looks say together. These functions do nothing.
+// Consequences of the definitions of moments and looks. These functions do nothing.
 ghost use Rattle.journal_looks.specs.Statements.{ADiskAtRestIsHonest, AHalfGrowsOnly, AStillLookIsTaken, EachMomentStands, TwoReadingsAreAMoment};
 ghost use Rattle.journal_looks.specs.Outcome.{WhatIsSeenIsAMoment};
 ghost use Rattle.journal_looks.specs.Rising.{WhatIsWrittenRisingRises};
@@ -14,7 +14,8 @@ pub fn a_half_grows_only()
     ensures { AHalfGrowsOnly }
 {}
 
-/// What a look takes is encoded at a moment between its begin and its end. Nobody has to wait for it, and it takes no lock.
+/// The bytes that a look takes are encoded at a moment between its start
+/// and its end. Nobody needs to wait for it, and it takes no lock.
 pub fn two_readings_are_a_moment()
     ensures { TwoReadingsAreAMoment }
 {}
@@ -30,7 +31,7 @@ pub fn writes_are_steps()
     ensures { WritesAreSteps }
 {}
 
-/// What a look hands out encodes what the disk did at a moment between the look's begin and its end.
+/// The result of a look encodes the archive that the disk encoded at a moment between the look's start and its end.
 pub fn what_is_seen_is_a_moment()
     ensures { WhatIsSeenIsAMoment }
 {}

@@ -1,4 +1,5 @@
-//! Looking at a journal while others change it: what is read in order, and again, is what the journal was at one moment.
+//! Looking at a journal while others change it: bytes that are read
+//! in order, and again, are those of the journal at one moment.
 #![tactic(auto)]
 
 mod chain;

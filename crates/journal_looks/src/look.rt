@@ -13,7 +13,8 @@ use crate::watched::WatchedDisk;
 use journal_layout::{BLOCK, Half, Shape};
 use std::alloc::Global;
 
-/// What a look saw: the superblock and both halves, and which half it took. Of the other half it has the header alone.
+/// The result of a look: the superblock and both halves, and the
+/// half that it took. Of the other half it has only the header.
 #[derive(Drop)]
 pub struct Seen {
     pub front: Vec<u8>,

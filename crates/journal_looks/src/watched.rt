@@ -6,8 +6,8 @@ ghost use Rattle.journal_looks.specs.Reading.{AreReadIn};
 
 use disk_model::DiskFault;
 
-/// A disk of fixed length that others change while it is read. What it holds are its moments, in order. Each byte of a read is one
-/// that the disk held at a moment between the read's begin and its end, and the next read begins where this one ended. So the bytes
+/// A disk of fixed length that others change while it is read. Its contents are its moments, in order. Each byte of a read is one
+/// that the disk held at a moment between the read's start and its end, and the next read starts where this one ended. So the bytes
 /// of one read need not be of one moment. Its clauses on bytes hold of an honest disk.
 pub trait WatchedDisk {
     /// The length in bytes.
@@ -16,7 +16,7 @@ pub trait WatchedDisk {
     /// Whether its clauses on bytes hold.
     ghost is_honest: { Self → Bool };
 
-    /// What it holds, moment by moment, those to come too.
+    /// Its content, moment by moment, also at later moments.
     ghost moments: { Self → List (List ℕ) };
 
     /// The number of the moment at which the latest read ended.

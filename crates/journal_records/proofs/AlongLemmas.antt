@@ -12,8 +12,8 @@ use Rattle.journal_layout.specs.Checks.{record_fault}
 use Rattle.journal_layout.specs.Stands.{StandsFirst, AreRead}
 use Rattle.journal_layout.specs.RowLaws.{row_push, replayed_push, sizes_push, last_push}
 use Rattle.journal_layout.specs.RecordLaws.{record_found, size_found}
-use Rattle.journal_records.specs.Head.{TellsFault}
-use Rattle.journal_records.specs.Said.{IsAlong, TellsFaulty}
+use Rattle.journal_records.specs.Head.{SaysFault}
+use Rattle.journal_records.specs.Said.{IsAlong, SaysFaulty}
 
 pub along_first : (limit version : ℕ) (bytes : List ℕ) (said : Folded) → nothing_yet version ≡ said → IsAlong limit version bytes said None 0
 along_first limit version bytes said is = record { records = []; row = tt; folded = is; ends = refl; size = refl }
@@ -44,7 +44,7 @@ along_more limit version at bytes said next last used size are along opened fine
 
 -- the record that is next is faulty
 pub faulty_next : (limit version at : ℕ) (bytes : List ℕ) (said : Folded) (last : Option ℕ) (used : ℕ) (e : OpenFault) → IsAlong limit version bytes said last used → slice_index bytes used ≡ 165
-    → TellsFault (record_fault limit (at + used) (drop used bytes) said) e → TellsFaulty limit version at bytes e
+    → SaysFault (record_fault limit (at + used) (drop used bytes) said) e → SaysFaulty limit version at bytes e
 faulty_next limit version at bytes said last used (Damaged place which) along opened told = record {
   records = along.records;
   row = along.row;

@@ -11,7 +11,7 @@ use Rattle.disk_model.specs.Places.{part}
 use Rattle.journal_layout.specs.Folding.{Folded}
 use Rattle.journal_layout.specs.Checks.{record_fault, Check, damaged, first_failing, first_set, first_bad_seq, padding_fault, pin_checks, pin_fault, label_checks, label_fault, count_checks, drop_fault}
 use Rattle.journal_records.specs.declared.cases.Cases.{Cases}
-use Rattle.journal_records.specs.Head.{TellsFault}
+use Rattle.journal_records.specs.Head.{SaysFault}
 use Rattle.journal_records.specs.Kept.{said_by, Says, OnlyMemory, Reads, ReadsRecord}
 
 abbrev pub IsDamaged : OpenFault → Type 0
@@ -52,40 +52,40 @@ label_only at rest f =
     or_only (first_failing at (label_checks rest f)) (padding_fault at rest (16 + label_length_at rest)) (checks_only at (label_checks rest f)) (padding_only at rest (16 + label_length_at rest))
 
 -- the error is the fault
-damaged_tells : (fault : Option OpenFault) (e : OpenFault) → IsDamaged e → Some e ≡ fault → TellsFault fault e
+damaged_tells : (fault : Option OpenFault) (e : OpenFault) → IsDamaged e → Some e ≡ fault → SaysFault fault e
 damaged_tells fault (Damaged at which) is same = sym same
 damaged_tells fault other is same = absurd is
 
-pub tells : (fault : Option OpenFault) (e : OpenFault) → OnlyDamaged fault → Some e ≡ fault → TellsFault fault e
-tells fault e only same = damaged_tells fault e (subst OnlyDamaged (sym same) only) same
+pub states : (fault : Option OpenFault) (e : OpenFault) → OnlyDamaged fault → Some e ≡ fault → SaysFault fault e
+states fault e only same = damaged_tells fault e (subst OnlyDamaged (sym same) only) same
 
 -- what an error tells of the first fault of two parts
-pub tells_first : (o p : Option OpenFault) (e : OpenFault) → TellsFault o e → TellsFault (option_or o p) e
-tells_first o p (Damaged at which) is = ap (λ (x : Option OpenFault). option_or x p) is
-tells_first o p OutOfMemory is = tt
-tells_first o p other is = absurd is
+pub prints_first : (o p : Option OpenFault) (e : OpenFault) → SaysFault o e → SaysFault (option_or o p) e
+prints_first o p (Damaged at which) is = ap (λ (x : Option OpenFault). option_or x p) is
+prints_first o p OutOfMemory is = tt
+prints_first o p other is = absurd is
 
-pub tells_second : (o p : Option OpenFault) (e : OpenFault) → o ≡ None → TellsFault p e → TellsFault (option_or o p) e
-tells_second o p e none is = subst (λ (x : Option OpenFault). TellsFault (option_or x p) e) (sym none) is
+pub prints_second : (o p : Option OpenFault) (e : OpenFault) → o ≡ None → SaysFault p e → SaysFault (option_or o p) e
+prints_second o p e none is = subst (λ (x : Option OpenFault). SaysFault (option_or x p) e) (sym none) is
 
 -- an error that is handed on
-pub handed_on : (fault : Option OpenFault) (said : Folded) (limit : ℕ) (r : Result (Unit {0}) OpenFault) (new : Cases) (e : OpenFault) → IsErrAnd r (λ (f : OpenFault). f ≡ e) → TellsFault fault e → Reads fault said limit r new
+pub handed_on : (fault : Option OpenFault) (said : Folded) (limit : ℕ) (r : Result (Unit {0}) OpenFault) (new : Cases) (e : OpenFault) → IsErrAnd r (λ (f : OpenFault). f ≡ e) → SaysFault fault e → Reads fault said limit r new
 handed_on fault said limit (Ok done) new e is told = absurd is
-handed_on fault said limit (Err f) new e is told = subst (TellsFault fault) (sym is) told
+handed_on fault said limit (Err f) new e is told = subst (SaysFault fault) (sym is) told
 
 -- a step that fails for want of memory alone
 pub reads_none : (said : Folded) (limit : ℕ) (r : Result (Unit {0}) OpenFault) (new : Cases) (P : Type 0) → OnlyMemory r → OnOk r P → (P → Says said limit new) → Reads None said limit r new
 reads_none said limit (Ok done) new P only is says = (refl, says is)
-reads_none said limit (Err e) new P only is says = subst (TellsFault None) (sym only) tt
+reads_none said limit (Err e) new P only is says = subst (SaysFault None) (sym only) tt
 
 pub image_only : (at : ℕ) (rest : List ℕ) (bad : Bool) → OnlyDamaged (cond bad (Some (damaged at named.ImageLength 32)) None)
 image_only at rest true = tt
 image_only at rest false = tt
 
 pub handed_record : (at : ℕ) (rest : List ℕ) (old : Cases) (r : Result ℕ OpenFault) (new : Cases) (e : OpenFault) → IsErrAnd r (λ (f : OpenFault). f ≡ e)
-    → TellsFault (record_fault (length old.free) at rest (said_by old)) e → ReadsRecord at rest old r new
+    → SaysFault (record_fault (length old.free) at rest (said_by old)) e → ReadsRecord at rest old r new
 handed_record at rest old (Ok size) new e is told = absurd is
-handed_record at rest old (Err f) new e is told = subst (TellsFault (record_fault (length old.free) at rest (said_by old))) (sym is) told
+handed_record at rest old (Err f) new e is told = subst (SaysFault (record_fault (length old.free) at rest (said_by old))) (sym is) told
 
 -- the same reading, where the fault and what is said are told otherwise
 pub reads_as : (fault other : Option OpenFault) (said same : Folded) (limit : ℕ) (r : Result (Unit {0}) OpenFault) (new : Cases) → other ≡ fault → same ≡ said → Reads fault said limit r new → Reads other same limit r new

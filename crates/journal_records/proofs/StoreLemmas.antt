@@ -10,10 +10,10 @@ use Rattle.journal_layout.specs.Reading.{store_runs, name_at, name_place, name_l
 use Rattle.journal_layout.specs.Folding.{Folded, is_among, is_name_of}
 use Rattle.journal_layout.specs.Soundness.{blocks_for}
 use Rattle.journal_layout.specs.Checks.{damaged, first_failing, store_checks, runs_fault, block_count, padding_fault, store_fault}
-use Rattle.journal_records.specs.Head.{TellsFault}
+use Rattle.journal_records.specs.Head.{SaysFault}
 use Rattle.journal_records.specs.Taken.{fault_of_name}
 use Rattle.journal_records.specs.Named.{has_name}
-use Rattle.journal_records.proofs.FaultLemmas.{tells_first, tells_second}
+use Rattle.journal_records.proofs.FaultLemmas.{prints_first, prints_second}
 
 abbrev pub facts_part : ℕ → List ℕ → Folded → Option OpenFault
 facts_part at rest f = first_failing at (store_checks rest f)
@@ -41,48 +41,48 @@ store_chain limit at rest f =
     (damaged at named.ImageLength 32) (damaged at named.Name (name_place rest)) (end_part at rest))
 
 module _ (limit at : ℕ) (rest : List ℕ) (f : Folded) (e : OpenFault) where
-  told : TellsFault (option_or (facts_part at rest f) (option_or (runs_fault limit at rest f) (option_or (image_part at rest (block_count (store_runs rest))) (option_or (name_part at rest f) (end_part at rest))))) e
-      → TellsFault (store_fault limit at rest f) e
-  told is = subst (λ (x : Option OpenFault). TellsFault x e) (sym (store_chain limit at rest f)) is
+  told : SaysFault (option_or (facts_part at rest f) (option_or (runs_fault limit at rest f) (option_or (image_part at rest (block_count (store_runs rest))) (option_or (name_part at rest f) (end_part at rest))))) e
+      → SaysFault (store_fault limit at rest f) e
+  told is = subst (λ (x : Option OpenFault). SaysFault x e) (sym (store_chain limit at rest f)) is
 
-  pub facts_told : TellsFault (facts_part at rest f) e → TellsFault (store_fault limit at rest f) e
+  pub facts_told : SaysFault (facts_part at rest f) e → SaysFault (store_fault limit at rest f) e
   facts_told is =
-      told (tells_first (facts_part at rest f) (option_or (runs_fault limit at rest f) (option_or (image_part at rest (block_count (store_runs rest))) (option_or (name_part at rest f) (end_part at rest)))) e is)
+      told (prints_first (facts_part at rest f) (option_or (runs_fault limit at rest f) (option_or (image_part at rest (block_count (store_runs rest))) (option_or (name_part at rest f) (end_part at rest)))) e is)
 
   behind_facts : facts_part at rest f ≡ None
-      → TellsFault (option_or (runs_fault limit at rest f) (option_or (image_part at rest (block_count (store_runs rest))) (option_or (name_part at rest f) (end_part at rest)))) e
-      → TellsFault (store_fault limit at rest f) e
+      → SaysFault (option_or (runs_fault limit at rest f) (option_or (image_part at rest (block_count (store_runs rest))) (option_or (name_part at rest f) (end_part at rest)))) e
+      → SaysFault (store_fault limit at rest f) e
   behind_facts facts is =
-      told (tells_second (facts_part at rest f) (option_or (runs_fault limit at rest f) (option_or (image_part at rest (block_count (store_runs rest))) (option_or (name_part at rest f) (end_part at rest)))) e facts is)
+      told (prints_second (facts_part at rest f) (option_or (runs_fault limit at rest f) (option_or (image_part at rest (block_count (store_runs rest))) (option_or (name_part at rest f) (end_part at rest)))) e facts is)
 
-  pub runs_told : facts_part at rest f ≡ None → TellsFault (runs_fault limit at rest f) e → TellsFault (store_fault limit at rest f) e
+  pub runs_told : facts_part at rest f ≡ None → SaysFault (runs_fault limit at rest f) e → SaysFault (store_fault limit at rest f) e
   runs_told facts is =
-      behind_facts facts (tells_first (runs_fault limit at rest f) (option_or (image_part at rest (block_count (store_runs rest))) (option_or (name_part at rest f) (end_part at rest))) e is)
+      behind_facts facts (prints_first (runs_fault limit at rest f) (option_or (image_part at rest (block_count (store_runs rest))) (option_or (name_part at rest f) (end_part at rest))) e is)
 
   behind_runs : facts_part at rest f ≡ None → runs_fault limit at rest f ≡ None
-      → TellsFault (option_or (image_part at rest (block_count (store_runs rest))) (option_or (name_part at rest f) (end_part at rest))) e
-      → TellsFault (store_fault limit at rest f) e
+      → SaysFault (option_or (image_part at rest (block_count (store_runs rest))) (option_or (name_part at rest f) (end_part at rest))) e
+      → SaysFault (store_fault limit at rest f) e
   behind_runs facts runs is =
-      behind_facts facts (tells_second (runs_fault limit at rest f) (option_or (image_part at rest (block_count (store_runs rest))) (option_or (name_part at rest f) (end_part at rest))) e runs is)
+      behind_facts facts (prints_second (runs_fault limit at rest f) (option_or (image_part at rest (block_count (store_runs rest))) (option_or (name_part at rest f) (end_part at rest))) e runs is)
 
-  pub image_told : facts_part at rest f ≡ None → runs_fault limit at rest f ≡ None → TellsFault (image_part at rest (block_count (store_runs rest))) e
-      → TellsFault (store_fault limit at rest f) e
+  pub image_told : facts_part at rest f ≡ None → runs_fault limit at rest f ≡ None → SaysFault (image_part at rest (block_count (store_runs rest))) e
+      → SaysFault (store_fault limit at rest f) e
   image_told facts runs is =
-      behind_runs facts runs (tells_first (image_part at rest (block_count (store_runs rest))) (option_or (name_part at rest f) (end_part at rest)) e is)
+      behind_runs facts runs (prints_first (image_part at rest (block_count (store_runs rest))) (option_or (name_part at rest f) (end_part at rest)) e is)
 
   behind_image : facts_part at rest f ≡ None → runs_fault limit at rest f ≡ None → image_part at rest (block_count (store_runs rest)) ≡ None
-      → TellsFault (option_or (name_part at rest f) (end_part at rest)) e
-      → TellsFault (store_fault limit at rest f) e
+      → SaysFault (option_or (name_part at rest f) (end_part at rest)) e
+      → SaysFault (store_fault limit at rest f) e
   behind_image facts runs image is =
-      behind_runs facts runs (tells_second (image_part at rest (block_count (store_runs rest))) (option_or (name_part at rest f) (end_part at rest)) e image is)
+      behind_runs facts runs (prints_second (image_part at rest (block_count (store_runs rest))) (option_or (name_part at rest f) (end_part at rest)) e image is)
 
-  pub name_told : facts_part at rest f ≡ None → runs_fault limit at rest f ≡ None → image_part at rest (block_count (store_runs rest)) ≡ None → TellsFault (name_part at rest f) e
-      → TellsFault (store_fault limit at rest f) e
-  name_told facts runs image is = behind_image facts runs image (tells_first (name_part at rest f) (end_part at rest) e is)
+  pub name_told : facts_part at rest f ≡ None → runs_fault limit at rest f ≡ None → image_part at rest (block_count (store_runs rest)) ≡ None → SaysFault (name_part at rest f) e
+      → SaysFault (store_fault limit at rest f) e
+  name_told facts runs image is = behind_image facts runs image (prints_first (name_part at rest f) (end_part at rest) e is)
 
-  pub end_told : facts_part at rest f ≡ None → runs_fault limit at rest f ≡ None → image_part at rest (block_count (store_runs rest)) ≡ None → name_part at rest f ≡ None → TellsFault (end_part at rest) e
-      → TellsFault (store_fault limit at rest f) e
-  end_told facts runs image name is = behind_image facts runs image (tells_second (name_part at rest f) (end_part at rest) e name is)
+  pub end_told : facts_part at rest f ≡ None → runs_fault limit at rest f ≡ None → image_part at rest (block_count (store_runs rest)) ≡ None → name_part at rest f ≡ None → SaysFault (end_part at rest) e
+      → SaysFault (store_fault limit at rest f) e
+  end_told facts runs image name is = behind_image facts runs image (prints_second (name_part at rest f) (end_part at rest) e name is)
 
 or_none : (o p : Option OpenFault) → o ≡ None → p ≡ None → option_or o p ≡ None
 or_none o p first second = ap (λ (x : Option OpenFault). option_or x p) first ∙ second

@@ -1,4 +1,4 @@
--- What is known of a record once its head is checked, and what an error tells.
+-- The known fields of a record once its head is checked, and the meaning of an error.
 use Rattle.std.specs.Prelude.{◌≡◌, ℕ, ◌+◌, ◌%◌, ◌≤◌, List, length, Option, Some}
 use Rattle.journal_layout.specs.declared.faults.OpenFault.{OpenFault}
 use Rattle.journal_layout.specs.declared.faults.OpenFault.TheVariants.{Damaged, OutOfMemory}
@@ -21,10 +21,10 @@ byte_of Next = 4
 byte_of Label = 5
 
 -- the error is this fault, if there is one, or there was no memory
-abbrev pub TellsFault : Option OpenFault → OpenFault → Type 0
-TellsFault fault (Damaged at which) = fault ≡ Some (Damaged at which)
-TellsFault fault OutOfMemory = Unit {0}
-TellsFault fault other = ⊥
+abbrev pub SaysFault : Option OpenFault → OpenFault → Type 0
+SaysFault fault (Damaged at which) = fault ≡ Some (Damaged at which)
+SaysFault fault OutOfMemory = Unit {0}
+SaysFault fault other = ⊥
 
 -- The runs and the name lie in the record, and the name is short enough.
 pub record IsPlaced (rest : List ℕ) : Type 0 where

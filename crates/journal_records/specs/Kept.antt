@@ -1,4 +1,4 @@
--- What the working state of a reading means, and what holds of it.
+-- The meaning of the working state of a reading, and its invariants.
 use Rattle.std.specs.Prelude.{◌≡◌, ℕ, ◌^◌, ◌≤◌, Bool, List, length, Option, None, Result, Ok, Err}
 use Rattle.std.specs.List.{count_by}
 use Rattle.std.specs.Str.{bytes_eq}
@@ -12,7 +12,7 @@ use Rattle.journal_layout.specs.Folding.{Folded, after, used_blocks}
 use Rattle.journal_layout.specs.Reading.{length_at, record_at}
 use Rattle.journal_layout.specs.Checks.{record_fault}
 use Rattle.journal_records.specs.declared.cases.Cases.{Cases}
-use Rattle.journal_records.specs.Head.{IsHeaded, TellsFault}
+use Rattle.journal_records.specs.Head.{IsHeaded, SaysFault}
 use Rattle.journal_records.specs.Live.{cases_of, AreNumbered}
 use Rattle.journal_records.specs.Taken.{Accounts}
 use Rattle.journal_records.specs.Named.{has_name}
@@ -25,7 +25,7 @@ said_by c = record { version = c.version; cases = cases_of c.live.entries; next 
 abbrev pub bearers : List Case → List ℕ → ℕ
 bearers cases name = count_by (λ (c : Case). bytes_eq c.origin.name name) cases
 
--- the set has a name exactly where one of the cases has it, and no two of them have one name
+-- the set has a name if and only if one of the cases has it, and no two of them have one name
 abbrev pub AreNames : List Case → BTreeSet (ℕ × ArrayVec ℕ) → Type 0
 AreNames cases names = (name : List ℕ) → bearers cases name ≡ one_if (has_name names name)
 
@@ -50,18 +50,18 @@ pub record Says (said : Folded) (limit : ℕ) (c : Cases) : Type 0 where
   pub says : said_by c ≡ said
   pub size : length c.free ≡ limit
 
--- an error tells that there was no memory
+-- an error means that there was no memory
 abbrev pub OnlyMemory : {A : Type 0} → Result A OpenFault → Type 0
 OnlyMemory (Ok a) = Unit {0}
 OnlyMemory (Err e) = e ≡ OutOfMemory
 
--- what the reading of a record answers and leaves: the record's first fault, or what it makes of what was said before
+-- the answer of the reading of a record, and the state after it: the record's first fault, or the state before, changed by the record
 abbrev pub Reads : Option OpenFault → Folded → ℕ → Result (Unit {0}) OpenFault → Cases → Type 0
 Reads fault said limit (Ok done) new = (fault ≡ None) × Says said limit new
-Reads fault said limit (Err e) new = TellsFault fault e
+Reads fault said limit (Err e) new = SaysFault fault e
 
--- the same of a whole record with its head: where it has no fault, it tells its length
+-- the same of a whole record with its head: if it has no fault, its length is returned
 abbrev pub ReadsRecord : ℕ → List ℕ → Cases → Result ℕ OpenFault → Cases → Type 0
 ReadsRecord at rest old (Ok size) new =
     (record_fault (length old.free) at rest (said_by old) ≡ None) × Says (after (record_at rest) (said_by old)) (length old.free) new × (size ≡ length_at rest) × IsHeaded rest
-ReadsRecord at rest old (Err e) new = TellsFault (record_fault (length old.free) at rest (said_by old)) e
+ReadsRecord at rest old (Err e) new = SaysFault (record_fault (length old.free) at rest (said_by old)) e

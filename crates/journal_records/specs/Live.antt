@@ -4,7 +4,7 @@ use Rattle.arrayvec.specs.ArrayVec.{ArrayVec}
 use Rattle.journal_layout.specs.declared.entry.Entry.{Entry}
 use Rattle.journal_layout.specs.Case.{Case, case_of}
 
--- what the entries say, in order
+-- the cases of the entries, in order
 abbrev pub cases_of : List (ℕ × Entry) → List Case
 cases_of [] = []
 cases_of (e ∷ es) = case_of e.1 ∷ cases_of es

@@ -15,7 +15,7 @@ last_number name = if nat_lt (length name) 8 then 0 else big_number 8 (drop (len
 abbrev pub key_of : List ℕ → ℕ × ArrayVec ℕ
 key_of name = (last_number name, record { items = name })
 
--- their order: that of the numbers, and of the names where the numbers are the same
+-- their order: that of the numbers, and of the names if the numbers are the same
 abbrev pub key_cmp : ℕ × ArrayVec ℕ → ℕ × ArrayVec ℕ → Ordering
 key_cmp x y = ordering_then (nat_cmp x.0 y.0) (slice_cmp nat_cmp x.1.items y.1.items)
 

@@ -1,4 +1,4 @@
--- Two names are behind equal keys exactly where they are the same.
+-- Two names are behind equal keys if and only if they are the same.
 use Rattle.std.proofs.Common.{◌≡◌, ℕ, Bool, true, false, List, refl, sym, ap}
 use Rattle.std.proofs.lemmas.Map.Text.{is_eq-slice_cmp}
 use Rattle.std.proofs.lemmas.Slice.Eq.{bytes_eq-Decides}

@@ -1,4 +1,4 @@
--- What a reading says, and how far it has come.
+-- The result of a reading, and its progress.
 use Rattle.std.specs.Prelude.{◌≡◌, ◌≢◌, ℕ, ◌+◌, ◌<◌, ◌≤◌, List, length, map, slice_index, Option, IfSome, Result, Ok, Err}
 use Rattle.journal_layout.specs.declared.faults.OpenFault.{OpenFault}
 use Rattle.journal_layout.specs.declared.faults.OpenFault.TheVariants.{Damaged, OutOfMemory}
@@ -10,15 +10,15 @@ use Rattle.journal_records.specs.declared.reading.Replayed.{Replayed}
 use Rattle.journal_records.specs.declared.cases.Cases.{Cases}
 use Rattle.journal_records.specs.Kept.{said_by, AreKept}
 
--- the cases and the next number that are told of a half of this version
+-- the cases and the next number that a half of this version gives
 abbrev pub said_of : ℕ → Replayed → Folded
 said_of version r = record { version = version; cases = map case_of r.entries.items; next = r.next }
 
--- what an error tells of these bytes of a half of this version, which are at this place of the disk
-abbrev pub TellsFaulty : ℕ → ℕ → ℕ → List ℕ → OpenFault → Type 0
-TellsFaulty limit version at bytes (Damaged place which) = AreFaulty limit at bytes (nothing_yet version) (Damaged place which)
-TellsFaulty limit version at bytes OutOfMemory = Unit {0}
-TellsFaulty limit version at bytes other = ⊥
+-- the meaning of an error for these bytes of a half of this version, which are at this place of the disk
+abbrev pub SaysFaulty : ℕ → ℕ → ℕ → List ℕ → OpenFault → Type 0
+SaysFaulty limit version at bytes (Damaged place which) = AreFaulty limit at bytes (nothing_yet version) (Damaged place which)
+SaysFaulty limit version at bytes OutOfMemory = Unit {0}
+SaysFaulty limit version at bytes other = ⊥
 
 -- These bytes begin with records in a row, which say this in `used` bytes, on `limit` data blocks and in this version. The last of them
 -- begins there.
@@ -48,4 +48,4 @@ pub record IsThrough (limit version : ℕ) (bytes : List ℕ) (last : Option ℕ
 
 abbrev pub ReadsAll : ℕ → ℕ → ℕ → List ℕ → Result (Option ℕ × ℕ) OpenFault → Cases → Type 0
 ReadsAll limit version at bytes (Ok (last, used)) c = IsThrough limit version bytes last used c
-ReadsAll limit version at bytes (Err e) c = TellsFaulty limit version at bytes e
+ReadsAll limit version at bytes (Err e) c = SaysFaulty limit version at bytes e

@@ -1,4 +1,4 @@
--- How a case is told by its record.
+-- How a record describes a case.
 use Rattle.std.specs.Prelude.{ℕ, Bool}
 use Rattle.journal_layout.specs.Case.{Case}
 

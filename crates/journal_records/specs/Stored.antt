@@ -4,7 +4,7 @@ use Rattle.std.specs.BTreeSet.{BTreeSet, contains_by}
 use Rattle.std.specs.Ordering.{nat_cmp}
 use Rattle.journal_layout.specs.declared.entry.Entry.{Entry}
 
--- What contracts see of live cases.
+-- Live cases as contracts see them.
 pub record Numbered : Type 0 where
   -- each case under its number
   pub entries : List (ℕ × Entry)
@@ -25,7 +25,7 @@ abbrev pub AreInOrder : ℕ → List Entry → Type 0
 AreInOrder low [] = Unit {0}
 AreInOrder low (e ∷ es) = (low ≤ e.seq) × AreInOrder (e.seq + 1) es
 
--- the number after the last one, or `low` if there is none
+-- the number after the last one, or `low` if there is no entry
 abbrev pub end_after : ℕ → List Entry → ℕ
 end_after low [] = low
 end_after low (e ∷ es) = end_after (e.seq + 1) es

@@ -13,7 +13,7 @@ use Rattle.journal_layout.specs.Soundness.{uses}
 use Rattle.journal_layout.specs.Folding.{is_among}
 use Rattle.journal_layout.specs.Reading.{store_runs, name_at, name_place}
 use Rattle.journal_layout.specs.Checks.{damaged, is_bad_run, first_bad_run, block_count}
-use Rattle.journal_records.specs.Head.{TellsFault}
+use Rattle.journal_records.specs.Head.{SaysFault}
 use Rattle.journal_records.specs.Named.{has_name}
 
 -- each block is either one of these, once, or free
@@ -25,7 +25,7 @@ abbrev pub TakesRun : List ℕ → List Bool → Option ℕ → Run → Bool →
 TakesRun used old end run true new = (is_bad_run (length old) used end run ≡ false) × Accounts (used ++ run_blocks run) new
 TakesRun used old end run false new = is_bad_run (length old) used end run ≡ true
 
--- what is wrong with the runs of a Store record where these blocks are in use
+-- the fault of the runs of a Store record if these blocks are in use
 abbrev pub fault_of_runs : ℕ → ℕ → List ℕ → List ℕ → Option OpenFault
 fault_of_runs limit at rest used = option_map (damaged at named.Run) (first_bad_run limit used None 48 (store_runs rest))
 
@@ -37,9 +37,9 @@ pub record AreTaken (used rest blocks : List ℕ) (count : ℕ) (flags : List Bo
 
 abbrev pub TakesRuns : ℕ → List ℕ → List ℕ → List Bool → Result (List ℕ × ℕ) OpenFault → List Bool → Type 0
 TakesRuns at rest used old (Ok taken) new = (fault_of_runs (length old) at rest used ≡ None) × AreTaken used rest taken.0 taken.1 new
-TakesRuns at rest used old (Err e) new = TellsFault (fault_of_runs (length old) at rest used) e
+TakesRuns at rest used old (Err e) new = SaysFault (fault_of_runs (length old) at rest used) e
 
--- what is wrong with the name of a Store record where these names are taken
+-- the fault of the name of a Store record if these names are taken
 abbrev pub fault_of_name : ℕ → List ℕ → BTreeSet (ℕ × ArrayVec ℕ) → Option OpenFault
 fault_of_name at rest names = if is_among (name_at rest) 0 || has_name names (name_at rest) then Some (damaged at named.Name (name_place rest)) else None
 
@@ -47,4 +47,4 @@ abbrev pub TakesName : ℕ → List ℕ → BTreeSet (ℕ × ArrayVec ℕ) → R
 TakesName at rest old (Ok name) new =
     (fault_of_name at rest old ≡ None) × (name.items ≡ name_at rest)
     × ((q : List ℕ) → has_name new q ≡ (if bytes_eq (name_at rest) q then true else has_name old q))
-TakesName at rest old (Err e) new = TellsFault (fault_of_name at rest old) e
+TakesName at rest old (Err e) new = SaysFault (fault_of_name at rest old) e

@@ -1,4 +1,4 @@
-// What the records so far say, kept so that each look-up is short.
+// The meaning of the records so far, kept so that each look-up is short.
 ghost use Rattle.std.specs.Prelude.{◌≡◌, ℕ, ◌+◌, ◌*◌, ◌^◌, ◌<◌, ◌≤◌, ◌==◌, ◌∷◌, ◌++◌, [], List, IfOk, OnOk, None, length, slice_index};
 ghost use Rattle.journal_layout.specs.Layout.{field};
 ghost use Rattle.journal_layout.specs.Case.{case_of};
@@ -75,7 +75,7 @@ impl Cases {
         self.live.end_case(seq)
     }
 
-    // Ends the cases whose numbers a Drop record tells.
+    // Ends the cases whose numbers a Drop record has.
     fn drop_cases(&mut self, rest: &[u8]) -> Result<(), OpenFault>
         requires kept { AreKept self.old }
         requires in_half { 12 + 4 * seq_count_at rest.now ≤ length rest.now }
@@ -180,7 +180,7 @@ impl Cases {
         Ok(())
     }
 
-    // Reads what follows the head of a record of this kind.
+    // Reads the bytes after the head of a record of this kind.
     fn read_body(
         &mut self,
         alloc: Global,
@@ -205,8 +205,8 @@ impl Cases {
         }
     }
 
-    /// Reads the record that these bytes begin with, whose gate is at byte `at` of the disk, and tells its length.
-    /// `Damaged`: this field of it is the first that is wrong. `OutOfMemory`: there was no memory.
+    /// Reads the record that these bytes start with, whose gate is at byte `at` of the disk, and returns its length.
+    /// `Damaged`: this field of it is the first bad one. `OutOfMemory`: there was no memory.
     pub fn read_record(&mut self, alloc: Global, rest: &[u8], at: u64) -> Result<usize, OpenFault>
         requires kept { AreKept self.old }
         requires limit { length self.old.free ≤ 16777216 }

@@ -16,7 +16,7 @@ use crate::padding::check_padding;
 use crate::{damaged, rounded, u32_at};
 use journal_layout::{Field, OpenFault};
 
-// A record tells at least one number, and as many as fit its length.
+// A record has at least one number, and as many as fit its length.
 fn check_count(rest: &[u8], at: u64) -> Result<(), OpenFault>
     requires head { IsHeaded rest.now }
     requires disk { at + length rest.now ≤ 2 ^ 63 }
@@ -30,7 +30,7 @@ fn check_count(rest: &[u8], at: u64) -> Result<(), OpenFault>
     Ok(())
 }
 
-// Whether a case may not be dropped: there is none of this number, or it is pinned.
+// Whether a case may not be dropped: no case has this number, or it is pinned.
 fn is_kept(live: &LiveCases, seq: u32) -> bool
     requires { AreNumbered 0 (2 ^ 32) live.now.entries }
     ensures { result ≡ is_kept (case_numbered seq (cases_of live.now.entries)) }

@@ -1,4 +1,4 @@
-// What every record begins with.
+// The first fields of every record.
 ghost use Rattle.std.specs.Prelude.{◌≡◌, ◌+◌, ◌^◌, ◌<◌, ◌≤◌, length, IfOk, OnOk};
 ghost use Rattle.std.specs.Result.{result_err};
 ghost use Rattle.journal_layout.specs.Reading.{kind_at, length_at};
@@ -10,7 +10,7 @@ use crate::{damaged, u16_at, u32_at};
 use journal_layout::{Field, OpenFault};
 
 /// The checks of a record's head: 17 bytes are left, the kind is one of this version's, the two bytes after it are zeros,
-/// and the length is that of a record which lies in the half with the gate after it. Tells the kind.
+/// and the length is that of a record which lies in the half with the gate after it. Returns the kind.
 pub(crate) fn check_head(version: u32, rest: &[u8], at: u64) -> Result<RecordKind, OpenFault>
     requires { at + length rest.now ≤ 2 ^ 63 }
     ensures fault { result_err result ≡ first_failing at (head_checks version rest.now) }

@@ -5,7 +5,7 @@ ghost use Rattle.std.specs.Option.{is_none};
 ghost use Rattle.journal_layout.specs.Soundness.{last_kind};
 ghost use Rattle.journal_records.specs.Head.{byte_of};
 
-/// What a record tells, by the byte after its gate.
+/// The kind of a record, by the byte after its gate.
 #[derive(Clone, Copy)]
 pub(crate) enum RecordKind {
     /// A case begins.

@@ -40,7 +40,7 @@ pub(crate) fn check_label(live: &LiveCases, rest: &[u8], at: u64) -> Result<(), 
     check_padding(rest, at, 16 + usize::from(length))
 }
 
-/// The label that a Label record tells.
+/// The label that a Label record gives.
 pub(crate) fn label_at(rest: &[u8]) -> Label
     requires short { label_length_at rest.now ≤ 64 }
     requires in_half { 16 + label_length_at rest.now ≤ length rest.now }

@@ -1,5 +1,5 @@
-//! The codec of journal records: how each is spelled, and what the records of a half say, its cases and the number of
-//! the next one.
+//! The codec of journal records: the spelling of each, and the meaning
+//! of the records of a half, its cases and the number of the next one.
 #![tactic(auto)]
 
 mod cases;
@@ -8,6 +8,7 @@ mod fields;
 mod head;
 mod kind;
 mod label;
+mod laws;
 mod live_cases;
 mod names;
 mod next;
@@ -19,6 +20,7 @@ mod spelling;
 mod store;
 
 pub(crate) use fields::{damaged, rounded, u16_at, u32_at, u64_at};
+pub use laws::a_faulty_record_is_not_skipped;
 pub use names::{NameKey, name_key};
 pub use reading::{Replayed, replay};
 pub use spelling::{

@@ -1,5 +1,5 @@
 // The live cases. They are stored in the order of their numbers, so a binary search finds each. One that ends stays where it
-// is, and its number is noted: what ended is taken out once, at the end of a reading.
+// is, and its number is noted: the ended ones are taken out once, at the end of a reading.
 ghost use Rattle.std.specs.Prelude.{◌≡◌, ℕ, ◌+◌, ◌<◌, ◌≤◌, ◌++◌, ◌∷◌, [], false, not, length, is_some, IfSome, OnOk, IsTrue, None};
 ghost use Rattle.std.specs.List.{HoldsAt, filter};
 ghost use Rattle.std.specs.Option.{option_copied};
@@ -54,7 +54,7 @@ impl LiveCases {
         entry_of(&self.stored, &self.ended, seq)
     }
 
-    /// Pins the case of this number, or unpins it. If there is none, nothing changes.
+    /// Pins the case of this number, or unpins it. If no case has it, nothing changes.
     pub fn set_pin(&mut self, seq: u32, flag: bool)
         ensures entries { self.new.entries ≡ changed_in seq (with_flag flag) self.old.entries }
         ensures end { self.new.end ≡ self.old.end }
@@ -64,7 +64,7 @@ impl LiveCases {
         }
     }
 
-    /// Gives the case of this number a label. If there is none, nothing changes.
+    /// Gives the case of this number a label. If no case has it, nothing changes.
     pub fn set_label(&mut self, seq: u32, label: Label)
         ensures entries { self.new.entries ≡ changed_in seq (with_text label) self.old.entries }
         ensures end { self.new.end ≡ self.old.end }

@@ -13,7 +13,7 @@ use byteorder::{BigEndian, ByteOrder};
 use journal_layout::{Field, Name, OpenFault};
 use std::collections::BTreeSet;
 
-/// A name as a set of names keeps it, behind a number that tells it from most others. Many names begin alike and end in
+/// A name as a set of names keeps it, behind a number that differs for most names. Many names start alike and end in
 /// other digits, so the number is that of the last bytes.
 pub type NameKey = (u64, Name);
 
@@ -35,7 +35,7 @@ pub fn name_key(name: &Name) -> NameKey
     (last_number(bytes), Name::try_from(bytes).unwrap())
 }
 
-/// Where the name of a Store record ends.
+/// The end of the name of a Store record.
 pub(crate) fn name_end(rest: &[u8]) -> usize
     requires { 48 ≤ length rest.now }
     ensures { result ≡ name_place rest.now + name_length_at rest.now }
@@ -54,7 +54,7 @@ fn name_at(rest: &[u8]) -> Name
     Name::try_from(&rest[place..place + length]).unwrap()
 }
 
-/// The name of a Store record, which has no NUL and is none of these. It is one of them from here on.
+/// The name of a Store record, which has no NUL and is not in this set. It is in the set from here on.
 pub(crate) fn take_name(
     names: &mut BTreeSet<NameKey>,
     rest: &[u8],

@@ -9,7 +9,7 @@ ghost use Rattle.journal_records.specs.Head.{IsHeaded};
 use crate::{damaged, u32_at, u64_at};
 use journal_layout::{Field, OpenFault};
 
-/// The number that a Next record tells, which may not be below `next` and is at most 2^32.
+/// The number that a Next record gives, which may not be below `next` and is at most 2^32.
 pub(crate) fn read_next(rest: &[u8], at: u64, next: u64) -> Result<u64, OpenFault>
     requires head { IsHeaded rest.now }
     requires disk { at + length rest.now ≤ 2 ^ 63 }

@@ -3,7 +3,7 @@ ghost use Rattle.std.specs.Prelude.{◌≡◌, ◌+◌, ◌^◌, ◌<◌, ◌≤
 ghost use Rattle.journal_layout.specs.Case.{case_of};
 ghost use Rattle.journal_layout.specs.Folding.{nothing_yet};
 ghost use Rattle.journal_records.specs.Kept.{Says, AreNames, IsSpareMap};
-ghost use Rattle.journal_records.specs.Said.{said_of, EndsIn, TellsFaulty, ReadsAll};
+ghost use Rattle.journal_records.specs.Said.{said_of, EndsIn, SaysFaulty, ReadsAll};
 ghost use Rattle.journal_layout.specs.Stands.{AreRead};
 
 use crate::GATE_OPEN;
@@ -14,7 +14,7 @@ use journal_layout::{Entry, OpenFault};
 use std::alloc::Global;
 use std::collections::BTreeSet;
 
-/// What the records of a half say.
+/// The meaning of the records of a half.
 #[derive(Drop)]
 pub struct Replayed {
     /// The live cases, in the order of their numbers.
@@ -25,13 +25,14 @@ pub struct Replayed {
     pub free: FreeMap,
     /// The number of the next case, 1 to 2^32.
     pub next: u64,
-    /// Where the last record begins, in bytes from where the first one begins, if there is one.
+    /// The start of the last record, in bytes from the start of the first one, if there is one.
     pub last: Option<u64>,
     /// The bytes of the records. The gate after them is not open.
     pub size: u64,
 }
 
-// Reads the records up to the first gate that is not open. Tells where the last one begins, if there is one, and their bytes.
+// Reads the records up to the first gate that is not open. Returns
+// where the last one starts, if there is one, and their bytes.
 fn read_records(
     cases: &mut Cases,
     alloc: Global,
@@ -69,7 +70,7 @@ pub fn replay(
     requires places { at + length bytes.now ≤ 2 ^ 63 }
     requires blocks { data_blocks ≤ 16777216 }
     ensures read { IfOk result (λ r. AreRead data_blocks bytes.now (nothing_yet version) (said_of version r) r.size) }
-    ensures fault { IfErr result (TellsFaulty data_blocks version at bytes.now) }
+    ensures fault { IfErr result (SaysFaulty data_blocks version at bytes.now) }
     ensures last { IfOk result (λ r. EndsIn data_blocks version bytes.now r.last r.size) }
     ensures names { IfOk result (λ r. AreNames (map case_of r.entries.items) r.names) }
     ensures free { IfOk result (λ r. IsSpareMap data_blocks (map case_of r.entries.items) r.free) }

@@ -1,4 +1,4 @@
-// The spelling of records. A buffer grows before anything is added, so there is room for what is added.
+// The spelling of records. A buffer grows before anything is added, so there is always room.
 ghost use Rattle.std.specs.Prelude.{◌≡◌, ℕ, ◌+◌, ◌*◌, ◌<◌, ◌≤◌, ◌^◌, ◌++◌, [], ◌∷◌, ◌-◌, length, take, replicate, IfOk, OnOk, IsOk, vec_len, vec_capacity};
 ghost use Rattle.std.specs.List.{flat_map};
 ghost use Rattle.extents.specs.Runs.{runs_of};
@@ -26,7 +26,8 @@ pub fn store_size(entry: &Entry) -> u64
     rounded(48 + 8 * entry.runs.runs().len() as u64 + entry.name.len() as u64)
 }
 
-/// The bytes of the records that say a case with this label: its Store record, and the label's where it is not empty.
+/// The bytes of the records for a case with this label: its Store
+/// record, and the label's record if the label is not empty.
 pub fn case_size(entry: &Entry, label: &Label) -> u64
     requires { length entry.now.runs ≤ 2 ^ 52 }
     ensures { (seq : ℕ) → result
@@ -85,7 +86,7 @@ fn fill(bytes: &mut Vec<u8>, size: u64)
     bytes.resize(size as usize, 0).unwrap();
 }
 
-// What follows the gate of a record of this kind and size, up to its body.
+// The bytes after the gate of a record of this kind and size, up to its body.
 #[tactic(auto, unfolding(journal_layout::specs::Layout::number_bytes))]
 fn head(kind: u8, size: u32) -> [u8; 7]
     ensures bytes { result ≡ (kind ∷ 0 ∷ 0 ∷ []) ++ number_bytes 4 size }
@@ -205,8 +206,8 @@ fn short_size(entry: &Entry) -> u64
     rounded(48 + 8 * entry.runs.runs().len() as u64 + entry.name.len() as u64)
 }
 
-/// Spells the Store record of a case under this number, pinned or not, its gate open, in place of what the buffer held.
-/// Where the record lies within the buffer's capacity, it succeeds, and the capacity never shrinks.
+/// Replaces the content of the buffer by the Store record of a case under this number, pinned or not, its gate open. If
+/// the record fits into the buffer's capacity, it succeeds, and the capacity never shrinks.
 pub fn spell_store(
     bytes: &mut Vec<u8>,
     seq: u32,
@@ -295,7 +296,7 @@ pub fn label_record(alloc: Global, seq: u32, label: &[u8], size: u64) -> Result<
     Ok(bytes)
 }
 
-/// Spells the record of a case's label, its gate open, in place of what the buffer held. Where the record lies within the
+/// Replaces the content of the buffer by the record of a case's label, its gate open. If the record fits into the
 /// buffer's capacity, it succeeds, and the capacity never shrinks.
 pub fn spell_label(bytes: &mut Vec<u8>, seq: u32, label: &[u8]) -> Result<(), AllocError>
     requires { length label.now ≤ 64 }

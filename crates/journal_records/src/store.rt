@@ -25,7 +25,7 @@ fn is_bad_count(rest: &[u8]) -> bool
         || rounded(48 + 8 * u64::from(u32_at(rest, 40)) + u64::from(u16_at(rest, 14))) != length
 }
 
-/// The checks of a Store record up to its runs, where the next case has the number `next`.
+/// The checks of a Store record up to its runs, if the next case has the number `next`.
 pub(crate) fn check_facts(rest: &[u8], at: u64, next: u64) -> Result<(), OpenFault>
     requires head { IsHeaded rest.now }
     requires disk { at + length rest.now ≤ 2 ^ 63 }
@@ -69,7 +69,7 @@ pub(crate) fn check_image(rest: &[u8], at: u64, blocks: u64) -> Result<(), OpenF
     Ok(())
 }
 
-/// The case that a Store record tells, with its name and its blocks, and no label.
+/// The case that a Store record gives, with its name and its blocks, and no label.
 pub(crate) fn entry_at(rest: &[u8], name: Name, runs: RunList) -> Entry
     requires in_half { 48 ≤ length rest.now }
     ensures { case_of result ≡ record (case_at rest.now) { origin = record (origin_at rest.now) { name = name.items }; blocks = runs } }

@@ -1,4 +1,4 @@
--- What a change makes of a list of cases, one case after another.
+-- The effect of a change on a list of cases, one case after another.
 use Rattle.std.proofs.Common.{◌≡◌, ◌+◌, ℕ, Bool, Option, length, arith, true, false, not, List, [], ◌∷◌, ◌++◌, map, refl, ap, ◌∙◌, sym, Some, None, cond, ◌==◌}
 use Rattle.std.proofs.lemmas.Grind.{flat_map-append}
 use Rattle.std.proofs.lemmas.List.{append-nil, length-append}
@@ -117,7 +117,7 @@ pub sizes_spelled : (rs : List Record) → length (flat_map spelling rs) ≡ siz
 sizes_spelled [] = refl
 sizes_spelled (r ∷ rs) = length-append (spelling r) (flat_map spelling rs) ∙ omega (arith, length-spelling r, sizes_spelled rs)
 
--- what is written anew takes as many bytes as the records that say it, after the header
+-- the new snapshot takes as many bytes as its records, after the header
 pub snapshot_bytes_are : (ch : Change) (es : List Entry) (f : Folded) → f.cases ≡ map case_of es → snapshot_bytes ch es ≡ snapshot_size (changed ch f)
 snapshot_bytes_are ch es f is =
     let cases : List Case = (changed ch f).cases in

@@ -1,4 +1,4 @@
--- What a change makes of the cases of a journal.
+-- The effect of a change on the cases of a journal.
 use Rattle.std.specs.Prelude.{ℕ, ◌+◌, Bool, List, [], ◌∷◌, if◌then◌else◌, ◌==◌, Option, Some, None}
 use Rattle.std.specs.List.{flat_map}
 use Rattle.journal_layout.specs.Case.{Case, case_of, numbered}
@@ -9,7 +9,7 @@ use Rattle.journal_layout.specs.Rewriting.{in_version_two}
 use Rattle.journal_snapshot.specs.declared.change.Change.{Change}
 use Rattle.journal_snapshot.specs.declared.change.Change.TheVariants as change
 
--- what the journal says after it
+-- the cases and the next number after it
 abbrev pub changed : Change → Folded → Folded
 changed change.Nothing f = f
 changed (change.Store seq e) f = after (Store (numbered seq (case_of e.now))) f
@@ -23,7 +23,7 @@ abbrev pub IsOrdered : Change → Type 0
 IsOrdered (change.Drop seqs) = Rise 0 seqs.now
 IsOrdered _ = Unit {0}
 
--- whether a case is pinned after it, where it stays
+-- whether a case is pinned after it, if it stays
 abbrev pub flag_after : Change → Case → Option Bool
 flag_after change.Nothing c = Some c.pinned
 flag_after (change.Store seq e) c = Some c.pinned
@@ -32,7 +32,7 @@ flag_after (change.Pin seq flag) c = Some (if c.seq == seq then flag else c.pinn
 flag_after (change.Label seq label) c = Some c.pinned
 flag_after change.Upgrade c = Some c.pinned
 
--- the label of a case after it, where it stays
+-- the label of a case after it, if it stays
 abbrev pub label_after : Change → Case → List ℕ
 label_after (change.Label seq label) c = if c.seq == seq then label.now.items else c.label
 label_after _ c = c.label

@@ -1,4 +1,4 @@
--- What a run of disk calls leaves in doubt.
+-- The bytes that a run of disk calls leaves in doubt.
 use Rattle.std.proofs.Common.{◌≡◌, ◌≢◌, ◌⊎◌, inl, inr, ⊎_elim, ℕ, ◌+◌, ◌<◌, ◌≤◌, List, slice_index, IsTrue, sym, ap, ◌∙◌, arith}
 use Rattle.std.proofs.lemmas.Bool.{cases_lt}
 use Rattle.disk_model.specs.PartLaws.{place_before, place_after}
@@ -16,7 +16,7 @@ module _ {D : Type 0} (g : disk.Ghosts D) (shape : Shape) where
   pub front_differs : (d : D) (P : ℕ → Type 0) → ((c : List ℕ) → g.may_leave d c → SameFront shape (g.seen d) c) → DiffersAt g d shape P
   front_differs d P front c p may low = inr (front_place shape (g.seen d) c p (omega (arith, low)) (front c may))
 
-  -- or if a crash leaves what reads give
+  -- or if a crash leaves the bytes that reads give
   pub settled_differs : (d : D) (P : ℕ → Type 0) → IsSettled g d → DiffersAt g d shape P
   settled_differs d P settled c p may low = inr (ap (λ (l : List ℕ). slice_index l p) (settled c may))
 
@@ -42,7 +42,7 @@ module _ {D : Type 0} (g : disk.Ghosts D) (shape : Shape) where
     gate_differs gate fills =
         differs_wider new (λ p. (gate ≤ p) × (p < gate + 1)) (λ p. p ≡ gate) (λ p range. let low = range.0 in let high = range.1 in omega (arith, low, high)) (filled_differs gate 1 fills)
 
-    -- and writes that begin after a gate change only what is after it
+    -- writes that start after a gate change only bytes after it
     pub behind_differs : (gate n end : ℕ) → gate + 1 + n ≤ end → Fills g old new (gate + 1) n → DiffersAt g new shape (λ p. (gate < p) × (p < end))
     behind_differs gate n end within fills =
         differs_wider new (λ p. (gate + 1 ≤ p) × (p < gate + 1 + n)) (λ p. (gate < p) × (p < end))

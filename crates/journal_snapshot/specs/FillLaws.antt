@@ -47,14 +47,14 @@ module _ {D : Type 0} (g : disk.Ghosts D) (at n : ℕ) where
     size = fills.size;
   }
 
--- what is there once more bytes are written after those that are there
+-- the bytes that are there once more bytes are written after the first ones
 pub part_grown : (b c : List ℕ) (p n m : ℕ) (xs ys : List ℕ) → SameOutside (p + n) m b c → part b p n ≡ xs → part c (p + n) m ≡ ys → part c p (n + m) ≡ xs ++ ys
 part_grown b c p n m xs ys same first second =
     part_split c p n m
     ∙ ap (λ (l : List ℕ). l ++ part c (p + n) m) (part_before (p + n) m b c same p n (omega arith) ∙ first)
     ∙ ap (λ (l : List ℕ). xs ++ l) second
 
--- a run that leaves only what is changed in the range
+-- a run that leaves only changes in the range
 pub fills_of : {D : Type 0} (g : disk.Ghosts D) (at n : ℕ) (old new : D) → ((t : ℕ) (c : List ℕ) → t ≤ g.clock new → g.may_leave new c → g.left_since new t c)
     → (IsTrue (g.is_honest old) → LeavesOnly g old new (ChangedIn at n (g.may_leave old))) → (IsTrue (g.is_honest old) → SameOutside at n (g.seen old) (g.seen new))
     → g.is_honest new ≡ g.is_honest old → g.size new ≡ g.size old → Fills g old new at n

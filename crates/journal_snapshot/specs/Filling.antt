@@ -1,4 +1,4 @@
--- What a run of disk calls does that writes a range of bytes, and nothing else.
+-- The effect of a run of disk calls that writes a range of bytes, and nothing else.
 use Rattle.std.specs.Prelude.{◌≡◌, ℕ, List, IsTrue}
 use Rattle.disk_model.specs.Places.{SameOutside}
 use Rattle.disk_model.specs.Disk.{ChangedIn}
@@ -9,7 +9,7 @@ use Rattle.disk_model.specs.declared.disk.Disk as disk
 pub record Fills {D : Type 0} (g : disk.Ghosts D) (old new : D) (at n : ℕ) : Type 0 where
   pub moments : IsTrue (g.is_honest old) → LeavesOnly g old new (ChangedIn at n (g.may_leave old))
   pub others : IsTrue (g.is_honest old) → SameOutside at n (g.seen old) (g.seen new)
-  -- what a crash leaves after it
+  -- the bytes that a crash leaves after it
   pub left : IsTrue (g.is_honest old) → (c : List ℕ) → g.may_leave new c → ChangedIn at n (g.may_leave old) c
   pub honesty : g.is_honest new ≡ g.is_honest old
   pub size : g.size new ≡ g.size old

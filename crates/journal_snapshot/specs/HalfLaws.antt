@@ -30,6 +30,6 @@ half_bytes_length target ch es =
       length-spelling (Next target.next),
     )
 
--- what fits into n bytes fits into more
+-- entries that fit into n bytes fit into more
 pub at_most_more : (n m : ℕ) (ch : Change) (es : List Entry) → n ≤ m → AreAtMost n ch es → AreAtMost m ch es
 at_most_more n m ch es low most = λ k d below. omega (arith, most k d below, low)

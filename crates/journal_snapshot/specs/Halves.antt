@@ -1,4 +1,4 @@
--- What a half holds after its gate, once a journal is written anew into it.
+-- The bytes of a half after its gate, once a journal is written anew into it.
 use Rattle.std.specs.Prelude.{◌≡◌, ℕ, ◌+◌, List, [], ◌∷◌, ◌++◌, map}
 use Rattle.journal_layout.specs.declared.entry.Entry.{Entry}
 use Rattle.journal_layout.specs.Layout.{half_header}
@@ -16,7 +16,7 @@ use Rattle.journal_snapshot.specs.Writing.{written_entries, written_added}
 abbrev pub half_bytes : Target → Change → List Entry → List ℕ
 half_bytes target ch es = ((half_header target.version target.generation ++ written_entries ch es) ++ written_added ch) ++ (spelling (Next target.next) ++ 0 ∷ [])
 
--- What the journal says then is what the change makes of these entries, and it may be written there.
+-- The change of these entries gives these cases and this next number, and they may be written there.
 pub record IsWrittenAs (s : Standing) (f : Folded) (target : Target) (ch : Change) (es : List Entry) : Type 0 where
   pub place : target.start ≡ other_start s
   pub version : target.version ≡ f.version

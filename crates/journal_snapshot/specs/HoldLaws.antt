@@ -1,4 +1,4 @@
--- What a disk encodes while the other half of its journal is written.
+-- The archive that a disk encodes while the other half of its journal is written.
 use Rattle.std.proofs.Common.{◌≡◌, ◌≢◌, ◌⊎◌, inl, inr, ⊎_elim, ℕ, ◌+◌, ◌≤◌, List, [], ◌∷◌, length, get_or, slice_index, IsTrue, Result, Ok, Err, OnOk, refl, sym, ap, ◌∙◌, subst, arith}
 use Rattle.std.proofs.lemmas.Bool.{cases_eq}
 use Rattle.disk_model.specs.Disk.{ChangedIn}
@@ -40,11 +40,11 @@ front_place shape b c p low same =
     ∙ ap (λ (l : List ℕ). get_or l p 0) same
     ∙ part_place b 0 (data_start shape) p 0 (omega (arith, low)) ∙ ap (slice_index b) e
 
--- so does the gate of the other half
+-- the gate of the other half is the same too
 pub same_gate : (s : Standing) (b c : List ℕ) → IsWithinLimits s.shape → SameFront s.shape b c → slice_index c (other_start s) ≡ slice_index b (other_start s)
 same_gate s b c limits same = front_place s.shape b c (other_start s) (start_low s.shape (other_half s.half) limits) same
 
--- a change after the gate of the other half, which is not open, leaves what is encoded
+-- a change after the gate of the other half, which is not open, keeps the archive that is encoded
 module _ (s : Standing) (at n : ℕ) (low : other_start s + 1 ≤ at) (high : at + n ≤ other_start s + half_length s.shape) where
   pub gate_apart : (d c : List ℕ) → SameOutside at n d c → slice_index d (other_start s) ≢ 165 → slice_index c (other_start s) ≢ 165
   gate_apart d c same closed opened = closed (sym (place_before at n d c same (other_start s) 0 (omega arith)) ∙ opened)
@@ -104,7 +104,7 @@ taking_stands s f d c stands may snapshot same =
     (λ closed. inl (closed_stands s d c stands same closed))
     (cases_eq (slice_index c (other_start s)) 165)
 
--- what follows from what an Ok says
+-- a consequence of the property that an Ok promises
 pub on_ok : {T E : Type 0} → (r : Result T E) (P Q : Type 0) → (P → Q) → OnOk r P → OnOk r Q
 on_ok (Ok x) P Q implies p = implies p
 on_ok (Err e) P Q implies p = p
@@ -156,7 +156,7 @@ closed_in_other_half g s new b stands within settled is =
       closed = λ c may. subst (λ (x : List ℕ). slice_index x (other_start s) ≢ 165) (sym (settled c may ∙ is)) shut;
     }
 
--- and then reads give what a crash leaves
+-- then a crash leaves the bytes that reads give
 pub closed_holds : {D : Type 0} (g : disk.Ghosts D) (s : Standing) (new : D) (b : List ℕ) → Stands b s → other_start s + 1 ≤ length b → IsSettled g new
     → g.seen new ≡ overwritten b (other_start s) (0 ∷ []) → Holds g new s
 closed_holds g s new b stands within settled is = record {
@@ -182,7 +182,7 @@ closing_moments g s old new start place honest holds sized within opened fills =
     (subst (λ (p : ℕ). SameOutside p 1 changed.0 c) place changed.2))
     (fills.moments honest)
 
--- a call that changes nothing holds what held
+-- a call that changes nothing keeps the invariant
 pub holds_on : {D : Type 0} (g : disk.Ghosts D) (s : Standing) (old new : D) → g.seen new ≡ g.seen old → ((c : List ℕ) → g.may_leave new c → g.may_leave old c) → Holds g old s → Holds g new s
 holds_on g s old new seen crash holds = record {
   stands = λ c may. holds.stands c (crash c may);

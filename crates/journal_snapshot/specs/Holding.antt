@@ -1,4 +1,4 @@
--- What a disk and a journal have in common, while its records are appended to and while its other half is written.
+-- The agreement between a disk and a journal, while its records are appended to and while its other half is written.
 use Rattle.std.specs.Prelude.{◌≡◌, ◌≢◌, ℕ, List, slice_index}
 use Rattle.disk_model.specs.Places.{part}
 use Rattle.disk_model.specs.Moments.{IsSettled}
@@ -20,17 +20,19 @@ pub record SameHeaders (s : Shape) (b c : List ℕ) : Type 0 where
   pub first : part c (half_start s A) 32 ≡ part b (half_start s A) 32
   pub second : part c (half_start s B) 32 ≡ part b (half_start s B) 32
 
--- Every list that a crash now may leave encodes the journal, and is up to the data blocks what reads give.
+-- Every list that a crash now may leave encodes the journal, and agrees up to the data blocks with the bytes that reads give.
 pub record Holds {D : Type 0} (g : disk.Ghosts D) (d : D) (s : Standing) : Type 0 where
   pub stands : (c : List ℕ) → g.may_leave d c → Stands c s
   pub front : (c : List ℕ) → g.may_leave d c → SameFront s.shape (g.seen d) c
 
--- Every list that a crash now may leave encodes the journal, and the gate of its other half is not open in it, so that what else that half holds is not looked at.
+-- Every list that a crash now may leave encodes the journal, and the gate of its
+-- other half is not open in it, so that the other bytes of that half are not read.
 pub record StandsInOtherHalf {D : Type 0} (g : disk.Ghosts D) (d : D) (s : Standing) : Type 0 where
   pub stands : (c : List ℕ) → g.may_leave d c → Stands c s
   pub closed : (c : List ℕ) → g.may_leave d c → slice_index c (other_start s) ≢ 165
 
--- A crash leaves what reads give: it encodes the journal, and a half holds all that says this after the other gate, which is not open.
+-- A crash leaves the bytes that reads give: they encode the journal, and a
+-- half holds all that says this after the other gate, which is not open.
 pub record IsReady {D : Type 0} (g : disk.Ghosts D) (d : D) (s : Standing) (f : Folded) : Type 0 where
   pub settled : IsSettled g d
   pub stands : Stands (g.seen d) s

@@ -1,4 +1,4 @@
--- What is written of a journal's cases into its other half.
+-- The bytes of a journal's cases that are written into its other half.
 use Rattle.std.specs.Prelude.{◌≡◌, ℕ, ◌+◌, ◌≤◌, Bool, List, [], ◌∷◌, ◌++◌, length, IsTrue, Option, Some, None, Result, OnOk, IfOk}
 use Rattle.std.specs.List.{flat_map, All}
 use Rattle.disk_model.specs.Places.{part}
@@ -20,7 +20,7 @@ stored_as seq e flag = record (numbered seq (case_of e)) { pinned = flag }
 abbrev pub written : ℕ → Entry → Bool → List ℕ
 written seq e flag = spelling (Store (stored_as seq e flag))
 
--- those of the record of its label, where it is not empty
+-- those of the record of its label, if the label is not empty
 abbrev pub written_label : ℕ → List ℕ → List ℕ
 written_label seq [] = []
 written_label seq (b ∷ rest) = spelling (Label seq (b ∷ rest))
@@ -29,7 +29,7 @@ written_label seq (b ∷ rest) = spelling (Label seq (b ∷ rest))
 abbrev pub written_case : ℕ → Entry → Bool → List ℕ → List ℕ
 written_case seq e flag text = written seq e flag ++ written_label seq text
 
--- the bytes of an entry's records, where it stays
+-- the bytes of an entry's records, if it stays
 abbrev pub written_flag : Entry → Option Bool → List ℕ → List ℕ
 written_flag e None text = []
 written_flag e (Some flag) text = written_case e.seq e flag text
@@ -50,8 +50,8 @@ written_added _ = []
 abbrev pub AreAtMost : ℕ → Change → List Entry → Type 0
 AreAtMost most ch es = All (λ (e : Entry). length (written_entry ch e) ≤ most) es
 
--- These bytes are written from place at on, and nothing else is: where the disk failed, some of them may be. The answer is
--- where they end.
+-- These bytes are written from place at on, and nothing else is: if the
+-- disk failed, some of them may be. The answer is the place where they end.
 pub record Writes {D : Type 0} (g : disk.Ghosts D) (old new : D) (at : ℕ) (bytes : List ℕ) (result : Result ℕ DiskFault) : Type 0 where
   pub fills : Fills g old new at (length bytes)
   pub there : IsTrue (g.is_honest old) → OnOk result (part (g.seen new) at (length bytes) ≡ bytes)

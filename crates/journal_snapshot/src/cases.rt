@@ -11,7 +11,7 @@ use disk_model::{Disk, DiskFault};
 use journal_layout::{Entry, Label};
 use journal_records::{spell_label, spell_store};
 
-// Writes the Store record of a case, its gate open, by one write. Answers where it ends.
+// Writes the Store record of a case, its gate open, by one write. Returns the place where it ends.
 fn write_store<D: Disk>(
     disk: &mut D,
     at: u64,
@@ -32,7 +32,7 @@ fn write_store<D: Disk>(
     Ok(at + buffer.len() as u64)
 }
 
-// Writes the record of a label, its gate open, by one write. Answers where it ends.
+// Writes the record of a label, its gate open, by one write. Returns the place where it ends.
 fn write_text<D: Disk>(
     disk: &mut D,
     at: u64,
@@ -52,7 +52,7 @@ fn write_text<D: Disk>(
     Ok(at + buffer.len() as u64)
 }
 
-// Writes the record of a case's label, where it is not empty.
+// Writes the record of a case's label, if the label is not empty.
 fn write_label<D: Disk>(
     disk: &mut D,
     at: u64,
@@ -93,7 +93,7 @@ fn write_case<D: Disk>(
     write_label(disk, at, seq, label, buffer)
 }
 
-// Writes the records of an entry, where it stays.
+// Writes the records of an entry, if it stays.
 fn write_entry<D: Disk>(
     disk: &mut D,
     at: u64,
@@ -116,7 +116,7 @@ fn write_entry<D: Disk>(
     write_case(disk, at, entry.seq, entry, pinned, label, buffer)
 }
 
-/// Writes the records of those of these entries that stay, in their order, from place `at` on. Answers where they end.
+/// Writes the records of those of these entries that stay, in their order, from place `at` on. Returns the place where they end.
 pub(crate) fn write_entries<D: Disk>(
     disk: &mut D,
     start: u64,
@@ -139,7 +139,7 @@ pub(crate) fn write_entries<D: Disk>(
     Ok(at)
 }
 
-/// Writes the records of the case that comes by a change, where one does.
+/// Writes the records of the case that comes by a change, if one does.
 pub(crate) fn write_added<D: Disk>(
     disk: &mut D,
     at: u64,

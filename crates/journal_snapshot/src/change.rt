@@ -1,4 +1,4 @@
-// What is to become of a journal's cases.
+// A change of a journal's cases.
 ghost use Rattle.std.specs.Prelude.{◌≡◌, ◌==◌, ℕ, if◌then◌else◌, Some, None};
 ghost use Rattle.journal_layout.specs.Folding.{is_among};
 ghost use Rattle.journal_layout.specs.Soundness.{Rise};
@@ -7,7 +7,7 @@ ghost use Rattle.journal_snapshot.specs.Changing.{flag_after, label_after, IsOrd
 
 use journal_layout::{Entry, Label};
 
-/// What is to become of a journal's cases.
+/// A change of a journal's cases.
 #[derive(Clone, Copy)]
 pub enum Change<'a> {
     /// They stay as they are.
@@ -25,7 +25,7 @@ pub enum Change<'a> {
 }
 
 impl Change<'_> {
-    /// Whether a case is pinned then; none where it is gone.
+    /// Whether a case is pinned then; `None` if it is gone.
     pub(crate) fn flag_of(&self, entry: &Entry) -> Option<bool>
         requires { IsOrdered self.now }
         ensures { result ≡ flag_after self.now (case_of entry.now) }
@@ -40,7 +40,7 @@ impl Change<'_> {
         }
     }
 
-    /// The label of a case then, where it is not gone.
+    /// The label of a case then, if it is not gone.
     pub(crate) fn label_of<'b>(&'b self, entry: &'b Entry) -> &'b Label
         ensures { result.now.items ≡ label_after self.now (case_of entry.now) }
     {

@@ -11,8 +11,8 @@ ghost use Rattle.journal_snapshot.specs.Holding.{Holds, StandsInOtherHalf};
 use disk_model::{Disk, DiskFault, write_stable};
 use journal_records::GATE_OPEN;
 
-/// Closes the gate of the half that begins at `start`, which is not the taken one: where it reads open, by one write that
-/// is made stable, and else by nothing. A crash meanwhile leaves bytes that encode what was encoded before.
+/// Closes the gate of the half that starts at `start`, which is not the taken one: if it reads open, by one write that is
+/// made stable, and otherwise by nothing. A crash meanwhile leaves bytes that encode the same archive as before.
 pub(crate) fn close_half<D: Disk>(disk: &mut D, start: u64) -> Result<(), DiskFault>
     requires { start + 1 ≤ D.size disk.old }
     ensures any_moment { (s : Standing) → start ≡ other_start s → IsTrue (D.is_honest disk.old)

@@ -6,7 +6,7 @@ ghost use Rattle.journal_snapshot.specs.Filling.{Fills};
 
 use disk_model::{Disk, DiskFault};
 
-/// Writes all of `bytes` from place `at` on by one disk call, which makes nothing stable. Answers `Write` where the disk
+/// Writes all of `bytes` from place `at` on by one disk call, which makes nothing stable. Answers `Write` if the disk
 /// failed.
 pub(crate) fn fill<D: Disk>(disk: &mut D, at: u64, bytes: &[u8]) -> Result<(), DiskFault>
     requires { at + length bytes.now ≤ D.size disk.old }

@@ -29,7 +29,7 @@ fn header(version: u32, generation: u64) -> [u8; 31]
     bytes
 }
 
-// Writes bytes by one write. Answers where they end.
+// Writes bytes by one write. Returns the place where they end.
 fn write_bytes<D: Disk>(disk: &mut D, at: u64, bytes: &[u8]) -> Result<u64, DiskFault>
     requires { at + length bytes.now ≤ D.size disk.old }
     ensures writes { Writes D.Disk disk.old disk.new at bytes.now result }

@@ -8,7 +8,7 @@ use crate::Change;
 use journal_layout::Entry;
 use journal_records::case_size;
 
-/// What a journal takes that is written anew.
+/// The size of a journal that is written anew.
 #[derive(Clone, Copy)]
 pub struct Measure {
     /// The bytes of the header and the records.
@@ -21,7 +21,7 @@ pub struct Measure {
 const LEAST: u64 = 48;
 
 impl Measure {
-    // With records of `size` bytes more; none where the gate after them passes the end of the half.
+    // With records of `size` bytes more; `None` if the gate after them passes the end of the half.
     fn with(self, size: u64, half: u64) -> Option<Measure>
         requires half { half ≤ 16777216 }
         requires in_half { self.used + 1 ≤ half }
@@ -37,7 +37,7 @@ impl Measure {
         })
     }
 
-    // With the records of an entry more, where it stays.
+    // With the records of one more entry, if it stays.
     fn with_entry(self, entry: &Entry, change: &Change, half: u64) -> Option<Measure>
         requires order { IsOrdered change.now }
         requires short { length entry.now.runs ≤ 2 ^ 52 }
@@ -51,7 +51,7 @@ impl Measure {
         }
     }
 
-    // With the records of the case that comes, where one does.
+    // With the records of the case that comes, if one does.
     fn with_added(self, change: &Change, half: u64) -> Option<Measure>
         requires short { IsShort change.now }
         requires half { half ≤ 16777216 }
@@ -69,8 +69,7 @@ impl Measure {
     }
 }
 
-/// Measures what a change makes of these cases; none where it does not fit into a half of `half` bytes with the gate after
-/// it.
+/// Measures the cases after a change; `None` if they do not fit into a half of `half` bytes with the gate after them.
 pub fn measured(entries: &[Entry], change: &Change, half: u64) -> Option<Measure>
     requires order { IsOrdered change.now }
     requires short { AreShort entries.now }

@@ -22,9 +22,9 @@ use crate::{Change, Target};
 use disk_model::{Disk, DiskFault};
 use journal_layout::Entry;
 
-/// Writes what a change makes of these cases into the half that is not taken, and takes it: closes that half's gate, writes
-/// its header and records after it and makes them stable, and opens the gate. A crash at any moment leaves what was there
-/// before or what is there after. Memory: the buffer, which has room for each record.
+/// Writes the cases after a change into the half that is not taken, and takes it: closes that half's gate, writes its
+/// header and records after it and makes them stable, and opens the gate. A crash at any moment leaves the old archive or
+/// the new one. Memory: the buffer, which has room for each record.
 pub fn rewrite<D: Disk>(
     disk: &mut D,
     target: Target,
@@ -42,7 +42,7 @@ pub fn rewrite<D: Disk>(
         → Holds D.Disk disk.old s → LeavesOnly D.Disk disk.old disk.new (λ c. Stands c s ⊎ Stands c (rewritten s f)) }
     ensures taken { (s : Standing) (f : Folded) → IsWrittenAs s f target change.now entries.now → IsTrue (D.is_honest disk.old)
         → Holds D.Disk disk.old s → OnOk result (Holds D.Disk disk.new (rewritten s f)) }
-    // Whenever it ends, only the gate of that half is in doubt, or, while it is closed, what is behind it.
+    // Whenever it ends, only the gate of that half is in doubt, or, while it is closed, the bytes behind it.
     ensures doubt { (s : Standing) (f : Folded) → IsWrittenAs s f target change.now entries.now → IsTrue (D.is_honest disk.old)
         → Holds D.Disk disk.old s → DoubtsGate D.Disk disk.new s.shape target.start (target.start + half_length s.shape) }
     ensures fills { Fills D.Disk disk.old disk.new target.start (1 + length (half_bytes target change.now entries.now)) }

@@ -12,8 +12,8 @@ ghost use Rattle.journal_snapshot.specs.Holding.{Holds, IsReady};
 use disk_model::{Disk, DiskFault, write_stable};
 use journal_records::GATE_OPEN;
 
-/// Opens the gate of the half that begins at `start`, by one write that is made stable. Where that half is ready, a crash
-/// meanwhile leaves bytes that encode what was encoded before or what the half says, and after `Ok` the latter.
+/// Opens the gate of the half that starts at `start`, by one write that is made stable. If that half is ready, a crash
+/// meanwhile leaves bytes that encode the old archive or that of the half, and after `Ok` the latter.
 pub(crate) fn take_half<D: Disk>(disk: &mut D, start: u64) -> Result<(), DiskFault>
     requires { start + 1 ≤ D.size disk.old }
     ensures any_moment { (s : Standing) (f : Folded) → start ≡ other_start s → IsTrue (D.is_honest disk.old)

@@ -1,4 +1,4 @@
-//! What each line of a script is for, in words for people.
+//! The help of each line of a script, in words for people.
 //!
 //! [`help_of`] finds the help of a line by its first word. [`LINES`] has all of them, in the order in which help shows them.
 #![tactic(auto)]

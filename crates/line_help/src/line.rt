@@ -6,9 +6,9 @@ pub struct LineHelp {
     pub name: &'static str,
     /// Its words.
     pub usage: &'static str,
-    /// What it does.
+    /// A description of its effect.
     pub does: &'static str,
-    /// What its reply shows before `ok`.
+    /// The text of its reply before `ok`.
     pub reply: &'static str,
     /// Its words as an example.
     pub example: &'static str,

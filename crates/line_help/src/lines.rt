@@ -95,7 +95,7 @@ pub static LINES: [LineHelp; 34] = [
         name: "regs",
         usage: "regs N T",
         does: "the registers of thread T",
-        reply: "NAME HEX for pc and x1 to x31",
+        reply: "NAME HEX for pc and x1 to x31, by their ABI names (a0 is x10)",
         example: "regs 3 0",
         reasons: "Stopped, NoCase, NotCore, OutOfMemory, Disk, a field of the headers or notes or of a typed note, NoThread",
     },
@@ -142,7 +142,7 @@ pub static LINES: [LineHelp; 34] = [
     LineHelp {
         name: "dump",
         usage: "dump N ADDR LEN",
-        does: "LEN bytes of memory from ADDR on, at most 65,536",
+        does: "LEN bytes of memory from ADDR on, at most 65,536; with --builds also from executables that store --build stored",
         reply: "ADDR HEX for each 16 bytes, or why there are none",
         example: "dump 3 0x11000 32",
         reasons: "Stopped, NoCase, NotCore, OutOfMemory, Disk, a field of the headers, notes or typed notes, Range",
@@ -158,7 +158,7 @@ pub static LINES: [LineHelp; 34] = [
     LineHelp {
         name: "find",
         usage: "find N HEX",
-        does: "each address from which on these bytes are",
+        does: "each address at which these bytes begin; with --builds also in executables that store --build stored",
         reply: "ADDR for each",
         example: "find 3 7f454c46",
         reasons: "Stopped, NoCase, NotCore, OutOfMemory, Disk, a field of the headers, notes or typed notes",

@@ -1,4 +1,4 @@
-// The rows of the lines that ask an image, by what each of their words is.
+// The rows of the lines that ask an image, by the kind of each word.
 
 /// The rows of a line of a script.
 pub struct LineRows {

@@ -1,2 +1,2 @@
-pub mod PlaceLemmas
 pub mod LineLemmas
+pub mod SectionLemmas

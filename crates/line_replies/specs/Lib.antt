@@ -1,3 +1,4 @@
 pub mod Source
 pub mod SourceWords
 pub mod Line
+pub mod LineWords

@@ -1,10 +1,20 @@
--- What the code's line tables mean.
-use Rattle.std.specs.Prelude.{Result, Ok, Err}
-use Rattle.line_tables.specs.Finding.{TablesView}
-use Rattle.line_tables.specs.FindingWords.{tables_view}
-use Rattle.line_tables.specs.declared.line_tables.LineTables.{LineTables}
+-- What the code's sections of line tables mean.
+use Rattle.std.specs.Prelude.{◌≡◌, ⊤, Result, Ok, Err}
+use Rattle.elf_view.specs.ViewWords.{image_of}
+use Rattle.line_tables.specs.Finding.{tables}
+use Rattle.section_data.specs.SectionWords.{bytes_in}
+use Rattle.line_replies.specs.Source.{SourcesView, compilations_in}
+use Rattle.line_replies.specs.declared.line_sections.LineSections.{LineSections}
 use Rattle.line_replies.specs.declared.source.NoTables.{NoTables}
+use Rattle.line_replies.specs.declared.source.NoTables.TheVariants.{Compressed, Missing, OutOfMemory}
 
-abbrev pub tables_result : Result LineTables NoTables → Result TablesView NoTables
-tables_result (Ok t) = Ok (tables_view t)
-tables_result (Err reason) = Err reason
+-- the line tables in them, and the compilations of their file
+abbrev pub sections_view : LineSections → SourcesView
+sections_view s = record { tables = tables (bytes_in s.lines) (bytes_in s.line_texts) (bytes_in s.texts); compilations = compilations_in (image_of s.elf) }
+
+-- They are these, or there are none for that reason, unless memory was refused.
+abbrev pub FindsSources : Result LineSections NoTables → Result SourcesView NoTables → Type 0
+FindsSources (Ok s) sources = sources ≡ Ok (sections_view s)
+FindsSources (Err Compressed) sources = sources ≡ Err Compressed
+FindsSources (Err Missing) sources = sources ≡ Err Missing
+FindsSources (Err OutOfMemory) sources = ⊤

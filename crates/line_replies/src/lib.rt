@@ -2,9 +2,11 @@
 #![tactic(auto)]
 
 mod line;
-mod place;
+mod line_sections;
 mod source;
+mod source_line;
 
-pub use line::tell_line;
-pub use place::tell_place;
+pub use line::print_line;
+pub use line_sections::LineSections;
 pub use source::{NoTables, line_source};
+pub use source_line::SourceLine;

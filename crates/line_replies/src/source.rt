@@ -1,69 +1,81 @@
 // Where the line tables of an executable are.
-ghost use Rattle.std.specs.Prelude.{◌≡◌};
+ghost use Rattle.std.specs.Prelude.{◌≡◌, IfOk};
 ghost use Rattle.std.specs.Option.{option_map};
 ghost use Rattle.elf_view.specs.ViewWords.{image_of};
-ghost use Rattle.line_tables.specs.FindingWords.{tables_view};
+ghost use Rattle.section_data.specs.SectionWords.{bytes_in};
 ghost use Rattle.line_replies.specs.Source as spec;
-ghost use Rattle.line_replies.specs.SourceWords.{tables_result};
+ghost use Rattle.line_replies.specs.SourceWords.{FindsSources};
+ghost use Rattle.line_replies.specs.declared.source.NoTables.TheVariants as reasons;
 
+use crate::line_sections::LineSections;
 use elf_view::{Elf, Want};
-use line_tables::LineTables;
+use section_data::{FoundSection, SectionBytes, read_section};
+use std::alloc::{AllocError, Global};
 
 /// Why an executable has no line tables.
 #[derive(Clone, Copy, Debug, PartialEq, Eq)]
 pub enum NoTables {
-    /// Its section `.debug_line` is compressed, or that of its debug file.
+    /// Its section `.debug_line`, or that of its debug file, is compressed and cannot be decompressed.
     Compressed,
     /// It has no section `.debug_line`, nor has its debug file.
     Missing,
+    /// The memory for a section that is compressed was refused.
+    OutOfMemory,
 }
 
 impl NoTables {
-    /// The reason that replies give: `Compressed` or `NoLine`.
+    /// The reason that replies give: `Compressed`, `NoLine` or `OutOfMemory`.
     pub fn reason(self) -> &'static [u8]
         ensures { result.now ≡ spec.no_tables_reason self }
     {
         match self {
             NoTables::Compressed => b"Compressed",
             NoTables::Missing => b"NoLine",
+            NoTables::OutOfMemory => b"OutOfMemory",
         }
     }
 }
 
-/// The bytes of the first section of that name that can be read.
-fn section_bytes<'a>(elf: &Elf<'a>, name: &[u8]) -> Option<&'a [u8]>
-    ensures { option_map (λ bytes. bytes.now) result ≡ spec.section_bytes (image_of elf.now) name.now }
-{
-    elf.named_section(name)?.bytes
-}
+impl From<AllocError> for NoTables {
+    ghost from_gives = { λ _ reason. reason ≡ reasons.OutOfMemory };
 
-/// The texts in the section of that name, which is empty if there is no such section.
-fn section_texts<'a>(elf: &Elf<'a>, name: &[u8]) -> &'a [u8]
-    ensures { result.now ≡ spec.section_texts (image_of elf.now) name.now }
-{
-    match section_bytes(elf, name) {
-        Some(bytes) => bytes,
-        None => &[],
+    fn from(_error: AllocError) -> NoTables {
+        NoTables::OutOfMemory
     }
 }
 
-/// The line tables of a file, if it has a section `.debug_line` that can be read.
-#[tactic(auto, unfolding(crate::specs::Source::tables_in))]
-fn tables_in<'a>(elf: &Elf<'a>) -> Option<LineTables<'a>>
-    ensures { option_map tables_view result ≡ spec.tables_in (image_of elf.now) }
+/// The bytes of the section of that name, or none if there is no such section. The error is that there is no memory.
+pub(crate) fn bytes_or_none<'a>(
+    alloc: Global,
+    elf: &Elf<'a>,
+    name: &[u8],
+) -> Result<SectionBytes<'a>, AllocError>
+    ensures { IfOk result (λ bytes. bytes_in bytes ≡ spec.bytes_or_none (image_of elf.now) name.now) }
 {
-    let lines = section_bytes(elf, b".debug_line")?;
-    let line_texts = section_texts(elf, b".debug_line_str");
-    let texts = section_texts(elf, b".debug_str");
-    Some(LineTables::new(lines, line_texts, texts))
+    match read_section(alloc, elf, name)? {
+        FoundSection::Data(data) => Ok(data.bytes),
+        FoundSection::Unread | FoundSection::Missing => Ok(SectionBytes::Stored(&[])),
+    }
 }
 
-/// Whether a file has a section `.debug_line` that is compressed.
-#[tactic(auto, unfolding(crate::specs::Source::has_compressed))]
-fn has_compressed(elf: &Elf<'_>) -> bool
-    ensures { result ≡ spec.has_compressed (image_of elf.now) }
+/// The sections that the line tables of a file are in.
+#[tactic(auto, unfolding(crate::specs::Source::sources_in))]
+fn sections_in<'a>(alloc: Global, elf: &Elf<'a>) -> Result<LineSections<'a>, NoTables>
+    ensures { FindsSources result (spec.sources_in (image_of elf.now)) }
 {
-    elf.compressed_section(b".debug_line").is_some()
+    let lines = match read_section(alloc, elf, b".debug_line")? {
+        FoundSection::Data(data) => data.bytes,
+        FoundSection::Unread => return Err(NoTables::Compressed),
+        FoundSection::Missing => return Err(NoTables::Missing),
+    };
+    let line_texts = bytes_or_none(alloc, elf, b".debug_line_str")?;
+    let texts = bytes_or_none(alloc, elf, b".debug_str")?;
+    Ok(LineSections {
+        elf: *elf,
+        lines,
+        line_texts,
+        texts,
+    })
 }
 
 /// The debug file, if there is one and its headers have no fault.
@@ -73,36 +85,43 @@ fn sound_debug<'a>(debug: Option<&'a [u8]>) -> Option<Elf<'a>>
     Elf::read(debug?, Want::Exec).ok()
 }
 
-/// Why there are no line tables.
-fn no_tables(compressed: bool) -> NoTables
-    ensures { result ≡ spec.no_tables compressed }
+/// Those of the debug file of an executable that has none itself, for that reason.
+fn debug_sections<'a>(
+    alloc: Global,
+    own: NoTables,
+    debug: Option<&'a [u8]>,
+) -> Result<LineSections<'a>, NoTables>
+    ensures { FindsSources result (spec.sources_of_debug own (spec.sound_debug (option_map (λ d. d.now) debug.entry))) }
 {
-    if compressed {
-        NoTables::Compressed
-    } else {
-        NoTables::Missing
+    let Some(debug) = sound_debug(debug) else {
+        return Err(own);
+    };
+    match sections_in(alloc, &debug) {
+        Err(NoTables::Missing) => Err(own),
+        found => found,
     }
 }
 
-/// The line tables of an executable: its own, if it has a section `.debug_line` that can be read, or else those of its debug file, if
-/// there is one and its headers have no fault.
+/// The sections that the line tables of an executable are in: its own, if it has a section `.debug_line` that can be read, or else those
+/// of its debug file, if there is one and its headers have no fault. Takes memory only for sections that are compressed.
 ///
 /// # Errors
 ///
-/// - [`NoTables::Compressed`]: neither has such a section, and one of the two has a section `.debug_line` that is compressed.
+/// - [`NoTables::Compressed`]: neither has such a section, and one of the two has a section `.debug_line` that is compressed by another
+///   method than zlib, or damaged.
 /// - [`NoTables::Missing`]: neither has such a section.
-#[tactic(auto, unfolding(crate::specs::Source::source_for))]
-pub fn line_source<'a>(elf: &Elf<'a>, debug: Option<&'a [u8]>) -> Result<LineTables<'a>, NoTables>
-    ensures { tables_result result ≡ spec.source_for (image_of elf.now) (option_map (λ d. d.now) debug.entry) }
+/// - [`NoTables::OutOfMemory`]: memory was refused.
+#[tactic(auto, unfolding(crate::specs::Source::sources_for))]
+pub fn line_source<'a>(
+    alloc: Global,
+    elf: &Elf<'a>,
+    debug: Option<&'a [u8]>,
+) -> Result<LineSections<'a>, NoTables>
+    ensures { FindsSources result (spec.sources_for (image_of elf.now) (option_map (λ d. d.now) debug.entry)) }
 {
-    if let Some(tables) = tables_in(elf) {
-        return Ok(tables);
-    }
-    let Some(debug) = sound_debug(debug) else {
-        return Err(no_tables(has_compressed(elf)));
-    };
-    match tables_in(&debug) {
-        Some(tables) => Ok(tables),
-        None => Err(no_tables(has_compressed(elf) || has_compressed(&debug))),
+    match sections_in(alloc, elf) {
+        Ok(sections) => Ok(sections),
+        Err(NoTables::OutOfMemory) => Err(NoTables::OutOfMemory),
+        Err(own) => debug_sections(alloc, own, debug),
     }
 }

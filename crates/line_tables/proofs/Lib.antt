@@ -7,3 +7,4 @@ pub mod Crossing
 pub mod Places
 pub mod Walking
 pub mod FirstSteps
+pub mod Homes

@@ -19,18 +19,18 @@ use Rattle.line_tables.specs.declared.registers.Row.{Row}
 pub place_missing : (t : TablesView) (v : ℕ) (u : UnitView) (f : LineField) → Err f ≡ header_of t u → Err f ≡ place_in t v u
 unfolding table_in
 place_missing t v u f is =
-    ap (λ r. and_then (and_then r (λ (h : HeaderView). and_then (sequences_in (rows_of h)) (λ ss. Ok (table_of h ss)))) (λ table. Ok (place_among v table))) is
+    ap (λ r. and_then (and_then r (λ (h : HeaderView). and_then (sequences_in (rows_of h)) (λ ss. Ok (table_of u.place h ss)))) (λ table. Ok (place_among v table))) is
 
-rows_by : (v : ℕ) (h : HeaderView) (q : Result (List (List Row)) LineField) → and_then (and_then q (λ ss. Ok (row_among v ss))) (λ o. Ok (option_map (place h) o)) ≡ and_then (and_then q (λ ss. Ok (table_of h ss))) (λ table. Ok (place_among v table))
-rows_by v h (Ok ss) = refl
-rows_by v h (Err f) = refl
+rows_by : (v p : ℕ) (h : HeaderView) (q : Result (List (List Row)) LineField) → and_then (and_then q (λ ss. Ok (row_among v ss))) (λ o. Ok (option_map (place p h) o)) ≡ and_then (and_then q (λ ss. Ok (table_of p h ss))) (λ table. Ok (place_among v table))
+rows_by v p h (Ok ss) = refl
+rows_by v p h (Err f) = refl
 
-pub place_found : (t : TablesView) (v : ℕ) (u : UnitView) (h : HeaderView) (r : Result (Option Row) LineField) → Ok h ≡ header_of t u → r ≡ row_in v (rows_of h) → and_then r (λ o. Ok (option_map (place h) o)) ≡ place_in t v u
+pub place_found : (t : TablesView) (v : ℕ) (u : UnitView) (h : HeaderView) (r : Result (Option Row) LineField) → Ok h ≡ header_of t u → r ≡ row_in v (rows_of h) → and_then r (λ o. Ok (option_map (place u.place h) o)) ≡ place_in t v u
 unfolding table_in
 place_found t v u h r is at =
-    ap (λ q. and_then q (λ o. Ok (option_map (place h) o))) at
-    ∙ rows_by v h (sequences_in (rows_of h))
-    ∙ ap (λ s. and_then (and_then s (λ (h : HeaderView). and_then (sequences_in (rows_of h)) (λ ss. Ok (table_of h ss)))) (λ table. Ok (place_among v table))) is
+    ap (λ q. and_then q (λ o. Ok (option_map (place u.place h) o))) at
+    ∙ rows_by v u.place h (sequences_in (rows_of h))
+    ∙ ap (λ s. and_then (and_then s (λ (h : HeaderView). and_then (sequences_in (rows_of h)) (λ ss. Ok (table_of u.place h ss)))) (λ table. Ok (place_among v table))) is
 
 same_ok : (o p : Option PlaceView) → ◌≡◌ {A = Result (Option PlaceView) LineField} (Ok o) (Ok p) → o ≡ p
 same_ok o p h = cc

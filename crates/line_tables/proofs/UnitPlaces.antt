@@ -6,7 +6,7 @@ use Rattle.std.proofs.lemmas.Option.{same_Some}
 use Rattle.std.specs.Option.{option_and_then}
 use Rattle.elf_view.specs.Field.{field}
 use Rattle.line_tables.specs.Texts.{number, split}
-use Rattle.line_tables.specs.Units.{if_whole, framed, unit_of, behind_unit, units_for, units_from}
+use Rattle.line_tables.specs.Units.{if_whole, framed, unit_of, behind_unit, place_behind, units_for, units_from}
 
 cut_by : {A : Type 0} (w : ℕ) (bytes : List ℕ) (x : A) (t : Bool) (p : A × List ℕ) → leb w (length bytes) ≡ t → cond t (Some (x, drop w bytes)) None ≡ Some p → length p.1 + w ≡ length bytes
 cut_by w bytes x false p is h = cc
@@ -44,27 +44,27 @@ pub behind_fewer : (bytes : List ℕ) → 0 < length bytes → length (behind_un
 unfolding framed
 behind_fewer bytes some = behind_by bytes (framed bytes) some (λ p. framed_by bytes (number 4 bytes) p refl)
 
-units_enough : (n k i : ℕ) (bytes : List ℕ) → length bytes ≤ n → length bytes ≤ k → units_for n i bytes ≡ units_for k i bytes
+units_enough : (n k i p : ℕ) (bytes : List ℕ) → length bytes ≤ n → length bytes ≤ k → units_for n i p bytes ≡ units_for k i p bytes
 unfolding units_for
-units_enough zero zero i bytes h few = refl
-units_enough zero (suc k) i [] h few = refl
-units_enough (suc n) zero i [] h few = refl
-units_enough (suc n) (suc k) i [] h few = refl
-units_enough zero (suc k) i (x ∷ xs) h few = absurd (omega arith)
-units_enough (suc n) zero i (x ∷ xs) h few = absurd (omega arith)
-units_enough (suc n) (suc k) i (x ∷ xs) h few =
+units_enough zero zero i p bytes h few = refl
+units_enough zero (suc k) i p [] h few = refl
+units_enough (suc n) zero i p [] h few = refl
+units_enough (suc n) (suc k) i p [] h few = refl
+units_enough zero (suc k) i p (x ∷ xs) h few = absurd (omega arith)
+units_enough (suc n) zero i p (x ∷ xs) h few = absurd (omega arith)
+units_enough (suc n) (suc k) i p (x ∷ xs) h few =
     let less = behind_fewer (x ∷ xs) (omega arith) in
-    ap (λ us. unit_of i (framed (x ∷ xs)) ∷ us) (units_enough n k (i + 1) (behind_unit (framed (x ∷ xs))) (omega arith) (omega arith))
+    ap (λ us. unit_of i p (framed (x ∷ xs)) ∷ us) (units_enough n k (i + 1) (place_behind p (x ∷ xs)) (behind_unit (framed (x ∷ xs))) (omega arith) (omega arith))
 
 -- the first unit, and those after it
-pub units_next : (i : ℕ) (bytes : List ℕ) → 0 < length bytes → units_from i bytes ≡ unit_of i (framed bytes) ∷ units_from (i + 1) (behind_unit (framed bytes))
+pub units_next : (i p : ℕ) (bytes : List ℕ) → 0 < length bytes → units_from i p bytes ≡ unit_of i p (framed bytes) ∷ units_from (i + 1) (place_behind p bytes) (behind_unit (framed bytes))
 unfolding units_for
-units_next i [] some = absurd (omega arith)
-units_next i (x ∷ xs) some =
+units_next i p [] some = absurd (omega arith)
+units_next i p (x ∷ xs) some =
     let less = behind_fewer (x ∷ xs) some in
-    ap (λ us. unit_of i (framed (x ∷ xs)) ∷ us) (units_enough (length xs) (length (behind_unit (framed (x ∷ xs)))) (i + 1) (behind_unit (framed (x ∷ xs))) (omega arith) (omega arith))
+    ap (λ us. unit_of i p (framed (x ∷ xs)) ∷ us) (units_enough (length xs) (length (behind_unit (framed (x ∷ xs)))) (i + 1) (place_behind p (x ∷ xs)) (behind_unit (framed (x ∷ xs))) (omega arith) (omega arith))
 
-pub units_end : (i : ℕ) (bytes : List ℕ) → length bytes ≡ 0 → units_from i bytes ≡ []
+pub units_end : (i p : ℕ) (bytes : List ℕ) → length bytes ≡ 0 → units_from i p bytes ≡ []
 unfolding units_for
-units_end i [] h = refl
-units_end i (x ∷ xs) h = absurd (omega arith)
+units_end i p [] h = refl
+units_end i p (x ∷ xs) h = absurd (omega arith)

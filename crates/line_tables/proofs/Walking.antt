@@ -7,7 +7,7 @@ use Rattle.line_tables.specs.Header.{MachineView}
 use Rattle.line_tables.specs.Instructions.{StepView, step_in, behind_step, steps_in}
 use Rattle.line_tables.specs.Rows.{start, executed, row_of, onward, stepped, with_row, rows_from}
 use Rattle.line_tables.specs.Sequences.{before, alone, sequences_in}
-use Rattle.line_tables.specs.Units.{UnitView, framed, unit_of, behind_unit, units_from}
+use Rattle.line_tables.specs.Units.{UnitView, framed, unit_of, behind_unit, place_behind, units_from}
 use Rattle.line_tables.specs.declared.faults.LineField.{LineField}
 use Rattle.line_tables.specs.declared.instructions.Instruction.{Instruction}
 use Rattle.line_tables.specs.declared.instructions.Instruction.TheVariants.{EndSequence}
@@ -31,20 +31,20 @@ program_only version m bytes [] h = sym (steps_end version m bytes (ap length h)
 program_only version m bytes (r ∷ rs) h =
     ap (λ ss. r ∷ ss) (program_only version m (behind_step r) rs h.2) ∙ sym (steps_next version m bytes r h.0 h.1)
 
-units_by : (n i : ℕ) (bytes : List ℕ) → length bytes ≤ n → IsUnits i bytes (units_from i bytes)
-units_by n i [] few = subst (IsUnits i []) (sym (units_end i [] refl)) refl
-units_by zero i (x ∷ xs) few = absurd (omega arith)
-units_by (suc n) i (x ∷ xs) few =
+units_by : (n i p : ℕ) (bytes : List ℕ) → length bytes ≤ n → IsUnits i p bytes (units_from i p bytes)
+units_by n i p [] few = subst (IsUnits i p []) (sym (units_end i p [] refl)) refl
+units_by zero i p (x ∷ xs) few = absurd (omega arith)
+units_by (suc n) i p (x ∷ xs) few =
     let less = behind_fewer (x ∷ xs) (omega arith) in
-    subst (IsUnits i (x ∷ xs)) (sym (units_next i (x ∷ xs) (omega arith))) (omega arith, refl, units_by n (i + 1) (behind_unit (framed (x ∷ xs))) (omega arith))
+    subst (IsUnits i p (x ∷ xs)) (sym (units_next i p (x ∷ xs) (omega arith))) (omega arith, refl, units_by n (i + 1) (place_behind p (x ∷ xs)) (behind_unit (framed (x ∷ xs))) (omega arith))
 
-pub walk : (i : ℕ) (bytes : List ℕ) → IsUnits i bytes (units_from i bytes)
-walk i bytes = units_by (length bytes) i bytes (omega arith)
+pub walk : (i p : ℕ) (bytes : List ℕ) → IsUnits i p bytes (units_from i p bytes)
+walk i p bytes = units_by (length bytes) i p bytes (omega arith)
 
-pub walk_only : (i : ℕ) (bytes : List ℕ) (us : List UnitView) → IsUnits i bytes us → us ≡ units_from i bytes
-walk_only i bytes [] h = sym (units_end i bytes (ap length h))
-walk_only i bytes (u ∷ us) h =
-    ap (λ v. v ∷ us) h.1 ∙ ap (λ vs. unit_of i (framed bytes) ∷ vs) (walk_only (i + 1) (behind_unit (framed bytes)) us h.2) ∙ sym (units_next i bytes h.0)
+pub walk_only : (i p : ℕ) (bytes : List ℕ) (us : List UnitView) → IsUnits i p bytes us → us ≡ units_from i p bytes
+walk_only i p bytes [] h = sym (units_end i p bytes (ap length h))
+walk_only i p bytes (u ∷ us) h =
+    ap (λ v. v ∷ us) h.1 ∙ ap (λ vs. unit_of i p (framed bytes) ∷ vs) (walk_only (i + 1) (place_behind p bytes) (behind_unit (framed bytes)) us h.2) ∙ sym (units_next i p bytes h.0)
 
 -- a step as what the code's list has
 abbrev sound : StepView → Result StepView LineField

@@ -16,7 +16,7 @@ behind_sequence [] = []
 behind_sequence (Err f ∷ rs) = []
 behind_sequence (Ok r ∷ rs) = if r.end_sequence then rs else behind_sequence rs
 
--- what hinders it
+-- the fault that prevents it
 unfoldable pub sequence_fault : List (Result Row LineField) → Option LineField
 sequence_fault [] = Some fields.EndSequence
 sequence_fault (Err f ∷ rs) = Some f
@@ -30,7 +30,7 @@ covered_row v s = if covers v s then row_at v s else None
 abbrev pub crossed : ℕ → Option Row → Row → Row → Option Row
 crossed v found r q = option_or found (if crosses v r q then Some r else None)
 
--- the row of v in the first sequence, and the rows after it; or what hinders it
+-- the row of v in the first sequence, and the rows after it; or the fault that prevents it
 abbrev pub cut_by : ℕ → List (Result Row LineField) → Option LineField → Result (Option Row × List (Result Row LineField)) LineField
 cut_by v rs (Some f) = Err f
 cut_by v rs None = Ok (covered_row v (first_sequence rs), behind_sequence rs)

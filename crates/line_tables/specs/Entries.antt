@@ -11,7 +11,7 @@ pub record FormatView : Type 0 where
   pub count : ℕ
   pub bytes : List ℕ
 
--- A directory or a file name: the text of its path, and the number of its directory; empty and 0 if it has none.
+-- A directory or a file name: the text of its path, and the number of its directory; without them an empty text and 0.
 pub record EntryView : Type 0 where
   pub text : List ℕ
   pub folder : ℕ
@@ -49,7 +49,7 @@ part_by s content form e bytes (Some Opaque) = option_map (λ v. (e, v.1)) (opaq
 unfoldable pub part : StringsView → ℕ → ℕ → EntryView → List ℕ → Option (EntryView × List ℕ)
 part s content form e bytes = part_by s content form e bytes (kind_of form)
 
--- the parts that n descriptions tell, one after another
+-- the parts that n descriptions name, one after another
 unfoldable pub parts : StringsView → ℕ → List ℕ → EntryView → List ℕ → Option (EntryView × List ℕ)
 parts s zero descriptions e bytes = Some (e, bytes)
 parts s (suc n) descriptions e bytes =

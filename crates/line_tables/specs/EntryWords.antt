@@ -1,4 +1,4 @@
--- What the code's directories and file names mean.
+-- The meaning of the code's directories and file names.
 use Rattle.line_tables.specs.Forms.{StringsView}
 use Rattle.line_tables.specs.Entries.{EntryView, FormatView, ListView}
 use Rattle.line_tables.specs.declared.entries.Entry.{Entry}

@@ -1,4 +1,4 @@
--- What the code's paths mean.
+-- The meaning of the code's paths.
 use Rattle.line_tables.specs.Files.{PathView}
 use Rattle.line_tables.specs.declared.files.FilePath.{FilePath}
 

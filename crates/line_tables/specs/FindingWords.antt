@@ -1,4 +1,4 @@
--- What the code's line tables, places and lines mean.
+-- The meaning of the code's line tables, places and lines.
 use Rattle.std.specs.Prelude.{Result, Ok, Err}
 use Rattle.line_tables.specs.EntryWords.{strings_view}
 use Rattle.line_tables.specs.FileWords.{path_view}
@@ -13,10 +13,10 @@ abbrev pub tables_view : LineTables → TablesView
 tables_view t = record { debug_line = t.debug_line.now; strings = strings_view t.strings }
 
 abbrev pub place_view : Place → PlaceView
-place_view p = record { header = header_view p.header; row = p.row }
+place_view p = record { table = p.table; header = header_view p.header; row = p.row }
 
 abbrev pub line_view : Line → LineView
-line_view l = record { file = path_view l.file; line = l.line }
+line_view l = record { file = path_view l.file; line = l.line; table = l.table }
 
 abbrev pub told : Result Line NoLine → Result LineView NoLine
 told (Ok l) = Ok (line_view l)

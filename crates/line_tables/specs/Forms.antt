@@ -20,7 +20,7 @@ kind_of form =
     else (if form == 0x1e || form == 0x09 then Some Opaque
     else None))
 
--- where the texts of a form are that are not in the table itself
+-- the section that has the texts of a form, if they are not in the table itself
 abbrev pub section_of : StringsView → ℕ → List ℕ
 section_of s form = if form == 0x1f then s.debug_line_str else s.debug_str
 

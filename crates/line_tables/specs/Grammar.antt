@@ -1,21 +1,28 @@
--- Units and programs as relations, apart from how they are read; what begins anew after a sequence; and the step at which an address
--- is found.
-use Rattle.std.specs.Prelude.{◌≡◌, ◌<◌, ℕ, ◌+◌, true, false, List, [], ◌∷◌, map, length, slice_get, Some, Result, Ok}
+-- Units and programs as relations, apart from how they are read; the state that
+-- begins anew after a sequence; and the step at which an address is found.
+use Rattle.std.specs.Prelude.{◌≡◌, ◌<◌, ℕ, ◌+◌, true, false, List, [], ◌∷◌, map, length, drop, slice_get, Some, Result, Ok}
 use Rattle.line_tables.specs.Header.{MachineView}
 use Rattle.line_tables.specs.Instructions.{StepView, step_in, behind_step, steps_in}
 use Rattle.line_tables.specs.Rows.{start, rows_from}
 use Rattle.line_tables.specs.Sequences.{crosses}
-use Rattle.line_tables.specs.Units.{UnitView, framed, unit_of, behind_unit}
+use Rattle.line_tables.specs.Units.{UnitView, framed, unit_of, behind_unit, place_behind}
 use Rattle.line_tables.specs.declared.faults.LineField.{LineField}
 use Rattle.line_tables.specs.declared.registers.Row.{Row}
 
--- The units of some bytes, the first of which has number i: none of no bytes, else one, and those of the bytes after it.
-abbrev pub IsUnits : ℕ → List ℕ → List UnitView → Type 0
-IsUnits i bytes [] = bytes ≡ []
-IsUnits i bytes (u ∷ us) =
-    (0 < length bytes) × (u ≡ unit_of i (framed bytes)) × IsUnits (i + 1) (behind_unit (framed bytes)) us
+-- The units of some bytes, the first of which has number i and is at place p:
+-- no units if there are no bytes, else one, and those of the bytes after it.
+abbrev pub IsUnits : ℕ → ℕ → List ℕ → List UnitView → Type 0
+IsUnits i p bytes [] = bytes ≡ []
+IsUnits i p bytes (u ∷ us) =
+    (0 < length bytes) × (u ≡ unit_of i p (framed bytes)) × IsUnits (i + 1) (place_behind p bytes) (behind_unit (framed bytes)) us
 
--- The instructions of a program: none of no bytes, else one, and those of the bytes after it. Nothing is after one that is at fault.
+-- units each of which is that of the bytes at its place in a section
+abbrev pub ArePlaced : List ℕ → List UnitView → Type 0
+ArePlaced section [] = Unit {0}
+ArePlaced section (u ∷ us) = (u ≡ unit_of u.index u.place (framed (drop u.place section))) × ArePlaced section us
+
+-- The instructions of a program: no instructions if there are no bytes, else
+-- one, and those of the bytes after it. An instruction with a fault is the last.
 abbrev pub IsProgram : ℕ → MachineView → List ℕ → List (Result StepView LineField) → Type 0
 IsProgram version m bytes [] = bytes ≡ []
 IsProgram version m bytes (r ∷ rs) =

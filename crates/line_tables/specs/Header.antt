@@ -39,7 +39,7 @@ lead_in body =
     checked (split n.0 n.1) fields.HeaderLength (λ h.
     Ok (record { version = v.0; fields = h.0; program = h.1 }))))))
 
--- what the state machine's opcodes depend on
+-- the fields on which the state machine's opcodes depend
 pub record MachineView : Type 0 where
   pub minimum_instruction_length : ℕ
   pub line_base : ℕ
@@ -63,8 +63,7 @@ machine_in version bytes =
     checked (split (c.0 - 1) c.1) fields.StandardOpcodeLengths (λ l.
     Ok (record { minimum_instruction_length = m.0; line_base = b.0; line_range = r.0; opcode_base = c.0; opcode_lengths = l.0 }, l.1))))))))
 
--- Version 5 (6.2.4, 10 to 17): how many there are, which is at most as many as the section has bytes, and none if there is no
--- format.
+-- Version 5 (6.2.4, 10 to 17): how many there are, which is at most as many as the section has bytes, and 0 if there is no format.
 abbrev pub if_count : ℕ → ℕ → ℕ × List ℕ → Option (ℕ × List ℕ)
 if_count formats limit n = if n.0 == 0 || (nat_lt 0 formats && nat_le n.0 limit) then Some n else None
 

@@ -1,4 +1,4 @@
--- What the code's headers mean.
+-- The meaning of the code's headers.
 use Rattle.line_tables.specs.EntryWords.{list_view}
 use Rattle.line_tables.specs.Header.{LeadView, MachineView, ListsView, HeaderView}
 use Rattle.line_tables.specs.declared.header.Lead.{Lead}

@@ -17,10 +17,10 @@ unfoldable pub behind_numbers : ℕ → List ℕ → Option (List ℕ)
 behind_numbers zero bytes = Some bytes
 behind_numbers (suc n) bytes = option_and_then (λ v. behind_numbers n v.1) (uleb bytes)
 
--- What the operands of a standard opcode are, and the bytes after them: DW_LNS_fixed_advance_pc (9) has two bytes, advance_line (3)
--- an SLEB128, advance_pc (2), set_file (4), set_column (5) and set_isa (12) a ULEB128; copy (1), negate_stmt (6), set_basic_block
--- (7), const_add_pc (8), set_prologue_end (10) and set_epilogue_begin (11) have none. An opcode that is not known has as many
--- ULEB128 as standard_opcode_lengths tells. The operand is 0 if it is not one number.
+-- The operands of a standard opcode, and the bytes after them: DW_LNS_fixed_advance_pc (9) has two bytes, advance_line (3) an SLEB128,
+-- advance_pc (2), set_file (4), set_column (5) and set_isa (12) a ULEB128; copy (1), negate_stmt (6), set_basic_block (7), const_add_pc
+-- (8), set_prologue_end (10) and set_epilogue_begin (11) have no operand. An unknown opcode has as many ULEB128 as standard_opcode_lengths
+-- says. The operand is 0 if it is not one number.
 unfoldable pub standard_operand : List ℕ → ℕ → List ℕ → Option (ℕ × List ℕ)
 standard_operand lengths op bytes =
     if op == 9 then number 2 bytes
@@ -29,7 +29,7 @@ standard_operand lengths op bytes =
     else (if op == 1 || op == 6 || op == 7 || op == 8 || op == 10 || op == 11 then Some (0, bytes)
     else option_map (λ rest. (0, rest)) (behind_numbers (slice_index lengths (op - 1)) bytes))))
 
--- what a standard opcode does with its operand
+-- the instruction of a standard opcode with its operand
 abbrev pub standard_of : ℕ → ℕ → Instruction
 standard_of op n =
     if op == 1 then does.CopyRow
@@ -53,8 +53,8 @@ unfoldable pub standard : List ℕ → ℕ → List ℕ → Result StepView Line
 standard lengths op bytes =
     checked (standard_operand lengths op bytes) fields.Operand (λ n. Ok (step_of (standard_of op n.0) [] n.1))
 
--- DW_LNE_end_sequence (1), set_address (2), which has an address of 8 bytes, and, in versions 2 to 4, define_file (3), which has a
--- file name. Others are passed over.
+-- DW_LNE_end_sequence (1), set_address (2), which has an address of 8 bytes, and,
+-- in versions 2 to 4, define_file (3), which has a file name. Others are ignored.
 unfoldable pub extended_of : ℕ → ℕ → List ℕ → Result Instruction LineField
 extended_of version op content =
     if op == 1 then Ok does.EndSequence
@@ -62,7 +62,7 @@ extended_of version op content =
     else (if op == 3 && nat_lt version 5 then (if is_some (entry no_strings file_format content) then Ok does.DefineFile else Err fields.Operand)
     else Ok does.Nothing))
 
--- a length, which counts the opcode and what belongs to it
+-- a length, which counts the opcode and the bytes that belong to it
 unfoldable pub extended : ℕ → List ℕ → Result StepView LineField
 extended version bytes =
     checked (sized bytes) fields.Length (λ s.
@@ -80,13 +80,13 @@ unfoldable pub step_in : ℕ → MachineView → List ℕ → Result StepView Li
 step_in version m [] = Err fields.Operand
 step_in version m (x ∷ xs) = step_by version m x xs
 
--- what is to be executed after a step
+-- the bytes that are executed after a step
 abbrev pub behind_step : Result StepView LineField → List ℕ
 behind_step (Ok s) = s.rest
 behind_step (Err f) = []
 
--- The instructions of a program, one after another, up to its end or to the first that is at fault. Each takes at least one byte, so
--- there are at most n in n bytes.
+-- The instructions of a program, one after another, up to its end or to the first
+-- with a fault. Each takes at least one byte, so there are at most n in n bytes.
 unfoldable pub steps_for : ℕ → ℕ → MachineView → List ℕ → List (Result StepView LineField)
 steps_for zero version m bytes = []
 steps_for (suc n) version m [] = []

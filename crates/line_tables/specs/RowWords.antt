@@ -1,4 +1,4 @@
--- What the code's iterators over instructions and rows mean.
+-- The meaning of the code's iterators over instructions and rows.
 use Rattle.std.specs.Prelude.{List, Result}
 use Rattle.line_tables.specs.HeaderWords.{machine_view}
 use Rattle.line_tables.specs.Instructions.{StepView, steps_in}

@@ -9,7 +9,7 @@ use Rattle.line_tables.specs.declared.instructions.Instruction.TheVariants.{Spec
 use Rattle.line_tables.specs.declared.registers.Registers.{Registers}
 use Rattle.line_tables.specs.declared.registers.Row.{Row}
 
--- the registers at the begin of each sequence
+-- the registers at the start of each sequence
 abbrev pub start : Registers
 start = record { address = 0; file = 1; line = 1 }
 
@@ -59,7 +59,7 @@ abbrev pub with_row : Option (Result Row LineField) → List (Result Row LineFie
 with_row None rows = rows
 with_row (Some r) rows = r ∷ rows
 
--- the rows that steps make, with the fault of one that is at fault
+-- the rows that steps make, with the fault of a step that has one
 unfoldable pub rows_from : MachineView → Registers → List (Result StepView LineField) → List (Result Row LineField)
 rows_from m s [] = []
 rows_from m s (t ∷ ts) = with_row (stepped m s t).0 (rows_from m (stepped m s t).1 ts)

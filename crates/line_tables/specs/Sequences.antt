@@ -6,7 +6,7 @@ use Rattle.line_tables.specs.declared.faults.LineField.{LineField}
 use Rattle.line_tables.specs.declared.faults.LineField.TheVariants as fields
 use Rattle.line_tables.specs.declared.registers.Row.{Row}
 
--- a row before the others of its sequence; a sequence with no end is at fault
+-- a row before the others of its sequence; a sequence with no end is a fault
 abbrev pub before : Row → List (List Row) → Result (List (List Row)) LineField
 before r [] = Err fields.EndSequence
 before r (s ∷ ss) = Ok ((r ∷ s) ∷ ss)
@@ -20,7 +20,7 @@ sequences_in [] = Ok []
 sequences_in (Err f ∷ rs) = Err f
 sequences_in (Ok r ∷ rs) = and_then (sequences_in rs) (if r.end_sequence then alone r else before r)
 
--- where a sequence begins, and where it ends
+-- the first address of a sequence, and its end
 abbrev pub first_address : List Row → ℕ
 first_address [] = 0
 first_address (r ∷ rs) = r.address

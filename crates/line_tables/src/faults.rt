@@ -100,7 +100,7 @@ impl LineField {
 #[derive(Clone, Copy, Debug, PartialEq, Eq, Error)]
 #[error("{field:?} {index}")]
 pub struct LineFault {
-    /// The field at fault.
+    /// The bad field.
     pub field: LineField,
     /// The number of the unit in its section, from 0 on.
     pub index: u64,

@@ -17,7 +17,7 @@ use crate::steps::Steps;
 /// The path of a source file: the parts that are not empty, in this order, with `/` between them.
 #[derive(Clone, Copy)]
 pub struct FilePath<'a> {
-    /// The directory of the compilation, if it is known and the directory is in it.
+    /// The directory that the directory is in: that of the compilation, if it is known and the directory is not absolute.
     pub base: &'a [u8],
     /// The directory.
     pub directory: &'a [u8],
@@ -55,6 +55,19 @@ fn is_absolute(path: &[u8]) -> bool
 
 impl<'a> FilePath<'a> {
     ghost use Rattle.line_tables.specs.FileWords.{path_view};
+
+    /// Whether the path, as a text, begins with `/`.
+    pub(crate) fn is_absolute(&self) -> bool
+        ensures { result ≡ spec.is_absolute (spec.text_of (path_view self.now)) }
+    {
+        if !self.base.is_empty() {
+            return is_absolute(self.base);
+        }
+        if !self.directory.is_empty() {
+            return is_absolute(self.directory);
+        }
+        is_absolute(self.name)
+    }
 
     /// The path of a name that is in a numbered directory of version 5.
     #[tactic(auto, unfolding(crate::specs::Files::numbered_path))]
@@ -140,8 +153,8 @@ impl<'a> Header<'a> {
         self.added_file(number - 1 - self.lists.files.count)
     }
 
-    /// The path of a file, by its number in a row. There is none if no file or no directory has that number, or if the file
-    /// has no name.
+    /// The path of a file, by its number in a row. `None` if no file
+    /// or no directory has that number, or if the file has no name.
     #[tactic(auto, unfolding(crate::specs::Files::file_path, crate::specs::Files::path_of))]
     pub fn file_path(&self, number: u64) -> Option<FilePath<'a>>
         ensures { option_map path_view result ≡ spec.file_path (header_view self.now) number }

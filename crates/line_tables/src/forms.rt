@@ -7,7 +7,7 @@ ghost use Rattle.line_tables.specs.Forms as spec;
 use crate::texts::{number, split, text, text_at};
 use call_frames::{sized, uleb};
 
-/// What a form holds.
+/// The content of a form.
 #[derive(Clone, Copy)]
 pub(crate) enum Kind {
     /// A text.
@@ -25,7 +25,7 @@ pub(crate) struct Strings<'a> {
     pub(crate) debug_str: &'a [u8],
 }
 
-/// What a form holds, if it is known.
+/// The content of a form, if it is known.
 #[tactic(auto, unfolding(crate::specs::Forms::kind_of))]
 pub(crate) fn kind_of(form: u64) -> Option<Kind>
     ensures { result ≡ spec.kind_of form }

@@ -19,10 +19,10 @@ struct Lead<'a> {
     program: &'a [u8],
 }
 
-/// What the opcodes of a line number program depend on.
+/// The fields on which the opcodes of a line number program depend.
 #[derive(Clone, Copy)]
 pub(crate) struct Machine<'a> {
-    /// What advances of the address are multiples of.
+    /// Advances of the address are multiples of it.
     pub(crate) minimum_instruction_length: u8,
     /// The least advance of the line by a special opcode, as a signed byte.
     pub(crate) line_base: u8,

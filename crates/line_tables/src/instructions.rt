@@ -12,7 +12,7 @@ use crate::texts::{first_byte, number};
 use call_frames::{sized, sleb, uleb};
 use elf_view::u64_at;
 
-/// What an opcode does (DWARF 5, 6.2.5).
+/// The effect of an opcode (DWARF 5, 6.2.5).
 #[derive(Clone, Copy)]
 pub(crate) enum Instruction {
     /// A special opcode, less opcode_base: advances the address and the line, and makes a row.
@@ -39,7 +39,7 @@ pub(crate) enum Instruction {
     Nothing,
 }
 
-/// An instruction with what is around it.
+/// An instruction with the bytes around it.
 #[derive(Clone, Copy)]
 pub(crate) struct Step<'a> {
     pub(crate) instruction: Instruction,
@@ -80,7 +80,7 @@ fn standard_operand<'a>(lengths: &[u8], opcode: u8, bytes: &'a [u8]) -> Option<(
     }
 }
 
-/// What a standard opcode does with its operand.
+/// The instruction of a standard opcode with its operand.
 fn standard_of(opcode: u8, operand: u64) -> Instruction
     ensures { result ≡ spec.standard_of opcode operand }
 {
@@ -95,7 +95,7 @@ fn standard_of(opcode: u8, operand: u64) -> Instruction
     }
 }
 
-/// What an extended opcode does with the bytes after it.
+/// The instruction of an extended opcode with the bytes after it.
 #[tactic(auto, unfolding(crate::specs::Instructions::extended_of))]
 fn extended_of(version: u8, opcode: u8, content: &[u8]) -> Result<Instruction, LineField>
     ensures { result ≡ spec.extended_of version opcode content.now }

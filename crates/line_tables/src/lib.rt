@@ -22,10 +22,11 @@ pub use faults::{LineFault, LineField, NoLine};
 pub use files::FilePath;
 pub use header::Header;
 pub use laws::{
-    a_sequence_stands_alone, a_step_crosses, the_instructions_are_the_program,
-    the_units_are_the_walk,
+    a_line_is_in_a_compilation, a_sequence_stands_alone, a_step_crosses,
+    the_instructions_are_the_program, the_units_are_the_walk,
 };
 pub use line_tables::{Line, LineTables};
 pub use registers::Row;
 pub use rows::Rows;
+pub use texts::{first_byte, number, split, text, text_at};
 pub use units::{Unit, Units};

@@ -27,17 +27,33 @@ pub struct Line<'a> {
     pub file: FilePath<'a>,
     /// The number of the line, from 1 on.
     pub line: u32,
+    /// The place of its line table in `.debug_line`, if the path is in the directory of the compilation and the table does not
+    /// have that directory (versions 2 to 4).
+    pub table: Option<u64>,
 }
 
-/// The row of an address, with the header of its table.
+/// The row of an address, with the place and the header of its table.
 #[derive(Clone, Copy)]
 pub(crate) struct Place<'a> {
+    table: u64,
     header: Header<'a>,
     row: Row,
 }
 
 impl<'a> Place<'a> {
+    ghost use Rattle.line_tables.specs.FileWords.{path_view};
     ghost use Rattle.line_tables.specs.FindingWords.{place_view, told};
+
+    /// The place of the line table, if a path of it is in the directory of the compilation and the table does not have that
+    /// directory.
+    fn relative_to(&self, file: &FilePath<'a>) -> Option<u64>
+        ensures { result ≡ spec.relative_to (place_view self.now) (path_view file.now) }
+    {
+        if self.header.version == 5 || file.is_absolute() {
+            return None;
+        }
+        Some(self.table)
+    }
 
     /// The line of a row.
     #[tactic(auto, unfolding(crate::specs::Finding::line_of))]
@@ -51,8 +67,29 @@ impl<'a> Place<'a> {
             Some(file) => Ok(Line {
                 file,
                 line: self.row.line,
+                table: self.relative_to(&file),
             }),
             None => Err(NoLine::Uncovered),
+        }
+    }
+}
+
+impl<'a> Line<'a> {
+    ghost use Rattle.line_tables.specs.FindingWords.{line_view};
+
+    /// The line with its path in a directory.
+    pub fn within(self, directory: &'a [u8]) -> Line<'a>
+        ensures { line_view result ≡ spec.within directory.now (line_view self.entry) }
+    {
+        let file = FilePath {
+            base: directory,
+            directory: self.file.directory,
+            name: self.file.name,
+        };
+        Line {
+            file,
+            line: self.line,
+            table: None,
         }
     }
 }
@@ -82,17 +119,14 @@ impl<'a> LineTables<'a> {
     pub fn units(&self) -> Units<'a>
         ensures { units_left result ≡ spec.units_of (tables_view self.now) }
     {
-        Units {
-            rest: self.debug_line,
-            index: 0,
-        }
+        Units::of(self.debug_line)
     }
 
     /// The header of a unit.
     ///
     /// # Errors
     ///
-    /// The first field at fault, in the order of the fields.
+    /// The first bad field, in the order of the fields.
     pub fn header(&self, unit: &Unit<'a>) -> Result<Header<'a>, LineField>
         ensures { viewed header_view result ≡ spec.header_of (tables_view self.now) (unit_view unit.now) }
     {
@@ -109,7 +143,11 @@ impl<'a> LineTables<'a> {
     {
         let header = self.header(unit)?;
         match header.row_at(address)? {
-            Some(row) => Ok(Some(Place { header, row })),
+            Some(row) => Ok(Some(Place {
+                table: unit.place,
+                header,
+                row,
+            })),
             None => Ok(None),
         }
     }

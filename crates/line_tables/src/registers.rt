@@ -13,7 +13,7 @@ pub struct Row {
     pub address: u64,
     /// The number of the source file.
     pub file: u64,
-    /// The number of the source line, from 1 on; 0 if the code comes from none.
+    /// The number of the source line, from 1 on; 0 if the code comes from no line.
     pub line: u32,
     /// The row ends a sequence: its address is the first after the sequence.
     pub end_sequence: bool,

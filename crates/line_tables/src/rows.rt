@@ -11,7 +11,7 @@ use crate::instructions::{Instruction, Step};
 use crate::registers::{Registers, Row};
 use crate::steps::Steps;
 
-/// The rows of a table in the order of its program, and the field at fault as the last item if there is one.
+/// The rows of a table in the order of its program, and the bad field as the last item if there is one.
 #[derive(Clone, Copy)]
 pub struct Rows<'a> {
     machine: Machine<'a>,
@@ -83,7 +83,7 @@ impl<'a> Iterator for Rows<'a> {
 impl<'a> Header<'a> {
     ghost use Rattle.line_tables.specs.RowWords.{rows_left};
 
-    /// The rows of the table, in the order of its program. If an instruction is at fault, its field is the last item.
+    /// The rows of the table, in the order of its program. If an instruction has a fault, its field is the last item.
     pub fn rows(&self) -> Rows<'a>
         ensures { rows_left result ≡ spec.rows_of (header_view self.now) }
     {

@@ -60,7 +60,7 @@ impl<'a> Header<'a> {
     ///
     /// # Errors
     ///
-    /// The first field at fault in the program.
+    /// The first bad field in the program.
     pub fn row_at(&self, address: u64) -> Result<Option<Row>, LineField>
         ensures { result ≡ spec.row_in address (rows_of (header_view self.now)) }
     {

@@ -8,7 +8,7 @@ use crate::faults::LineField;
 use crate::header::Machine;
 use crate::instructions::Step;
 
-/// The instructions of a program up to its end, or up to the first that is at fault.
+/// The instructions of a program up to its end, or up to the first with a fault.
 #[derive(Clone, Copy)]
 pub(crate) struct Steps<'a> {
     pub(crate) version: u8,
@@ -16,7 +16,7 @@ pub(crate) struct Steps<'a> {
     pub(crate) rest: &'a [u8],
 }
 
-/// What is left to be read after a step.
+/// The bytes that are left to be read after a step.
 fn behind_step<'a>(step: &Result<Step<'a>, LineField>) -> &'a [u8]
     ensures { result.now ≡ spec.behind_step (viewed step_view step.now) }
 {

@@ -18,7 +18,7 @@ fn nul_place(bytes: &[u8]) -> Option<usize>
 
 /// The bytes before the first NUL, and those after it.
 #[tactic(auto, unfolding(crate::specs::Texts::text))]
-pub(crate) fn text(bytes: &[u8]) -> Option<(&[u8], &[u8])>
+pub fn text(bytes: &[u8]) -> Option<(&[u8], &[u8])>
     ensures { option_map (λ r. (r.0.now, r.1.now)) result ≡ spec.text bytes.now }
 {
     let end = nul_place(bytes)?;
@@ -27,7 +27,7 @@ pub(crate) fn text(bytes: &[u8]) -> Option<(&[u8], &[u8])>
 
 /// The text at a place of a section.
 #[tactic(auto, unfolding(crate::specs::Texts::text_at))]
-pub(crate) fn text_at(section: &[u8], place: u64) -> Option<&[u8]>
+pub fn text_at(section: &[u8], place: u64) -> Option<&[u8]>
     ensures { option_map (λ r. r.now) result ≡ spec.text_at section.now place }
 {
     let start = place.min(section.len() as u64) as usize;
@@ -36,7 +36,7 @@ pub(crate) fn text_at(section: &[u8], place: u64) -> Option<&[u8]>
 }
 
 /// The first byte, and those after it.
-pub(crate) fn first_byte(bytes: &[u8]) -> Option<(u8, &[u8])>
+pub fn first_byte(bytes: &[u8]) -> Option<(u8, &[u8])>
     ensures { option_map (λ r. (r.0, r.1.now)) result ≡ spec.first_byte bytes.now }
 {
     let (first, rest) = bytes.split_first()?;
@@ -60,7 +60,7 @@ fn value(width: usize, bytes: &[u8]) -> u64
 
 /// The number in as many bytes at the front, and the bytes after it.
 #[tactic(auto, unfolding(crate::specs::Texts::number))]
-pub(crate) fn number(width: usize, bytes: &[u8]) -> Option<(u64, &[u8])>
+pub fn number(width: usize, bytes: &[u8]) -> Option<(u64, &[u8])>
     requires { (width ≡ 1) ⊎ ((width ≡ 2) ⊎ ((width ≡ 4) ⊎ (width ≡ 8))) }
     ensures { option_map (λ r. (r.0, r.1.now)) result ≡ spec.number width bytes.now }
 {
@@ -72,7 +72,7 @@ pub(crate) fn number(width: usize, bytes: &[u8]) -> Option<(u64, &[u8])>
 
 /// As many bytes, and those after them.
 #[tactic(auto, unfolding(crate::specs::Texts::split))]
-pub(crate) fn split(size: u64, bytes: &[u8]) -> Option<(&[u8], &[u8])>
+pub fn split(size: u64, bytes: &[u8]) -> Option<(&[u8], &[u8])>
     ensures { option_map (λ r. (r.0.now, r.1.now)) result ≡ spec.split size bytes.now }
 {
     if (bytes.len() as u64) < size {

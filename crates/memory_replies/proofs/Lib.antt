@@ -1,4 +1,4 @@
-pub mod TellLemmas
+pub mod PrintLemmas
 pub mod SpaceLemmas
 pub mod AnswerLemmas
 pub mod SymbolLemmas

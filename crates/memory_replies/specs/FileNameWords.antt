@@ -1,4 +1,4 @@
--- What the code's names of mapped files mean.
+-- The meaning of the code's names of mapped files.
 use Rattle.std.specs.Prelude.{◌≡◌, ℕ, Bool, List}
 use Rattle.std.specs.Borrow.{Bor}
 use Rattle.std.specs.BTreeSet.{BTreeSet, contains_by}

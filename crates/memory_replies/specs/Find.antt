@@ -1,4 +1,4 @@
--- Where bytes occur in a process's memory.
+-- The places where bytes occur in a process's memory.
 use Rattle.std.specs.Prelude.{ℕ, List, [], ◌∷◌, ◌++◌, Result, Ok}
 use Rattle.std.specs.List.{flat_map}
 use Rattle.script_words.specs.Printing.{hexadecimal}

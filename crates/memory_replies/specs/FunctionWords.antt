@@ -1,4 +1,4 @@
--- What the code's names of functions mean.
+-- The meaning of the code's names of functions.
 use Rattle.std.specs.Prelude.{List, map}
 use Rattle.core_notes.specs.FileList.{FileView}
 use Rattle.memory_replies.specs.Backtrace.{Places}

@@ -14,8 +14,6 @@ pub mod NamedList
 pub mod Naming
 pub mod OwnSymbols
 pub mod NamingWords
-pub mod Code
-pub mod CodeWords
 pub mod FunctionWords
 pub mod SymbolDebug
 pub mod FileNameWords

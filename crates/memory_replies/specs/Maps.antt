@@ -1,11 +1,11 @@
--- The lines of mappings: what each PT_LOAD of a core tells (System V gABI, "Program Header").
+-- The lines of mappings: the fields of each PT_LOAD of a core (System V gABI, "Program Header").
 use Rattle.std.specs.Prelude.{ℕ, ◌+◌, ◌/◌, ◌%◌, ◌==◌, if◌then◌else◌, List, [], ◌∷◌, ◌++◌, Result, Ok, codes}
 use Rattle.std.specs.List.{flat_map}
 use Rattle.address_space.specs.Source.{MappingView, mappings_of}
 use Rattle.memory_replies.specs.Memory.{memory_of}
 use Rattle.memory_replies.specs.Words.{hex_word, spot_words}
 
--- the letter of a flag, or `-` where it is not set
+-- the letter of a flag, or `-` if it is not set
 abbrev pub flag_letter : ℕ → ℕ → List ℕ → List ℕ
 flag_letter flags flag letter = if (flags / flag) % 2 == 1 then letter else codes "-"
 

@@ -11,7 +11,7 @@ use Rattle.core_notes.specs.Typed.{first_desc}
 use Rattle.address_space.specs.Source.{Space, ExecutableView}
 pub use Rattle.address_space.specs.SpaceWords.{attached_view}
 
--- the mapped files that an NT_FILE names; without one there are none
+-- the mapped files that an NT_FILE names; without an NT_FILE, no files
 abbrev pub files_by : Option (List ℕ) → List FileView
 files_by None = []
 files_by (Some desc) = files_of desc
@@ -27,7 +27,7 @@ has_name name f = bytes_eq f.name name
 abbrev pub is_mapped : List ℕ → List ℕ → Bool
 is_mapped b name = list_any (has_name name) (mapped_files b)
 
--- An executable is attached where it passes the checks of its headers; others are passed over.
+-- An executable is attached if it passes the checks of its headers; others are skipped.
 abbrev pub is_attached : ExecutableView → Bool
 is_attached x = is_none (first_fault Exec x.image)
 

@@ -1,4 +1,4 @@
--- What the code's list of executables with symbols means.
+-- The meaning of the code's list of executables with symbols.
 use Rattle.std.specs.Prelude.{List, map}
 use Rattle.address_space.specs.Source.{ExecutableView}
 use Rattle.memory_replies.specs.NamedWords.{named_view}

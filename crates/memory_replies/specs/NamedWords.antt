@@ -1,4 +1,4 @@
--- What the code's executables with symbols, and its places, mean.
+-- The meaning of the code's executables with symbols, and of its places.
 use Rattle.address_space.specs.Source.{ExecutableView}
 use Rattle.address_space.specs.SpaceWords.{attached_view}
 use Rattle.memory_replies.specs.Places.{PlaceView}

@@ -1,4 +1,4 @@
--- The function at an address of an executable that is used for a mapped file: by the symbols of the executable; where none of them has
+-- The function at an address of an executable that is used for a mapped file: by the symbols of the executable; if none of them has
 -- the address, by those of its debug file (GDB, "Debugging Information in Separate Files").
 use Rattle.std.specs.Prelude.{ℕ, ◌-◌, ◌&&◌, if◌then◌else◌, Bool, List, filter, find, map, Option, None, Some, is_none}
 use Rattle.std.specs.List.{list_any, range_with_len}
@@ -25,6 +25,10 @@ with_debug debugs x = record { file = x; debug = find (is_named x.path) debugs }
 
 abbrev pub named_files : List ExecutableView → List ExecutableView → List NamedFile
 named_files executables debugs = map (with_debug debugs) (filter is_attached executables)
+
+-- all bytes of its debug file
+abbrev pub debug_image : NamedFile → Option (List ℕ)
+debug_image n = option_map (λ (d : ExecutableView). d.image) n.debug
 
 -- the function of a file at an address, if neither its headers nor its symbols have a fault
 unfoldable pub own_symbol : List ℕ → ℕ → Option SymbolView

@@ -1,4 +1,4 @@
--- What the code's executables with their debug files mean.
+-- The meaning of the code's executables with their debug files.
 use Rattle.std.specs.Option.{option_map}
 use Rattle.address_space.specs.Source.{ExecutableView}
 use Rattle.address_space.specs.SpaceWords.{attached_view}

@@ -1,4 +1,4 @@
--- Where a pc is: in which function, by the symbols of the executables that are attached for mapped files.
+-- The place of a pc: its function, by the symbols of the executables that are attached for mapped files.
 use Rattle.std.specs.Prelude.{ℕ, ◌+◌, ◌-◌, if◌then◌else◌, Bool, List, ◌++◌, filter, find, Option, None, Some, is_none, codes}
 use Rattle.std.specs.Option.{option_and_then, option_map}
 use Rattle.script_words.specs.Printing.{shown, hexadecimal}
@@ -8,12 +8,12 @@ use Rattle.symbols.specs.Names.{SymbolView, symbol_in}
 use Rattle.symbols.specs.Offsets.{address_of}
 use Rattle.memory_replies.specs.Symbol.{executable_fault}
 
--- where a pc is: how far after the value of a function
+-- the place of a pc: its distance from the value of a function
 pub record PlaceView : Type 0 where
   pub name : List ℕ
   pub distance : ℕ
 
--- how far the pc, which is d after the address that was looked up, is after the function's value
+-- the distance of the pc, which is d after the address that was looked up, from the function's value
 abbrev pub place_by : ℕ → ℕ → SymbolView → PlaceView
 place_by d v s = record { name = s.name; distance = v + d - s.value }
 
@@ -25,7 +25,7 @@ has_symbols x = is_none (executable_fault x.image)
 abbrev pub known_among : List ExecutableView → List ExecutableView
 known_among executables = filter has_symbols executables
 
--- it, where it is one
+-- the executable, if it has symbols
 abbrev pub if_known : ExecutableView → Option ExecutableView
 if_known x = if has_symbols x then Some x else None
 
@@ -41,7 +41,7 @@ place_at_spot known d spot = option_and_then (place_in d spot.offset) (find (is_
 unfoldable pub place_of : List FileView → List ExecutableView → ℕ → Option ℕ → Option PlaceView
 place_of files known pc address = option_and_then (λ a. option_and_then (place_at_spot known (pc - a)) (spot_of a (entry_at files a))) address
 
--- `NAME+h`, or `?` where it is not known
+-- `NAME+h`, or `?` if it is not known
 abbrev pub place_words : Option PlaceView → List ℕ
 place_words None = codes "?"
 place_words (Some p) = shown p.name ++ (codes "+" ++ hexadecimal p.distance)

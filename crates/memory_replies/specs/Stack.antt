@@ -1,4 +1,4 @@
--- The bytes of a thread's stack, where they are all that is at hand of a core's memory.
+-- The bytes of a thread's stack, if they are all that is at hand of a core's memory.
 use Rattle.std.specs.Prelude.{◌≡◌, ◌<◌, ℕ, ◌+◌, ◌-◌, List, length, slice_get, slice_index, Option, None, Some, IfSome}
 use Rattle.std.specs.Borrow.{Bor}
 use Rattle.elf_view.specs.Header.{segments_of}

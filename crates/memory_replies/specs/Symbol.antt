@@ -16,7 +16,7 @@ abbrev pub symbol_reason : SymbolFault → List ℕ
 symbol_reason fault =
     if has_index fault.«field» then indexed (symbol_field_name fault.«field») fault.index else symbol_field_name fault.«field»
 
--- the first fault of an executable's headers, or else of its symbol table, as it is told
+-- the text of the first fault of an executable's headers, or else of its symbol table
 unfoldable pub executable_fault : List ℕ → Option (List ℕ)
 executable_fault b = option_or (option_map elf_reason (first_fault Exec b)) (option_map symbol_reason (table.first_fault b))
 

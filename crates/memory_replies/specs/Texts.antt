@@ -28,7 +28,7 @@ content_bytes unmapped = []
 abbrev pub text_line : Space → ℕ × ℕ → List ℕ
 text_line space x = hex_word x.0 ++ (decimal x.1 ++ (32 ∷ [] ++ (shown (values_between space x.0 x.1) ++ 10 ∷ [])))
 
--- `strings`: a line for each stretch of text of at least that length
+-- `strings`: a line for each run of text of at least that length
 unfoldable pub strings_answer : List ℕ → List ExecutableView → ℕ → Result (List ℕ) (List ℕ)
 strings_answer b executables least =
     Ok (flat_map (text_line (memory_of b executables)) (strings_of (memory_of b executables) least))

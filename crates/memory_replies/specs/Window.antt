@@ -1,4 +1,4 @@
--- The first bytes of an image, and a window of it: what is at hand of an image that is not read whole.
+-- The first bytes of an image, and a window of it: the bytes at hand of an image that is not read whole.
 use Rattle.std.specs.Prelude.{◌≡◌, ℕ, ◌+◌, false, List, length}
 use Rattle.elf_view.specs.Field.{part}
 use Rattle.elf_view.specs.Header.{segments_of}

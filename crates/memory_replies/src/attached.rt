@@ -17,7 +17,7 @@ use elf_view::{Elf, Want};
 use image_replies::CoreImage;
 use std::alloc::{AllocError, Global};
 
-/// Attaches an executable where it passes the checks of its headers. The error is that there is no memory.
+/// Attaches an executable if it passes the checks of its headers. The only error is that there is no memory.
 fn attach<'a>(space: &mut AddressSpace<'a>, executable: Attached<'a>) -> Result<(), AllocError>
     ensures attached { OnOk result (space_of space.new ≡ with_attached (space_of space.old) (spec.attached_view executable.entry)) }
     ensures core { core_of space.new ≡ core_of space.old }
@@ -28,7 +28,8 @@ fn attach<'a>(space: &mut AddressSpace<'a>, executable: Attached<'a>) -> Result<
     space.attach(executable.path, elf)
 }
 
-/// The memory of a core, in which no executable is attached: made to be searched often, where there is memory for that.
+/// The memory of a core, in which no executable is attached. It
+/// has tables for many searches, if there is memory for them.
 pub(crate) fn plain_space<'a>(alloc: Global, core: &CoreImage<'a>) -> AddressSpace<'a>
     ensures { space_of result ≡ spec.memory_of (core_bytes core.now) [] }
 {
@@ -66,8 +67,8 @@ pub fn space_with<'a>(
     Ok(space)
 }
 
-/// Attaches an executable where it passes the checks of its headers, and adds it to those that name frames where its symbols
-/// have no fault. The error is that there is no memory.
+/// Attaches an executable if it passes the checks of its headers, and adds it to those that name frames if its symbols have
+/// no fault. The only error is that there is no memory.
 fn attach_named<'a>(
     alloc: Global,
     space: &mut AddressSpace<'a>,

@@ -1,7 +1,7 @@
 // The frames of a thread's stack.
 ghost use Rattle.std.specs.Prelude.{◌≡◌, ◌++◌, ℕ, List, IfOk, IfSome, None, length, map};
 ghost use Rattle.std.specs.List.{flat_map};
-ghost use Rattle.script_streams.specs.Replies.{TellsReply, TellsText, reply_of, telling};
+ghost use Rattle.script_streams.specs.Replies.{PrintsReply, PrintsText, reply_of, printing};
 ghost use Rattle.address_space.specs.Source.{ExecutableView, Space};
 ghost use Rattle.address_space.specs.SpaceWords.{space_of};
 ghost use Rattle.backtrace.specs.Chain.{chain, stop_of};
@@ -18,18 +18,18 @@ ghost use Rattle.memory_replies.specs.Stack.{HasFrames, IsWalked};
 ghost use Rattle.thread_regs.specs.Register.{register_in};
 
 use crate::attached::{space_and_images, space_with};
-use crate::function_names::{FunctionNames, tell_where};
+use crate::function_names::{FunctionNames, print_where};
 use crate::laws::a_sound_front_names_the_files;
 use crate::named_executable::NamedExecutable;
 use crate::naming::named_executables;
 use crate::outcome::Outcome;
 use crate::window::Window;
-use crate::words::tell_hex_word;
+use crate::words::print_hex_word;
 use address_space::{AddressSpace, Attached};
 use backtrace::{Frame, Frames, StackBytes, Stop};
 use elf_view::a_sound_front_is_enough;
 use image_replies::CoreImage;
-use script_streams::{Output, Reply, tell_no, tell_ok};
+use script_streams::{Output, Reply, print_no, print_ok};
 use std::alloc::{AllocError, Global};
 use thread_regs::{Reg, Thread, threads};
 
@@ -44,36 +44,36 @@ fn looked_up(frame: Frame) -> Option<u64>
     }
 }
 
-/// Tells what the return address register holds, after frame 0.
-fn tell_return<O: Output>(reply: &mut Reply<'_, O>, ra: u64, frame: Frame)
-    ensures { TellsText (telling O.Output reply.old reply.new) (spec.return_words ra frame) }
+/// Prints the value of the return address register, after frame 0.
+fn print_return<O: Output>(reply: &mut Reply<'_, O>, ra: u64, frame: Frame)
+    ensures { PrintsText (printing O.Output reply.old reply.new) (spec.return_words ra frame) }
 {
     if frame.index == 0 {
-        reply.tell(b" ra ");
-        reply.tell_hexadecimal(u128::from(ra));
+        reply.print(b" ra ");
+        reply.print_hexadecimal(u128::from(ra));
     }
 }
 
-/// Tells the line of a frame.
+/// Prints the line of a frame.
 #[tactic(auto, unfolding(crate::specs::Backtrace::frame_line))]
-fn tell_frame<O: Output>(
+fn print_frame<O: Output>(
     reply: &mut Reply<'_, O>,
     space: &AddressSpace<'_>,
     names: &FunctionNames<'_>,
     ra: u64,
     frame: Frame,
 )
-    ensures { TellsText (telling O.Output reply.old reply.new)
+    ensures { PrintsText (printing O.Output reply.old reply.new)
         (spec.frame_line (places_by (space_of space.now).files names.now) ra frame) }
 {
-    reply.tell_decimal(u128::from(frame.index));
-    reply.tell(b" ");
-    tell_hex_word(reply, frame.pc);
-    tell_where(reply, space, names, frame.pc, looked_up(frame));
-    reply.tell(b" fp ");
-    reply.tell_hexadecimal(u128::from(frame.fp));
-    tell_return(reply, ra, frame);
-    reply.tell(b"\n");
+    reply.print_decimal(u128::from(frame.index));
+    reply.print(b" ");
+    print_hex_word(reply, frame.pc);
+    print_where(reply, space, names, frame.pc, looked_up(frame));
+    reply.print(b" fp ");
+    reply.print_hexadecimal(u128::from(frame.fp));
+    print_return(reply, ra, frame);
+    reply.print(b"\n");
 }
 
 /// The name of a reason why frames end.
@@ -89,33 +89,33 @@ fn stop_name(stop: Stop) -> &'static [u8]
     }
 }
 
-/// Tells why frames end.
-fn tell_stop<O: Output>(reply: &mut Reply<'_, O>, stop: Stop)
-    ensures { TellsText (telling O.Output reply.old reply.new) (spec.stop_line stop) }
+/// Prints why frames end.
+fn print_stop<O: Output>(reply: &mut Reply<'_, O>, stop: Stop)
+    ensures { PrintsText (printing O.Output reply.old reply.new) (spec.stop_line stop) }
 {
-    reply.tell(b"stop ");
-    reply.tell(stop_name(stop));
-    reply.tell(b"\n");
+    reply.print(b"stop ");
+    reply.print(stop_name(stop));
+    reply.print(b"\n");
 }
 
-/// Tells a line for each frame that is left, and why they end.
-fn tell_frames<O: Output>(
+/// Prints a line for each remaining frame, and why they end.
+fn print_frames<O: Output>(
     reply: &mut Reply<'_, O>,
     space: &AddressSpace<'_>,
     names: &FunctionNames<'_>,
     ra: u64,
     frames: Frames<'_, '_>,
 )
-    ensures { TellsText (telling O.Output reply.old reply.new)
+    ensures { PrintsText (printing O.Output reply.old reply.new)
         (flat_map (spec.frame_line (places_by (space_of space.now).files names.now) ra) (frames_left frames.entry)
         ++ spec.stop_line (stop_left frames.entry)) }
 {
     let mut frames = frames;
     while let Some(frame) = frames.next() {
-        tell_frame(reply, space, names, ra, frame);
+        print_frame(reply, space, names, ra, frame);
     }
     if let Some(stop) = frames.stop() {
-        tell_stop(reply, stop);
+        print_stop(reply, stop);
     }
 }
 
@@ -138,8 +138,8 @@ fn frames_from<'s, 'a>(
     }
 }
 
-/// Tells the frames of a thread: those of the memory, or those that bytes of its stack show.
-fn tell_thread<O: Output>(
+/// Prints the frames of a thread: those of the memory, or those that bytes of its stack show.
+fn print_thread<O: Output>(
     reply: &mut Reply<'_, O>,
     space: &AddressSpace<'_>,
     names: &FunctionNames<'_>,
@@ -147,14 +147,14 @@ fn tell_thread<O: Output>(
     thread: Thread<'_>,
 )
     ensures { (other : Space) → IsWalked stack.entry (register_in (thread_bytes thread.entry) 32) (register_in (thread_bytes thread.entry) 8) (space_of space.now) other
-        → TellsText (telling O.Output reply.old reply.new)
+        → PrintsText (printing O.Output reply.old reply.new)
         (spec.thread_lines other (places_by (space_of space.now).files names.now)
         (thread_bytes thread.entry)) }
 {
     let ra = thread.register(Reg::of_word(1));
     let pc = thread.register(Reg::of_word(0));
     let fp = thread.register(Reg::of_word(8));
-    tell_frames(reply, space, names, ra, frames_from(space, stack, pc, fp));
+    print_frames(reply, space, names, ra, frames_from(space, stack, pc, fp));
 }
 
 /// The bytes of the window, unless the core is the whole image.
@@ -170,9 +170,9 @@ fn stack_in<'w>(core: &CoreImage<'_>, window: Window<'w>) -> Option<&'w [u8]>
     }
 }
 
-/// Tells the frames of a core's thread, by its number among the threads, in that memory, with the functions that these files name.
-/// Says what became of it.
-fn tell_thread_of<O: Output>(
+/// Prints the frames of a core's thread, by its number among the threads, in that memory, with the functions that these files
+/// name. Returns the outcome.
+fn print_thread_of<O: Output>(
     reply: &mut Reply<'_, O>,
     core: &CoreImage<'_>,
     window: Window<'_>,
@@ -182,27 +182,27 @@ fn tell_thread_of<O: Output>(
 ) -> Outcome
     ensures { (image : List ℕ) (executables : List ExecutableView) → HasFrames (core_bytes core.now) window.entry.size window.entry.bytes.now thread image
         → space_of space.now ≡ memory_of (core_bytes core.now) executables
-        → TellsReply (telling O.Output reply.old reply.new)
+        → PrintsReply (printing O.Output reply.old reply.new)
         (AnswersWith result (spec.frames_answer image executables (places_by (mapped_files image) names.now) thread)) }
 {
     a_sound_front_is_enough();
     a_sound_front_names_the_files();
     let Some(thread) = threads(core.notes()).thread(thread) else {
-        tell_no(reply, b"NoThread");
+        print_no(reply, b"NoThread");
         return Outcome::Refused;
     };
-    tell_thread(reply, space, names, stack_in(core, window), thread);
-    tell_ok(reply);
+    print_thread(reply, space, names, stack_in(core, window), thread);
+    print_ok(reply);
     Outcome::Done
 }
 
-/// Tells the frames of a core's thread, by its number among the threads: `0 PC WHERE fp h ra h`, then `I PC WHERE fp h` for
-/// each other, and `stop REASON`. WHERE is `NAME+h` by the symbols of the executable that is attached for the mapped file,
-/// or `?`. A core with fewer threads is answered by `no NoThread`. Says what became of it.
+/// Prints the frames of a core's thread, by its number among the threads: `0 PC WHERE fp h ra h`, then `I PC WHERE fp h`
+/// for each other, and `stop REASON`. WHERE is `NAME+h` by the symbols of the executable that is attached for the mapped
+/// file, or `?`. A core with fewer threads is answered by `no NoThread`. Returns the outcome.
 ///
-/// The core may be the first bytes alone of an image. It is told what any image shows that begins so, and whose frames are known by
-/// the window (`has_frames`).
-pub fn tell_bt<O: Output>(
+/// The core may be only the first bytes of an image. The reply is the same as for every image that starts with these bytes, and
+/// whose frames the window determines (`has_frames`).
+pub fn print_bt<O: Output>(
     alloc: Global,
     reply: &mut Reply<'_, O>,
     core: &CoreImage<'_>,
@@ -210,15 +210,15 @@ pub fn tell_bt<O: Output>(
     attached: &[Attached<'_>],
     thread: u64,
 ) -> Outcome
-    ensures { (image : List ℕ) → HasFrames (core_bytes core.now) window.entry.size window.entry.bytes.now thread image → TellsReply (telling O.Output reply.old reply.new)
+    ensures { (image : List ℕ) → HasFrames (core_bytes core.now) window.entry.size window.entry.bytes.now thread image → PrintsReply (printing O.Output reply.old reply.new)
         (AnswersWith result (spec.bt_answer image (map attached_view attached.now) thread)) }
 {
     let Ok((space, images)) = space_and_images(alloc, core, attached) else {
-        tell_no(reply, b"OutOfMemory");
+        print_no(reply, b"OutOfMemory");
         return Outcome::OutOfMemory;
     };
     let names = FunctionNames::OfExecutables(images);
-    tell_thread_of(reply, core, window, &space, &names, thread)
+    print_thread_of(reply, core, window, &space, &names, thread)
 }
 
 /// The memory of a core with its executables, and these with their debug files. The error is that there is no memory.
@@ -236,9 +236,9 @@ fn space_and_named<'a>(
     Ok((space, named))
 }
 
-/// The same as `tell_bt`, but that a function whose executable has no symbol for it is named by the debug file of the same path, if
+/// Like `print_bt`, but if a function's executable has no symbol for it, the debug file of the same path names the function, if
 /// there is one.
-pub fn tell_bt_with_debugs<O: Output>(
+pub fn print_bt_with_debugs<O: Output>(
     alloc: Global,
     reply: &mut Reply<'_, O>,
     core: &CoreImage<'_>,
@@ -247,13 +247,13 @@ pub fn tell_bt_with_debugs<O: Output>(
     debugs: &[Attached<'_>],
     thread: u64,
 ) -> Outcome
-    ensures { (image : List ℕ) → HasFrames (core_bytes core.now) window.entry.size window.entry.bytes.now thread image → TellsReply (telling O.Output reply.old reply.new)
+    ensures { (image : List ℕ) → HasFrames (core_bytes core.now) window.entry.size window.entry.bytes.now thread image → PrintsReply (printing O.Output reply.old reply.new)
         (AnswersWith result (spec.bt_with_debugs image (map attached_view attached.now) (map attached_view debugs.now) thread)) }
 {
     let Ok((space, named)) = space_and_named(alloc, core, attached, debugs) else {
-        tell_no(reply, b"OutOfMemory");
+        print_no(reply, b"OutOfMemory");
         return Outcome::OutOfMemory;
     };
     let names = FunctionNames::WithDebugFiles(named);
-    tell_thread_of(reply, core, window, &space, &names, thread)
+    print_thread_of(reply, core, window, &space, &names, thread)
 }

@@ -1,13 +1,13 @@
 // By which files a frame's function is named.
 ghost use Rattle.std.specs.Prelude.{◌≡◌};
 ghost use Rattle.std.specs.Option.{option_map};
-ghost use Rattle.script_streams.specs.Replies.{TellsText, telling};
+ghost use Rattle.script_streams.specs.Replies.{PrintsText, printing};
 ghost use Rattle.address_space.specs.SpaceWords.{space_of};
 ghost use Rattle.memory_replies.specs.FunctionWords.{places_by};
 ghost use Rattle.memory_replies.specs.NamedWords.{place_view};
 ghost use Rattle.memory_replies.specs.Places as spec;
 
-use crate::named::{Location, place_of, tell_place};
+use crate::named::{Location, place_of, print_place};
 use crate::named_executable::NamedExecutable;
 use crate::naming::function_of;
 use crate::symbolized_executables::SymbolizedExecutables;
@@ -35,17 +35,17 @@ impl<'a> FunctionNames<'a> {
     }
 }
 
-/// Tells where a pc is: `NAME+h`, how far it is after the value of the function at the address that is looked up for it; or `?`, if
-/// no address is looked up or its function is not known.
-pub(crate) fn tell_where<O: Output>(
+/// Prints the place of a pc: `NAME+h`, where `h` is its distance from the value of the function at the address that is looked up
+/// for it; or `?`, if no address is looked up or its function is not known.
+pub(crate) fn print_where<O: Output>(
     reply: &mut Reply<'_, O>,
     space: &AddressSpace<'_>,
     names: &FunctionNames<'_>,
     pc: u64,
     address: Option<u64>,
 )
-    ensures { TellsText (telling O.Output reply.old reply.new)
+    ensures { PrintsText (printing O.Output reply.old reply.new)
         (spec.place_words (places_by (space_of space.now).files names.now pc address)) }
 {
-    tell_place(reply, names.place(space, pc, address));
+    print_place(reply, names.place(space, pc, address));
 }

@@ -1,4 +1,4 @@
-// What is told from the first bytes of a core, and what debug files add.
+// The replies that the first bytes of a core determine, and the effect of debug files.
 ghost use Rattle.std.specs.Prelude.{◌≡◌, [], ℕ, List, Option, Some, take};
 ghost use Rattle.address_space.specs.Source.{ExecutableView};
 ghost use Rattle.core_notes.specs.FileList.{FileView};
@@ -31,7 +31,8 @@ pub fn a_sound_front_names_the_files()
     a_sound_front_is_enough();
 }
 
-/// Debug files name what the executables do not name. If a function is known without them, it is the same with them. It does nothing.
+/// Debug files name functions that the executables do not name. If a function
+/// is known without them, it is the same with them. This function does nothing.
 pub fn debug_replaces_unknown()
     ensures { (mapped : List FileView) (executables debugs : List ExecutableView) (pc : ℕ) (address : Option ℕ) (place : PlaceView)
         → function_of mapped (named_files executables []) pc address ≡ Some place → function_of mapped (named_files executables debugs) pc address ≡ Some place }

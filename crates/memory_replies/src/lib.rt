@@ -5,7 +5,6 @@
 #![tactic(auto)]
 
 mod attached;
-mod code;
 mod debug_file;
 mod dump;
 mod file_names;
@@ -28,22 +27,21 @@ mod window;
 mod words;
 
 pub use attached::{space_and_images, space_with};
-pub use code::{CodePlace, code_of};
-pub use dump::{is_out_of_range, tell_dump};
+pub use dump::{is_out_of_range, print_dump};
 pub use file_names::FileNames;
-pub use frames::{tell_bt, tell_bt_with_debugs};
+pub use frames::{print_bt, print_bt_with_debugs};
 pub use laws::{
     a_sound_front_names_the_files, a_sound_front_shows_the_mappings, debug_replaces_unknown,
 };
-pub use maps::tell_maps;
-pub use named::{Location, place_of, tell_place};
+pub use maps::print_maps;
+pub use named::{Location, place_of, print_place};
 pub use named_executable::NamedExecutable;
-pub use naming::{function_of, named_executables};
+pub use naming::{function_of, named_executables, of_path};
 pub use outcome::Outcome;
-pub use search::tell_find;
+pub use search::print_find;
 pub use stack::{has_frames, stack_range};
-pub use symbol::{tell_symbol, tell_symbol_with_debug};
+pub use symbol::{print_symbol, print_symbol_with_debug};
 pub use symbolized_executables::SymbolizedExecutables;
-pub use texts::tell_strings;
+pub use texts::print_strings;
 pub use window::Window;
-pub use words::tell_hex_word;
+pub use words::print_hex_word;

@@ -1,7 +1,7 @@
 // In which function a pc is.
 ghost use Rattle.std.specs.Prelude.{◌≡◌, map};
 ghost use Rattle.std.specs.Option.{option_map};
-ghost use Rattle.script_streams.specs.Replies.{TellsText, telling};
+ghost use Rattle.script_streams.specs.Replies.{PrintsText, printing};
 ghost use Rattle.address_space.specs.SourceWords.{spot_view};
 ghost use Rattle.address_space.specs.SpaceWords.{space_of};
 ghost use Rattle.memory_replies.specs.Places as spec;
@@ -23,7 +23,7 @@ pub struct Location<'a> {
     pub distance: u128,
 }
 
-/// The function at an offset of an executable, where a pc is `behind` bytes after that offset.
+/// The function at an offset of an executable, if a pc is `behind` bytes after that offset.
 fn place_in<'a>(image: &SymbolizedExecutable<'a>, offset: u64, behind: u64) -> Option<Location<'a>>
     ensures { option_map place_view result ≡ spec.place_in behind offset (named_view image.now) }
 {
@@ -65,17 +65,17 @@ pub fn place_of<'a>(
     place_at(images, spot, pc.saturating_sub(address))
 }
 
-/// Tells a place in a function, `NAME+h`, or `?` where it is not known.
-pub fn tell_place<O: Output>(reply: &mut Reply<'_, O>, place: Option<Location<'_>>)
-    ensures { TellsText (telling O.Output reply.old reply.new)
+/// Prints a place in a function, `NAME+h`, or `?` if it is not known.
+pub fn print_place<O: Output>(reply: &mut Reply<'_, O>, place: Option<Location<'_>>)
+    ensures { PrintsText (printing O.Output reply.old reply.new)
         (spec.place_words (option_map place_view place.entry)) }
 {
     match place {
         Some(place) => {
-            reply.tell_text(place.name);
-            reply.tell(b"+");
-            reply.tell_hexadecimal(place.distance);
+            reply.print_text(place.name);
+            reply.print(b"+");
+            reply.print_hexadecimal(place.distance);
         }
-        None => reply.tell(b"?"),
+        None => reply.print(b"?"),
     }
 }

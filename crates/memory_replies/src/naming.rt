@@ -4,6 +4,7 @@ ghost use Rattle.std.specs.Option.{option_map};
 ghost use Rattle.address_space.specs.Source.{is_named};
 ghost use Rattle.address_space.specs.SourceWords.{spot_view};
 ghost use Rattle.address_space.specs.SpaceWords.{attached_view, space_of};
+ghost use Rattle.elf_view.specs.ViewWords.{image_of};
 ghost use Rattle.symbols.specs.SymbolWords.{symbol_view};
 ghost use Rattle.memory_replies.specs.Naming as spec;
 ghost use Rattle.memory_replies.specs.NamedWords.{place_view};
@@ -19,6 +20,30 @@ use std::alloc::{AllocError, Global};
 use symbols::{Symbol, vaddr_of_offset};
 
 impl<'a> NamedExecutable<'a> {
+    /// The path of the mapped file for which it is used.
+    pub fn path(&self) -> &'a [u8]
+        ensures { result.now ≡ (named_file self.now).file.path }
+    {
+        self.executable.path
+    }
+
+    /// Its headers, which have no fault.
+    pub fn elf(&self) -> &Elf<'a>
+        ensures { image_of result.now ≡ (named_file self.now).file.image }
+    {
+        &self.functions.elf
+    }
+
+    /// All bytes of its debug file, if it has one.
+    pub fn debug_image(&self) -> Option<&'a [u8]>
+        ensures { option_map (λ d. d.now) result ≡ spec.debug_image (named_file self.now) }
+    {
+        match &self.debug {
+            Some(debug) => Some(debug.file.image),
+            None => None,
+        }
+    }
+
     /// The function at an address: the executable's, or else the debug file's.
     fn symbol_at(&self, address: u64) -> Option<Symbol<'a>>
         ensures { option_map symbol_view result ≡ spec.symbol_at (named_file self.now) address }
@@ -32,7 +57,7 @@ impl<'a> NamedExecutable<'a> {
         }
     }
 
-    /// The function at an offset, where a pc is `behind` bytes after that offset.
+    /// The function at an offset, if a pc is `behind` bytes after that offset.
     fn function_in(&self, offset: u64, behind: u64) -> Option<Location<'a>>
         ensures { option_map place_view result ≡ spec.function_in behind offset (named_file self.now) }
     {
@@ -101,7 +126,7 @@ pub fn named_executables<'a>(
 }
 
 /// The first executable of that path.
-pub(crate) fn of_path<'n, 'a>(
+pub fn of_path<'n, 'a>(
     named: &'n [NamedExecutable<'a>],
     path: &[u8],
 ) -> Option<&'n NamedExecutable<'a>>
@@ -128,7 +153,7 @@ fn function_at<'a>(
 }
 
 /// The function at the address that is looked up for a pc, if one is: by the symbols of the executable that is used for the mapped file;
-/// where none of them has the address, by those of its debug file.
+/// if none of them has the address, by those of its debug file.
 #[tactic(auto, unfolding(crate::specs::Naming::function_of))]
 pub fn function_of<'a>(
     space: &AddressSpace<'_>,

@@ -1,11 +1,11 @@
-// What became of a line whose work takes memory.
+// The outcome of a line whose work takes memory.
 ghost use Rattle.std.specs.Prelude.{◌≡◌};
 ghost use Rattle.memory_replies.specs.Answers.{outcome_by, is_done, had_memory};
 
-/// What became of a line whose work takes memory.
+/// The outcome of a line whose work takes memory.
 #[derive(Clone, Copy, PartialEq, Eq, Debug)]
 pub enum Outcome {
-    /// The reply shows what was asked, and ends with `ok`.
+    /// The reply shows the answer, and ends with `ok`.
     Done,
     /// The reply is `no REASON`: there is nothing to show.
     Refused,
@@ -14,7 +14,7 @@ pub enum Outcome {
 }
 
 impl Outcome {
-    /// Whether the reply shows what was asked.
+    /// Whether the reply shows the answer.
     pub fn is_done(self) -> bool
         ensures { result ≡ is_done self }
     {
@@ -29,7 +29,7 @@ impl Outcome {
     }
 }
 
-// What became of a line for which there was memory.
+// The outcome of a line for which there was memory.
 pub(crate) fn outcome_by(done: bool) -> Outcome
     ensures { result ≡ outcome_by done }
 {

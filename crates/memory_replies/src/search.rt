@@ -1,7 +1,7 @@
-// Where bytes occur.
+// The places where bytes occur.
 ghost use Rattle.std.specs.Prelude.{◌≡◌, ◌<◌, length, map};
 ghost use Rattle.std.specs.List.{flat_map};
-ghost use Rattle.script_streams.specs.Replies.{TellsReply, TellsText, reply_of, telling};
+ghost use Rattle.script_streams.specs.Replies.{PrintsReply, PrintsText, reply_of, printing};
 ghost use Rattle.address_space.specs.Occurrence.{occurrences};
 ghost use Rattle.address_space.specs.SpaceWords.{space_of};
 ghost use Rattle.image_replies.specs.CoreWords.{core_bytes};
@@ -13,32 +13,32 @@ use crate::attached::space_with;
 use crate::outcome::Outcome;
 use address_space::{AddressSpace, Attached};
 use image_replies::CoreImage;
-use script_streams::{Output, Reply, tell_no, tell_ok};
+use script_streams::{Output, Reply, print_no, print_ok};
 use std::alloc::Global;
 
-/// Tells the line of an address.
-fn tell_address<O: Output>(reply: &mut Reply<'_, O>, address: u64)
-    ensures { TellsText (telling O.Output reply.old reply.new) (spec.address_line address) }
+/// Prints the line of an address.
+fn print_address<O: Output>(reply: &mut Reply<'_, O>, address: u64)
+    ensures { PrintsText (printing O.Output reply.old reply.new) (spec.address_line address) }
 {
-    reply.tell_hexadecimal(u128::from(address));
-    reply.tell(b"\n");
+    reply.print_hexadecimal(u128::from(address));
+    reply.print(b"\n");
 }
 
-/// Tells a line for each address at which the bytes occur.
-#[tactic(auto, using(crate::proofs::TellLemmas::up_to_start))]
-fn tell_matches<O: Output>(reply: &mut Reply<'_, O>, space: &AddressSpace<'_>, needle: &[u8])
+/// Prints a line for each address at which the bytes occur.
+#[tactic(auto, using(crate::proofs::PrintLemmas::up_to_start))]
+fn print_matches<O: Output>(reply: &mut Reply<'_, O>, space: &AddressSpace<'_>, needle: &[u8])
     requires { 0 < length needle.now }
-    ensures { TellsText (telling O.Output reply.old reply.new)
+    ensures { PrintsText (printing O.Output reply.old reply.new)
         (flat_map spec.address_line (occurrences (space_of space.now) needle.now)) }
 {
     for address in space.find(needle) {
-        tell_address(reply, address);
+        print_address(reply, address);
     }
 }
 
-/// Tells every address at which the bytes occur in a core's memory, by the number of the segment that decides it and then
-/// by itself. Says what became of it.
-pub fn tell_find<O: Output>(
+/// Prints every address at which the bytes occur in a core's memory, by the number of the segment that decides it and
+/// then by itself. Returns the outcome.
+pub fn print_find<O: Output>(
     alloc: Global,
     reply: &mut Reply<'_, O>,
     core: &CoreImage<'_>,
@@ -46,14 +46,14 @@ pub fn tell_find<O: Output>(
     needle: &[u8],
 ) -> Outcome
     requires { 0 < length needle.now }
-    ensures { TellsReply (telling O.Output reply.old reply.new)
+    ensures { PrintsReply (printing O.Output reply.old reply.new)
         (AnswersWith result (spec.find_answer (core_bytes core.now) (map attached_view attached.now) needle.now)) }
 {
     let Ok(space) = space_with(alloc, core, attached) else {
-        tell_no(reply, b"OutOfMemory");
+        print_no(reply, b"OutOfMemory");
         return Outcome::OutOfMemory;
     };
-    tell_matches(reply, &space, needle);
-    tell_ok(reply);
+    print_matches(reply, &space, needle);
+    print_ok(reply);
     Outcome::Done
 }

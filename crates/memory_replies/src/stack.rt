@@ -1,4 +1,4 @@
-// What of a core's image the frames of a thread want.
+// The part of a core's image that the frames of a thread need.
 ghost use Rattle.std.specs.Prelude.{◌≡◌, ◌≤◌, ◌-◌, ℕ, List, None, true};
 ghost use Rattle.elf_view.specs.Header.{segments_of};
 ghost use Rattle.address_space.specs.Source.{Space};
@@ -23,7 +23,7 @@ const MOST_READ: u64 = 1_048_576;
 const NOWHERE: ImageRange = ImageRange { start: 0, past: 0 };
 
 /// The places of an image of `size` bytes that have a thread's stack, from 16 below its frame pointer on: at most 1,048,576, and
-/// none where there is no such thread or its stack is not there. The core is that image, or its first bytes.
+/// no places if the thread does not exist or its stack is not in the image. The core is that image, or its first bytes.
 pub fn stack_range(core: &CoreImage<'_>, size: u64, thread: u64) -> ImageRange
     ensures within { (result.start ≤ result.past) × (result.past ≤ size) }
     ensures few { result.past - result.start ≤ 1048576 }
@@ -53,7 +53,7 @@ fn is_stack(core: &CoreImage<'_>, window: Window<'_>, first: u64) -> bool
     }
 }
 
-/// Whether what the words below a frame pointer are in the stack is what they are in the core's memory.
+/// Whether the words below a frame pointer are the same in the stack as in the core's memory.
 fn is_link_known(core: &CoreImage<'_>, size: u64, stack: StackBytes<'_>, fp: u64) -> bool
     ensures { result ≡ true → (image : List ℕ) → IsFrontOf (core_bytes core.now) size image → (space : Space) → space.segments ≡ segments_of image
         → AreStackOf space stack.entry.first stack.entry.bytes.now
@@ -73,7 +73,7 @@ fn is_link_known(core: &CoreImage<'_>, size: u64, stack: StackBytes<'_>, fp: u64
     has_no_value(&core.elf(), size, fp - 16)
 }
 
-/// Whether the stack shows what comes after a frame, with that frame pointer before it.
+/// Whether the stack determines the step after a frame, with that frame pointer before it.
 fn is_settled(
     core: &CoreImage<'_>,
     size: u64,
@@ -91,7 +91,7 @@ fn is_settled(
     is_link_known(core, size, stack, frame.fp)
 }
 
-/// Whether the stack shows what comes after each frame from a pc and a frame pointer on.
+/// Whether the stack determines the step after each frame from a pc and a frame pointer on.
 fn are_settled(core: &CoreImage<'_>, size: u64, stack: StackBytes<'_>, pc: u64, fp: u64) -> bool
     ensures { result ≡ true → (image : List ℕ) → IsFrontOf (core_bytes core.now) size image → (space : Space) → space.segments ≡ segments_of image
         → AreStackOf space stack.entry.first stack.entry.bytes.now

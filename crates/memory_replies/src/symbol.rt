@@ -1,7 +1,7 @@
 // The function that an address belongs to.
 ghost use Rattle.std.specs.Prelude.{◌≡◌, IfOk, None, is_ok};
 ghost use Rattle.std.specs.Option.{option_and_then, option_map, option_or};
-ghost use Rattle.script_streams.specs.Replies.{TellsReply, TellsText, no_reply, reply_of, telling};
+ghost use Rattle.script_streams.specs.Replies.{PrintsReply, PrintsText, no_reply, reply_of, printing};
 ghost use Rattle.symbols.specs.Names.{symbol_named};
 ghost use Rattle.symbols.specs.SymbolWords.{functions_in, strings_in, symbol_view};
 ghost use Rattle.memory_replies.specs.Answers.{AnswersWith};
@@ -13,61 +13,61 @@ ghost use Rattle.image_replies.specs.Reasons.{indexed};
 
 use crate::debug_file::debug_functions;
 use crate::outcome::{Outcome, outcome_by};
-use crate::words::tell_hex_word;
+use crate::words::print_hex_word;
 use elf_view::{Elf, Want};
-use image_replies::tell_elf_fault;
-use script_streams::{Output, Reply, tell_no, tell_ok};
+use image_replies::print_elf_fault;
+use script_streams::{Output, Reply, print_no, print_ok};
 use std::alloc::{AllocError, Global};
 use symbols::{Symbol, SymbolError, SymbolFault, Symbols};
 
-/// Tells `no`, the name of a field and a number.
-fn tell_indexed<O: Output>(reply: &mut Reply<'_, O>, name: &[u8], index: u64)
-    ensures { TellsText (telling O.Output reply.old reply.new) (no_reply (indexed name.now index)) }
+/// Prints `no`, the name of a field and a number.
+fn print_indexed<O: Output>(reply: &mut Reply<'_, O>, name: &[u8], index: u64)
+    ensures { PrintsText (printing O.Output reply.old reply.new) (no_reply (indexed name.now index)) }
 {
-    reply.tell(b"no ");
-    reply.tell(name);
-    reply.tell(b" ");
-    reply.tell_decimal(u128::from(index));
-    reply.tell(b"\n");
+    reply.print(b"no ");
+    reply.print(name);
+    reply.print(b" ");
+    reply.print_decimal(u128::from(index));
+    reply.print(b"\n");
 }
 
-/// Tells the fault of a symbol table: `no FIELD` for a field of the file header, else `no FIELD INDEX`.
-fn tell_symbol_fault<O: Output>(reply: &mut Reply<'_, O>, fault: SymbolFault)
-    ensures { TellsText (telling O.Output reply.old reply.new) (no_reply (spec.symbol_reason fault)) }
+/// Prints the fault of a symbol table: `no FIELD` for a field of the file header, else `no FIELD INDEX`.
+fn print_symbol_fault<O: Output>(reply: &mut Reply<'_, O>, fault: SymbolFault)
+    ensures { PrintsText (printing O.Output reply.old reply.new) (no_reply (spec.symbol_reason fault)) }
 {
     let name = fault.field.name().as_bytes();
     if fault.field.has_index() {
-        tell_indexed(reply, name, fault.index);
+        print_indexed(reply, name, fault.index);
     } else {
-        tell_no(reply, name);
+        print_no(reply, name);
     }
 }
 
-/// Tells the line of a function.
-fn tell_function<O: Output>(reply: &mut Reply<'_, O>, symbol: Symbol<'_>)
-    ensures { TellsText (telling O.Output reply.old reply.new)
+/// Prints the line of a function.
+fn print_function<O: Output>(reply: &mut Reply<'_, O>, symbol: Symbol<'_>)
+    ensures { PrintsText (printing O.Output reply.old reply.new)
         (spec.symbol_line (symbol_view symbol.entry)) }
 {
-    reply.tell_text(symbol.name);
-    reply.tell(b" ");
-    tell_hex_word(reply, symbol.value);
-    reply.tell_hexadecimal(u128::from(symbol.size));
-    reply.tell(b"\n");
+    reply.print_text(symbol.name);
+    reply.print(b" ");
+    print_hex_word(reply, symbol.value);
+    reply.print_hexadecimal(u128::from(symbol.size));
+    reply.print(b"\n");
 }
 
-/// Tells the function that was found, if there is one. Says whether there is.
-fn tell_found<O: Output>(reply: &mut Reply<'_, O>, found: Option<Symbol<'_>>) -> bool
-    ensures tells { TellsText (telling O.Output reply.old reply.new) (reply_of (spec.found_answer (option_map symbol_view found.entry))) }
+/// Prints the function that was found, if there is one. Returns whether there is.
+fn print_found<O: Output>(reply: &mut Reply<'_, O>, found: Option<Symbol<'_>>) -> bool
+    ensures states { PrintsText (printing O.Output reply.old reply.new) (reply_of (spec.found_answer (option_map symbol_view found.entry))) }
     ensures done { result ≡ is_ok (spec.found_answer (option_map symbol_view found.entry)) }
 {
     match found {
         Some(symbol) => {
-            tell_function(reply, symbol);
-            tell_ok(reply);
+            print_function(reply, symbol);
+            print_ok(reply);
             true
         }
         None => {
-            tell_no(reply, b"NoSymbol");
+            print_no(reply, b"NoSymbol");
             false
         }
     }
@@ -96,59 +96,59 @@ fn symbol_at<'a>(
     }
 }
 
-/// Tells the function of an executable that an address belongs to: `NAME VALUE SIZE`, or `no NoSymbol`. If no function of the
-/// executable has the address, its debug file is asked, if there is one. The first fault of the executable's headers, or else of its
-/// symbol table, is answered instead. If there is no memory for the functions, and neither has a fault, the reply is
-/// `no OutOfMemory`. Says what became of it.
-pub fn tell_symbol_with_debug<O: Output>(
+/// Prints the function of an executable that an address belongs to: `NAME VALUE SIZE`, or `no NoSymbol`. If no function of the
+/// executable has the address, its debug file is searched, if there is one. The first fault of the executable's headers, or else of
+/// its symbol table, is answered instead. If there is no memory for the functions, and neither has a fault, the reply is `no
+/// OutOfMemory`. Returns the outcome.
+pub fn print_symbol_with_debug<O: Output>(
     alloc: Global,
     reply: &mut Reply<'_, O>,
     image: &[u8],
     debug: Option<&[u8]>,
     address: u64,
 ) -> Outcome
-    ensures { TellsReply (telling O.Output reply.old reply.new)
+    ensures { PrintsReply (printing O.Output reply.old reply.new)
         (λ text. AnswersWith result (symbol_with_debug image.now (option_map (λ d. d.now) debug.entry) address) text × (result ≡ OutOfMemory → spec.executable_fault image.now ≡ None)) }
 {
     let elf = match Elf::read(image, Want::Exec) {
         Ok(elf) => elf,
         Err(fault) => {
-            tell_elf_fault(reply, fault);
+            print_elf_fault(reply, fault);
             return Outcome::Refused;
         }
     };
     match Symbols::read(alloc, &elf) {
         Ok(symbols) => match symbol_at(alloc, &symbols, debug, address) {
             Ok(found) => {
-                let done = tell_found(reply, found);
+                let done = print_found(reply, found);
                 outcome_by(done)
             }
             Err(_) => {
-                tell_no(reply, b"OutOfMemory");
+                print_no(reply, b"OutOfMemory");
                 Outcome::OutOfMemory
             }
         },
         Err(SymbolError::Fault(fault)) => {
-            tell_symbol_fault(reply, fault);
+            print_symbol_fault(reply, fault);
             Outcome::Refused
         }
         Err(SymbolError::OutOfMemory) => {
-            tell_no(reply, b"OutOfMemory");
+            print_no(reply, b"OutOfMemory");
             Outcome::OutOfMemory
         }
     }
 }
 
-/// Tells the function of an executable that an address belongs to, by the executable alone. It is else as
-/// `tell_symbol_with_debug`.
-pub fn tell_symbol<O: Output>(
+/// Prints the function of an executable that an address belongs to, by the executable alone. Otherwise it is like
+/// `print_symbol_with_debug`.
+pub fn print_symbol<O: Output>(
     alloc: Global,
     reply: &mut Reply<'_, O>,
     image: &[u8],
     address: u64,
 ) -> Outcome
-    ensures { TellsReply (telling O.Output reply.old reply.new)
+    ensures { PrintsReply (printing O.Output reply.old reply.new)
         (λ text. AnswersWith result (spec.symbol_answer image.now address) text × (result ≡ OutOfMemory → spec.executable_fault image.now ≡ None)) }
 {
-    tell_symbol_with_debug(alloc, reply, image, None, address)
+    print_symbol_with_debug(alloc, reply, image, None, address)
 }

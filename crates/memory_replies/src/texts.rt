@@ -1,7 +1,7 @@
 // The texts in memory.
 ghost use Rattle.std.specs.Prelude.{◌≡◌, ◌+◌, ◌-◌, ◌^◌, ◌≤◌, [], length, map};
 ghost use Rattle.std.specs.List.{flat_map};
-ghost use Rattle.script_streams.specs.Replies.{TellsReply, TellsText, reply_of, telling};
+ghost use Rattle.script_streams.specs.Replies.{PrintsReply, PrintsText, reply_of, printing};
 ghost use Rattle.script_words.specs.Printing.{shown, shown_byte};
 ghost use Rattle.address_space.specs.Occurrence.{strings_of, text_len};
 ghost use Rattle.address_space.specs.Source.{value_of};
@@ -14,10 +14,10 @@ ghost use Rattle.memory_replies.specs.Texts as spec;
 
 use crate::attached::space_with;
 use crate::outcome::Outcome;
-use crate::words::tell_hex_word;
+use crate::words::print_hex_word;
 use address_space::{AddressSpace, Attached, PieceKind, Source};
 use image_replies::CoreImage;
-use script_streams::{Output, Reply, tell_no, tell_ok};
+use script_streams::{Output, Reply, print_no, print_ok};
 use std::alloc::Global;
 
 /// The value of an address, if it has one.
@@ -33,66 +33,66 @@ fn value(source: Source<'_>) -> Option<u8>
     }
 }
 
-/// Tells how a value prints as a text.
-fn tell_alone<O: Output>(reply: &mut Reply<'_, O>, value: Option<u8>)
-    ensures { TellsText (telling O.Output reply.old reply.new) (shown (spec.value_list value)) }
+/// Prints a value in the form that it has in a text.
+fn print_alone<O: Output>(reply: &mut Reply<'_, O>, value: Option<u8>)
+    ensures { PrintsText (printing O.Output reply.old reply.new) (shown (spec.value_list value)) }
 {
     match value {
-        Some(byte) => reply.tell_text(&[byte]),
-        None => reply.tell_text(&[]),
+        Some(byte) => reply.print_text(&[byte]),
+        None => reply.print_text(&[]),
     }
 }
 
-/// Tells how the bytes of a piece print, one after the other.
-fn tell_piece<O: Output>(reply: &mut Reply<'_, O>, kind: PieceKind<'_>)
-    ensures { TellsText (telling O.Output reply.old reply.new)
+/// Prints the bytes of a piece in that form, one after the other.
+fn print_piece<O: Output>(reply: &mut Reply<'_, O>, kind: PieceKind<'_>)
+    ensures { PrintsText (printing O.Output reply.old reply.new)
         (flat_map shown_byte (spec.content_bytes (kind_view kind.entry))) }
 {
     match kind {
-        PieceKind::Bytes(bytes) => reply.tell_bytes(bytes),
-        PieceKind::FromFile(bytes) => reply.tell_bytes(bytes),
+        PieceKind::Bytes(bytes) => reply.print_bytes(bytes),
+        PieceKind::FromFile(bytes) => reply.print_bytes(bytes),
         PieceKind::NotDumped(_) => {}
         PieceKind::Cut => {}
         PieceKind::Unmapped => {}
     }
 }
 
-/// Tells how the values of addresses print, one after the other, where their number is one of 64 bits.
-#[tactic(auto, using(crate::proofs::TellLemmas::up_to_start))]
-fn tell_pieces<O: Output>(
+/// Prints the values of addresses in that form, one after the other, if their number is one of 64 bits.
+#[tactic(auto, using(crate::proofs::PrintLemmas::up_to_start))]
+fn print_pieces<O: Output>(
     reply: &mut Reply<'_, O>,
     space: &AddressSpace<'_>,
     start: u64,
     count: u64,
 )
     requires { start + count ≤ 2 ^ 64 }
-    ensures { TellsText (telling O.Output reply.old reply.new)
+    ensures { PrintsText (printing O.Output reply.old reply.new)
         (flat_map shown_byte (spec.values_between (space_of space.now) start count)) }
 {
     for piece in space.pieces(start, count) {
-        tell_piece(reply, piece.kind);
+        print_piece(reply, piece.kind);
     }
 }
 
-/// The same of any number: all addresses are 2^64, so they are told in two halves.
-fn tell_values<O: Output>(
+/// The same for any number: all addresses are 2^64, so they are printed in two halves.
+fn print_values<O: Output>(
     reply: &mut Reply<'_, O>,
     space: &AddressSpace<'_>,
     start: u64,
     count: u128,
 )
     requires { start + count ≤ 2 ^ 64 }
-    ensures { TellsText (telling O.Output reply.old reply.new)
+    ensures { PrintsText (printing O.Output reply.old reply.new)
         (flat_map shown_byte (spec.values_between (space_of space.now) start count)) }
 {
     let half = (count / 2) as u64;
     let others = (count - count / 2) as u64;
-    tell_pieces(reply, space, start, half);
-    tell_pieces(reply, space, start + half, others);
+    print_pieces(reply, space, start, half);
+    print_pieces(reply, space, start + half, others);
 }
 
-/// Tells how the values of addresses, each of which has one, print as a text.
-fn tell_shown<O: Output>(
+/// Prints the values of addresses, each of which has one, as a text.
+fn print_shown<O: Output>(
     reply: &mut Reply<'_, O>,
     space: &AddressSpace<'_>,
     start: u64,
@@ -100,57 +100,62 @@ fn tell_shown<O: Output>(
 )
     requires within { start + count ≤ 2 ^ 64 }
     requires whole { length (spec.values_between (space_of space.now) start count) ≡ count }
-    ensures { TellsText (telling O.Output reply.old reply.new)
+    ensures { PrintsText (printing O.Output reply.old reply.new)
         (shown (spec.values_between (space_of space.now) start count)) }
 {
     match count {
-        0 => reply.tell_text(&[]),
-        1 => tell_alone(reply, value(space.at(start))),
-        _ => tell_values(reply, space, start, count),
+        0 => reply.print_text(&[]),
+        1 => print_alone(reply, value(space.at(start))),
+        _ => print_values(reply, space, start, count),
     }
 }
 
-/// Tells the line of a text.
-fn tell_line<O: Output>(reply: &mut Reply<'_, O>, space: &AddressSpace<'_>, start: u64, count: u128)
+/// Prints the line of a text.
+fn print_line<O: Output>(
+    reply: &mut Reply<'_, O>,
+    space: &AddressSpace<'_>,
+    start: u64,
+    count: u128,
+)
     requires { count ≡ text_len (space_of space.now) start (2 ^ 64 - start) }
-    ensures { TellsText (telling O.Output reply.old reply.new)
+    ensures { PrintsText (printing O.Output reply.old reply.new)
         (spec.text_line (space_of space.now) (start, count)) }
 {
-    tell_hex_word(reply, start);
-    reply.tell_decimal(count);
-    reply.tell(b" ");
-    tell_shown(reply, space, start, count);
-    reply.tell(b"\n");
+    print_hex_word(reply, start);
+    reply.print_decimal(count);
+    reply.print(b" ");
+    print_shown(reply, space, start, count);
+    reply.print(b"\n");
 }
 
-/// Tells a line for each text of at least `least` bytes.
-fn tell_texts<O: Output>(reply: &mut Reply<'_, O>, space: &AddressSpace<'_>, least: u64)
-    ensures { TellsText (telling O.Output reply.old reply.new)
+/// Prints a line for each text of at least `least` bytes.
+fn print_texts<O: Output>(reply: &mut Reply<'_, O>, space: &AddressSpace<'_>, least: u64)
+    ensures { PrintsText (printing O.Output reply.old reply.new)
         (flat_map (spec.text_line (space_of space.now)) (strings_of (space_of space.now) least)) }
 {
     for text in space.strings(least) {
-        tell_line(reply, space, text.0, text.1);
+        print_line(reply, space, text.0, text.1);
     }
 }
 
-/// Tells the stretches of text in a core's memory that have at least `least` bytes: `ADDR LENGTH TEXT`, by the number of the
-/// segment that decides the first address and then by that address. Bytes of text are those from the space to `~` and the
-/// tab. Says what became of it.
-pub fn tell_strings<O: Output>(
+/// Prints the runs of text in a core's memory that have at least `least` bytes: `ADDR LENGTH
+/// TEXT`, by the number of the segment that decides the first address and then by that
+/// address. Bytes of text are those from the space to `~` and the tab. Returns the outcome.
+pub fn print_strings<O: Output>(
     alloc: Global,
     reply: &mut Reply<'_, O>,
     core: &CoreImage<'_>,
     attached: &[Attached<'_>],
     least: u64,
 ) -> Outcome
-    ensures { TellsReply (telling O.Output reply.old reply.new)
+    ensures { PrintsReply (printing O.Output reply.old reply.new)
         (AnswersWith result (spec.strings_answer (core_bytes core.now) (map attached_view attached.now) least)) }
 {
     let Ok(space) = space_with(alloc, core, attached) else {
-        tell_no(reply, b"OutOfMemory");
+        print_no(reply, b"OutOfMemory");
         return Outcome::OutOfMemory;
     };
-    tell_texts(reply, &space, least);
-    tell_ok(reply);
+    print_texts(reply, &space, least);
+    print_ok(reply);
     Outcome::Done
 }

@@ -5,7 +5,7 @@ ghost use Rattle.memory_replies.specs.Window.{IsPartOf, past_of};
 
 use elf_view::part;
 
-/// What is at hand of an image, apart from its first bytes.
+/// The bytes at hand of an image, apart from its first bytes.
 #[derive(Clone, Copy, Debug)]
 pub struct Window<'a> {
     /// How many bytes the image has.

@@ -1,9 +1,11 @@
-//! Tests of the readers of images: what no line shows, calls that take no memory, and memory without tables. The lines that ask
-//! them are rows of `examples/rows`.
+//! Tests of the readers of images: results that no line shows, calls that take no memory, and memory without tables. The lines
+//! that ask them are rows of `examples/rows`.
 #![tactic(auto)]
 
 #[cfg(test)]
 mod builds;
+#[cfg(test)]
+mod directories;
 #[cfg(test)]
 mod elf;
 #[cfg(test)]
@@ -18,6 +20,8 @@ mod notes;
 mod prunes;
 #[cfg(test)]
 mod registers;
+#[cfg(test)]
+mod sections;
 #[cfg(test)]
 mod shown;
 #[cfg(test)]

@@ -1,12 +1,12 @@
-//! Line tables next to what each address of them is: files and lines that other readers of DWARF agree on, and the field at which each
-//! faulty table is refused.
+//! Line tables next to the line of each of their addresses: files and lines that other readers of DWARF agree on, and the field at
+//! which each bad table is refused.
 use line_tables::{Line, LineTables, NoLine};
 use std::process::Abort;
 
 /// The texts that some of the tables refer to.
 static LINE_STRINGS: &[u8] = b"/w\0main.c\0";
 
-/// An address, and the file and the line that it has; line 0 if it has none.
+/// An address, and the file and the line that it has; line 0 if it has no line.
 type Told = (u64, &'static [u8], u32);
 
 static TABLES_1: [(&[u8], &[Told]); 6] = [
@@ -305,7 +305,7 @@ static FAULTS_3: [(&str, u64, &[u8]); 10] = [
 ];
 
 // Whether a line is that of a file and has a number.
-fn is_line(line: &Line<'_>, file: &[u8], number: u32) -> bool {
+pub(crate) fn is_line(line: &Line<'_>, file: &[u8], number: u32) -> bool {
     let mut rest = file;
     for part in [line.file.base, line.file.directory] {
         if part.is_empty() {
@@ -319,8 +319,8 @@ fn is_line(line: &Line<'_>, file: &[u8], number: u32) -> bool {
     rest == line.file.name && line.line == number
 }
 
-// Whether an address has what it should have.
-fn tells(tables: &LineTables<'_>, told: &Told) -> bool {
+// Whether an address has the expected line.
+fn states(tables: &LineTables<'_>, told: &Told) -> bool {
     let (address, file, number) = *told;
     match tables.line_at(address) {
         Ok(line) => is_line(&line, file, number),
@@ -334,7 +334,7 @@ fn all_tell<R: Abort>(rt: &R, all: &[(&[u8], &[Told])]) {
     for (table, told) in all {
         let tables = LineTables::new(*table, LINE_STRINGS, b"");
         for one in *told {
-            assert!(rt; tells(&tables, one));
+            assert!(rt; states(&tables, one));
         }
     }
 }

@@ -9,7 +9,7 @@ use std::process::Abort;
 use std::test::Fail;
 use symbols::{Symbols, vaddr_of_offset};
 
-/// Where the function of an address begins.
+/// The first address of the function of an address.
 fn start_of(symbols: &Symbols<'_>, address: u64) -> Option<u64> {
     match symbols.lookup(address) {
         Some(symbol) => Some(symbol.value),
@@ -35,7 +35,7 @@ fn starts_in(symbols: &Symbols<'_>) -> [Option<u64>; 3] {
     ]
 }
 
-/// The function of an address of a process: where it begins, by the file that is mapped there, and how far `pc` is behind its begin.
+/// The function of an address of a process: its first address, by the file that is mapped there, and the offset of `pc` from that.
 fn function_of(
     space: &AddressSpace<'_>,
     file: &Elf<'_>,

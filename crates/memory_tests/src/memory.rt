@@ -8,7 +8,7 @@ use std::alloc::{AllocError, Global};
 use std::process::Abort;
 use std::test::Fail;
 
-/// A segment whose bytes are all dumped: where it begins, and its bytes.
+/// A segment whose bytes are all dumped: its first address, and its bytes.
 type Dumped = (u64, &'static [u8]);
 
 /// The segment of a core.
@@ -28,7 +28,7 @@ pub(crate) fn no_memory_from_here(alloc: Global) -> Result<(), AllocError> {
     Ok(())
 }
 
-/// The core's memory has what each look finds. No look takes memory.
+/// The core's memory has the expected results of all looks. No look takes memory.
 fn image_shows(rt: &(impl AllocGlobal + Abort), image: &[u8], looks: &[Look]) -> Result<(), Fail> {
     let elf = Elf::read(image, Want::Core).ok().ok_or("refused")?;
     elf_shows(rt, &elf, looks)

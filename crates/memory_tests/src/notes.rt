@@ -1,4 +1,4 @@
-//! The fields of a thread's state, each at its place. What lines show of the other notes is in rows of `examples/rows`.
+//! The fields of a thread's state, each at its place. The lines about the other notes are in rows of `examples/rows`.
 use core_notes::{Status, descriptors};
 use elf_view::Note;
 use std::test::Fail;

@@ -1,4 +1,4 @@
-//! What a prune drops of archives with six cases, next to lists that were worked out by hand.
+//! The cases that a prune drops of archives with six cases, next to lists that were worked out by hand.
 ghost use Rattle.std.specs.Prelude.{◌≡◌};
 ghost use Rattle.pruning.specs.Cases.{number};
 
@@ -16,7 +16,7 @@ struct Row {
     content: Content<'static, 'static>,
 }
 
-/// Cases 1 to 6, how many cores the policy keeps, and what goes.
+/// Cases 1 to 6, how many cores the policy keeps, and the cases that are dropped.
 struct Scenario {
     rows: &'static [Row],
     keep: Option<u64>,
@@ -138,7 +138,7 @@ static SCENARIOS_1: [Scenario; 4] = [
         dropped: &[1, 2, 3, 4, 5],
         is_unmet: false,
     },
-    // What is pinned stays: a build, and the core that needs the other one.
+    // Pinned cases stay: a build, and the core that needs the other one.
     Scenario {
         rows: &[
             Row {
@@ -218,7 +218,7 @@ static SCENARIOS_1: [Scenario; 4] = [
 ];
 
 static SCENARIOS_2: [Scenario; 4] = [
-    // The core tells no ID, and the file has its executable by its path: the debug file of this one stays.
+    // The core has no ID for the file, which has its executable by its path: the debug file of this one stays.
     Scenario {
         rows: &[
             Row {

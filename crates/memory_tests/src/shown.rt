@@ -1,4 +1,4 @@
-//! What tests compare of an address space.
+//! The values of an address space that tests compare.
 use address_space::{AddressSpace, FileSpot, Piece, PieceKind, Source};
 use backtrace::{Frames, Stop};
 use std::process::Abort;
@@ -10,7 +10,7 @@ const ADDRESSES: u128 = 0x1_0000_0000_0000_0000;
 /// file.
 type Shown<'a> = (&'static str, u64, u64, &'a [u8], u64);
 
-/// What is at a piece.
+/// The content of a piece.
 fn shown(piece: Piece<'_>) -> Shown<'_> {
     let (kind, bytes, offset): (&str, &[u8], u64) = match piece.kind {
         PieceKind::Bytes(bytes) => ("held", bytes, 0),
@@ -23,7 +23,7 @@ fn shown(piece: Piece<'_>) -> Shown<'_> {
     (kind, piece.first, piece.length, bytes, offset)
 }
 
-/// The first three pieces of a range, or none where it goes past the last address.
+/// The first three pieces of a range, or none if it goes past the last address.
 fn pieces_of<'a>(space: &AddressSpace<'a>, first: u64, length: u64) -> [Option<Shown<'a>>; 3] {
     if u128::from(first) + u128::from(length) > ADDRESSES {
         return [None; 3];
@@ -56,7 +56,7 @@ fn texts(space: &AddressSpace<'_>, least: u64) -> [Option<(u64, u128)>; 4] {
     [texts.next(), texts.next(), texts.next(), texts.next()]
 }
 
-/// What is at an address: its byte, or a word.
+/// The content of an address: its byte, or a word.
 fn source_of(space: &AddressSpace<'_>, address: u64) -> (&'static str, u8) {
     match space.at(address) {
         Source::Byte(byte) => ("byte", byte),
@@ -67,7 +67,7 @@ fn source_of(space: &AddressSpace<'_>, address: u64) -> (&'static str, u8) {
     }
 }
 
-/// Whether these are the frames from this frame pointer on, where the pc is 0x10400, and they end so.
+/// Whether these are the frames from this frame pointer on, if the pc is 0x10400, and they end for this reason.
 fn has_frames(space: &AddressSpace<'_>, fp: u64, wanted: &[(u64, u64)], stop: Stop) -> bool {
     let mut frames = Frames::new(space, 0x10400, fp);
     for place in wanted {
@@ -79,11 +79,11 @@ fn has_frames(space: &AddressSpace<'_>, fp: u64, wanted: &[(u64, u64)], stop: St
     frames.next().is_none() && frames.stop() == Some(stop)
 }
 
-/// A look at an address space, with what it finds.
+/// A look at an address space, with its expected result.
 pub(crate) enum Look {
     /// The first three pieces of a range, by its first address and its length.
     Pieces(u64, u64, &'static [Option<Shown<'static>>]),
-    /// What is at an address.
+    /// The content of an address.
     Source(u64, (&'static str, u8)),
     /// The number at an address.
     Number(u64, Option<u64>),
@@ -95,7 +95,8 @@ pub(crate) enum Look {
     Frames(u64, &'static [(u64, u64)], Stop),
 }
 
-/// Whether the look finds what it should. (A comparison that shows both sides is a part of the check that takes as long as all others.)
+/// Whether the look has its expected result. (A comparison that shows
+/// both sides is a part of the check that takes as long as all others.)
 fn finds(space: &AddressSpace<'_>, look: &Look) -> bool {
     match look {
         Look::Pieces(first, length, wanted) => {
@@ -109,7 +110,7 @@ fn finds(space: &AddressSpace<'_>, look: &Look) -> bool {
     }
 }
 
-/// Each look finds what it should.
+/// Each look has its expected result.
 pub(crate) fn shows(rt: &impl Abort, space: &AddressSpace<'_>, looks: &[Look]) {
     for look in looks {
         assert!(rt; finds(space, look));

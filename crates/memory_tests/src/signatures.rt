@@ -212,7 +212,7 @@ static WALKS: [Walk; 30] = [
         is_whole: true,
         signature: b"odd even main",
     },
-    // What compilers add
+    // Suffixes that compilers add
     Walk {
         head: "parse.isra.0|read.part.2.cold|load.lto_priv.1|.cold|scan.constprop.0.x|main",
         cycle: "",
@@ -282,7 +282,7 @@ static WALKS: [Walk; 30] = [
         is_whole: false,
         signature: b"main",
     },
-    // Only what calls `main`
+    // Only the functions that call `main`
     Walk {
         head: "_start|__libc_start_main",
         cycle: "",
@@ -324,12 +324,12 @@ static WALKS: [Walk; 30] = [
     },
 ];
 
-// Where files are mapped, one in every other frame higher.
+// The places at which files are mapped, one in every other frame higher.
 const LOW: u64 = 0x10000;
 
 const HIGH: u64 = 0x7f00_0000_0000;
 
-// What is known of a frame.
+// The facts that are known of a frame.
 fn facts(word: &'static str, start: u64) -> FrameFacts<'static> {
     let mut facts = FrameFacts {
         pc: 0x9000_0000,
@@ -387,7 +387,7 @@ fn words_of(walk: &Walk) -> Words {
     words
 }
 
-// Whether a text begins with this word, and what is behind it and the space.
+// Whether a text begins with this word, and the text after it and the space.
 fn behind<'a>(text: &'a [u8], word: &[u8]) -> Option<&'a [u8]> {
     let rest = text.strip_prefix(word)?;
     match rest {
@@ -471,7 +471,7 @@ fn cores_are_grouped(rt: HostRuntime) -> Result<(), Fail> {
         // It would have two homes
         core(6, 4, true, Some(1)),
         core(7, 4, true, None),
-        // It has none
+        // It has no home
         core(8, 5, true, Some(2)),
     ];
     let groups = grouped(rt.alloc(), &cores)?;

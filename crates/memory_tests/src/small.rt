@@ -15,7 +15,7 @@ fn has(bounds: (u64, u64), address: u64) -> bool {
     bounds.0 <= address && address - bounds.0 < bounds.1
 }
 
-/// The number of the first that has the address, from 1 on, or 0 where none has.
+/// The number of the first that has the address, from 1 on, or 0 if no segment has it.
 fn wanted(first: (u64, u64), second: (u64, u64), third: (u64, u64), address: u64) -> u8 {
     if has(first, address) {
         1
@@ -39,7 +39,7 @@ fn part(bounds: (u64, u64), bytes: &[u8; 4]) -> LoadPart<'_> {
     }
 }
 
-/// The byte at the address, or 0 where there is no segment.
+/// The byte at the address, or 0 if there is no segment.
 fn found(space: &AddressSpace<'_>, address: u64) -> u8 {
     match space.at(address) {
         Source::Byte(byte) => byte,

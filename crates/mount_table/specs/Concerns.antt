@@ -1,4 +1,4 @@
--- What is to be known of a kind of file system.
+-- The concern about a kind of file system.
 use Rattle.std.specs.Prelude.{ℕ, nat_eq, Bool, ◌||◌, List, codes, Option, None, Some, if◌then◌else◌}
 use Rattle.std.specs.List.{starts_with}
 use Rattle.std.specs.Str.{bytes_eq}

@@ -9,7 +9,7 @@ use Rattle.std.specs.Str.{bytes_eq}
 use Rattle.mount_table.specs.Pieces.{pieces_of}
 use Rattle.mount_table.specs.Points.{unescaped}
 
--- what is known of a mount: its device as MAJOR:MINOR, its mount point, and the kind of its file system
+-- the fields of a mount: its device as MAJOR:MINOR, its mount point, and the kind of its file system
 pub record MountView : Type 0 where
   pub device : List ℕ
   pub point : List ℕ
@@ -31,7 +31,7 @@ mount_in (number ∷ parent ∷ device ∷ root ∷ point ∷ []) = None
 mount_in (number ∷ parent ∷ device ∷ root ∷ point ∷ options ∷ fields) =
     option_map (λ kind. record { device = device; point = unescaped point; kind = kind }) (kind_among fields)
 
--- the mounts of lines, without those that are none
+-- the mounts of lines; lines that are no mount's are left out
 abbrev pub mounts_in : List (List ℕ) → List MountView
 mounts_in lines = filter_map (λ line. mount_in (pieces_of 32 line)) lines
 

@@ -1,4 +1,4 @@
--- What callers see of a mount, and of the iterator over mounts.
+-- A mount, and the iterator over mounts, as callers see them.
 use Rattle.std.specs.Prelude.{List}
 use Rattle.mount_table.specs.Lines.{MountView, mounts_in}
 use Rattle.mount_table.specs.PiecesLeft.{pieces_left}

@@ -1,4 +1,4 @@
--- What stands between the separators of a text.
+-- The texts between the separators of a text.
 use Rattle.std.specs.Prelude.{ℕ, ◌==◌, List}
 use Rattle.std.specs.List.{slice_split}
 

@@ -1,4 +1,4 @@
--- What callers see of the iterator over pieces.
+-- The iterator over pieces as callers see it.
 use Rattle.std.specs.Prelude.{ℕ, List, [], Option, None, Some}
 use Rattle.std.specs.Borrow.{Bor}
 use Rattle.mount_table.specs.Pieces.{pieces_of}

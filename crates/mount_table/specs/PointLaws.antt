@@ -1,4 +1,4 @@
--- What mount points are: how Linux writes them, which of them are above a path, and which of these is nearest to it.
+-- Mount points: how Linux writes them, which of them are above a path, and which of these is nearest to it.
 use Rattle.std.specs.Prelude.{◌≡◌, ℕ, ◌+◌, ◌/◌, ◌%◌, ◌<◌, ◌==◌, ◌||◌, ◌⊎◌, true, false, List, [], ◌∷◌, ◌++◌, length, Option, None, Some, if◌then◌else◌}
 use Rattle.std.specs.List.{AllByRecursion, flat_map}
 use Rattle.mount_table.specs.Lines.{MountView}
@@ -11,7 +11,7 @@ written_byte c = if c == 32 || c == 9 || c == 10 || c == 92 then 92 ∷ (48 + c 
 abbrev pub written : List ℕ → List ℕ
 written path = flat_map written_byte path
 
--- a mount point is the path; or what follows it there begins with a slash; or it ends with one, as the root does
+-- a mount point is the path; or the text after it in the path starts with a slash; or it ends with one, as the root does
 abbrev pub IsAtOrAbove : List ℕ → List ℕ → Type 0
 IsAtOrAbove point path =
     (path ≡ point) ⊎ (((rest : List ℕ) × (path ≡ point ++ 47 ∷ rest)) ⊎ ((front : List ℕ) × (rest : List ℕ) × (point ≡ front ++ 47 ∷ []) × (path ≡ point ++ rest)))

@@ -30,17 +30,17 @@ unescaped_past (suc n) (c ∷ cs) = unescaped_past n cs
 abbrev pub unescaped : List ℕ → List ℕ
 unescaped point = unescaped_past 0 point
 
--- a path is a folder's, or goes on below it: either the folder ends with a slash or what follows it begins with one
+-- a path is a directory's, or continues below it: either the directory ends with a slash or the text after it starts with one
 abbrev pub goes_on : Bool → List ℕ → List ℕ → Bool
 goes_on after_slash [] [] = true
 goes_on after_slash [] (c ∷ cs) = after_slash || c == 47
 goes_on after_slash (p ∷ ps) [] = false
 goes_on after_slash (p ∷ ps) (c ∷ cs) = p == c && goes_on (p == 47) ps cs
 
--- a mount point is a path, or a folder above it
+-- a mount point is a path, or a directory above it
 abbrev pub is_above : List ℕ → List ℕ → Bool
 is_above point path = goes_on false point path
 
--- how many bytes a mount point has that is a path or a folder above it
+-- how many bytes a mount point has that is a path or a directory above it
 abbrev pub depth_of : List ℕ → List ℕ → Option ℕ
 depth_of point path = if is_above point path then Some (length point) else None

@@ -1,8 +1,8 @@
-// What is to be known of a file system before an archive is kept there.
+// The concern about a file system on which an archive is to be kept.
 ghost use Rattle.std.specs.Prelude.{◌≡◌};
 ghost use Rattle.mount_table.specs.Concerns.{concern_of, is_served, words_of};
 
-/// What a file system does not give that an archive counts on.
+/// Why a file system does not give a property that an archive counts on.
 #[derive(Clone, Copy, Debug, PartialEq, Eq)]
 pub enum Concern {
     /// It lies in memory.
@@ -19,8 +19,8 @@ pub enum Concern {
     Rightless,
 }
 
-/// What is to be known of a kind of file system, if anything. Nothing is of those that keep a journal on a local disk, nor of a kind
-/// that is not known here.
+/// The concern about a kind of file system, if there is any. There is no concern about those that keep a journal on a local disk,
+/// and about kinds that are not known here.
 pub fn concern_of(kind: &[u8]) -> Option<Concern>
     ensures { result ≡ concern_of kind.now }
 {
@@ -56,7 +56,7 @@ fn is_served(kind: &[u8]) -> bool
 }
 
 impl Concern {
-    /// What people are told of it.
+    /// The warning for people.
     pub fn words(self) -> &'static [u8]
         ensures { result.now ≡ words_of self }
     {

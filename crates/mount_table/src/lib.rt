@@ -1,4 +1,4 @@
-//! The kind of the file system that a file lies on, as `/proc/self/mountinfo` says it, and what is to be known of the kind.
+//! The kind of the file system that a file lies on, from `/proc/self/mountinfo`, and the concern about that kind.
 #![tactic(auto)]
 
 mod concerns;

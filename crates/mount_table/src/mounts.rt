@@ -6,7 +6,7 @@ ghost use Rattle.mount_table.specs.MountWords.{mounts_left};
 use crate::lines::{Mount, mount_in};
 use crate::pieces::Pieces;
 
-/// The mounts of the table's text, in its order. A line that is none is left out.
+/// The mounts of the table's text, in its order. A line that is no mount's is left out.
 #[derive(Clone, Copy)]
 pub(crate) struct Mounts<'a> {
     lines: Pieces<'a>,

@@ -1,9 +1,9 @@
-// What stands between the separators of a text.
+// The texts between the separators of a text.
 ghost use Rattle.std.specs.Prelude.{◌≡◌, ◌==◌, ◌<◌, ◌∷◌, IfSome, length, position};
 ghost use Rattle.mount_table.specs.Pieces.{pieces_of};
 ghost use Rattle.mount_table.specs.PiecesLeft.{pieces_in, pieces_left};
 
-/// The pieces of a text, first to last: what stands before, between and after the bytes that separate them.
+/// The pieces of a text, first to last: the texts before, between and after the bytes that separate them.
 #[derive(Clone, Copy)]
 pub(crate) struct Pieces<'a> {
     rest: Option<&'a [u8]>,
@@ -53,7 +53,7 @@ fn first_piece(text: &[u8], separator: u8) -> (&[u8], Option<&[u8]>)
     }
 }
 
-// Where a text first has a byte.
+// The place of the first such byte in a text.
 fn place_of(text: &[u8], byte: u8) -> Option<usize>
     ensures place { result ≡ position (λ c. c == byte) text.now }
     ensures within { IfSome result (λ at. at < length text.now) }

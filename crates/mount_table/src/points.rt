@@ -2,7 +2,7 @@
 ghost use Rattle.std.specs.Prelude.{◌≡◌, ◌<◌, [], ◌∷◌, length, MatchOption};
 ghost use Rattle.mount_table.specs.Points.{depth_of, escape_of, unescaped};
 
-/// How many bytes a mount point has, if it is a path or a folder above it. The point has the line's escapes.
+/// How many bytes a mount point has, if it is a path or a directory above it. The point has the line's escapes.
 pub(crate) fn depth_of(point: &[u8], path: &[u8]) -> Option<usize>
     ensures { result ≡ depth_of (unescaped point.now) path.now }
 {
@@ -42,7 +42,7 @@ fn next_byte(point: &[u8]) -> Option<(u8, &[u8])>
     }
 }
 
-// The byte of three octal digits at the front of what follows a backslash.
+// The byte of three octal digits at the front of the text after a backslash.
 fn escape_of(rest: &[u8]) -> Option<u8>
     ensures { result ≡ escape_of rest.now }
 {

@@ -47,7 +47,7 @@ is_pid_part (Plain c) = false
 abbrev pub parts_text : Facts → List Part → List ℕ
 parts_text facts parts = flat_map (part_text facts) parts
 
--- `.` and the process, where core_uses_pid is set and no part is `%p`
+-- `.` and the process, if core_uses_pid is set and no part is `%p`
 abbrev pub pid_suffix : Facts → Bool → Bool → List ℕ
 pid_suffix facts uses_pid shows_pid = if uses_pid && not shows_pid then 46 ∷ decimal facts.pid else []
 
@@ -61,7 +61,7 @@ abbrev pub is_empty_text : List ℕ → Bool
 is_empty_text [] = true
 is_empty_text (c ∷ cs) = false
 
--- the name that a text is, or the first reason for which it is none
+-- a text as a name, or the first reason why it is no name
 abbrev pub name_of : List ℕ → Result (List ℕ) NameFault
 name_of text =
     if is_empty_text text then Err Empty

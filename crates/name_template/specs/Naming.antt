@@ -1,4 +1,4 @@
--- What contracts see of a template, and of a text that is being put together.
+-- A template, and a text that is being put together, as contracts see them.
 use Rattle.std.specs.Prelude.{◌≡◌, ℕ, ◌<◌, List, length}
 use Rattle.name_template.specs.declared.template.Template.{Template}
 use Rattle.name_template.specs.declared.text.NameText.{NameText}
@@ -7,7 +7,7 @@ use Rattle.name_template.specs.declared.text.NameText.{NameText}
 abbrev pub template_bytes : Template → List ℕ
 template_bytes template = template.bytes.items
 
--- what is kept tells apart a text of at most 128 bytes and a longer one
+-- the kept part distinguishes a text of at most 128 bytes from a longer one
 pub record KeepsText (text : List ℕ) (kept : NameText) : Type 0 where
   pub whole : length kept.front.items < 129 → text ≡ kept.front.items
   pub long : length kept.front.items ≡ 129 → 128 < length text

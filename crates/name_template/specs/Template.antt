@@ -23,7 +23,7 @@ abbrev pub begins_with_pipe : List ℕ → Option TemplateFault → Option Templ
 begins_with_pipe [] otherwise = otherwise
 begins_with_pipe (c ∷ cs) otherwise = if c == 124 then Some Pipe else otherwise
 
--- why a text is no template, if it is none: the first of the two that holds
+-- why a text is no template, if it isn't one: the first of the two that holds
 abbrev pub template_fault : List ℕ → Option TemplateFault
 template_fault text = begins_with_pipe text (if nat_lt 127 (length text) then Some TemplateTooLong else None)
 

@@ -1,6 +1,6 @@
-//! What a template's letters tell of.
+//! The facts that a template's letters stand for.
 
-/// What is known of a process that dumps core (core(5), "Naming of core dump files").
+/// The known facts about a process that dumps core (core(5), "Naming of core dump files").
 #[derive(Clone, Copy)]
 pub struct Facts<'a> {
     /// The name of the command. `%e` is its first 15 bytes.

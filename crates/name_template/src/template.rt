@@ -52,7 +52,7 @@ impl Template {
     ///
     /// # Errors
     ///
-    /// `Pipe` where the text begins with `|`, else `TemplateTooLong` where it has more than 127 bytes.
+    /// `Pipe` if the text starts with `|`, else `TemplateTooLong` if it has more than 127 bytes.
     pub fn parse(text: &[u8]) -> Result<Self, TemplateFault>
         ensures { MatchResult result
             (λ template. (template_fault text.now ≡ None) × (template_bytes template ≡ text.now))
@@ -73,7 +73,7 @@ impl Template {
     ///
     /// # Errors
     ///
-    /// `Empty` where the text has no byte, else `TooLong` where it has more than 128, else `NulByte` where one is NUL.
+    /// `Empty` if the text has no byte, else `TooLong` if it has more than 128, else `NulByte` if one is NUL.
     pub fn expand(&self, facts: &Facts<'_>, uses_pid: bool) -> Result<Name, NameFault>
         ensures { MatchResult result
             (λ name. name_of (expansion (template_bytes self.now) facts.now uses_pid) ≡ Ok name.items)
@@ -106,7 +106,7 @@ fn shows_pid_with(shown: bool, part: Part) -> bool
     }
 }
 
-// Appends to a text what a part gives.
+// Appends the text that a part gives.
 fn add_part(text: &mut NameText, facts: &Facts<'_>, part: Part)
     ensures { (so_far : List ℕ) → KeepsText so_far text.old → KeepsText (so_far ++ part_text facts.now part) text.new }
 {
@@ -117,7 +117,7 @@ fn add_part(text: &mut NameText, facts: &Facts<'_>, part: Part)
     }
 }
 
-// Appends to a text what a letter gives.
+// Appends the text that a letter gives.
 fn add_letter(text: &mut NameText, facts: &Facts<'_>, letter: u8)
     ensures { (so_far : List ℕ) → KeepsText so_far text.old → KeepsText (so_far ++ letter_text facts.now letter) text.new }
 {

@@ -55,7 +55,7 @@ reason_word Empty = codes "Empty"
 reason_word BadLine = codes "BadLine"
 reason_word Other = codes "Other"
 
--- what came of the core, in a word
+-- the outcome of the core, in a word
 abbrev pub outcome_word : Counter → List ℕ
 outcome_word Stored = codes "stored"
 outcome_word Cut = codes "cut"

@@ -33,6 +33,6 @@ pub record AreCounts (counts : List ℕ) : Type 0 where
   pub count : length counts ≡ 25
   pub small : All (λ n. n < 2 ^ 64) counts
 
--- so many more; a count stops at the greatest number of 64 bits
+-- so many more; a count stops at the highest number of 64 bits
 abbrev pub more : ℕ → ℕ → ℕ
 more n by = min (n + by) (2 ^ 64 - 1)

@@ -6,7 +6,7 @@ ghost use Rattle.outcome_counts.specs.declared.counters.Counter.{Counter};
 
 use crate::reasons::Reason;
 
-/// What came of a core, as it is counted.
+/// The outcome of a core, as it is counted.
 #[derive(Clone, Copy, Debug, PartialEq, Eq)]
 pub enum Counter {
     /// It is stored whole.
@@ -68,7 +68,7 @@ impl Counter {
         }
     }
 
-    /// What came of the core, in a word.
+    /// The outcome of the core, in a word.
     pub fn outcome(self) -> &'static [u8]
         ensures { result.now ≡ spec.outcome_word self }
     {

@@ -34,7 +34,7 @@ impl Counts {
         self.counts[counter.place()]
     }
 
-    /// The same, with so many more of one counter. A count stops at the greatest number of 64 bits.
+    /// The same, with so many more of one counter. A count stops at the highest number of 64 bits.
     pub fn with(self, counter: Counter, by: u64) -> Counts
         ensures { result.counts ≡ slice_set self.counts (place counter) (more (count_of self.counts counter) by) }
     {
@@ -54,7 +54,7 @@ impl Counts {
         Ok(text)
     }
 
-    /// Reads the text of such a file. Any other text is none.
+    /// Reads the text of such a file, and refuses any other text.
     pub fn of_text(text: &[u8]) -> Option<Counts>
         ensures back { (wanted : List ℕ) → AreCounts wanted → text.now ≡ counts_text wanted → option_map (λ c. c.counts) result ≡ Some wanted }
         ensures only { IfSome result (λ c. text.now ≡ counts_text c.counts) }

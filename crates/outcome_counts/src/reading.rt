@@ -9,7 +9,7 @@ use crate::reasons::Reason;
 use memchr::memchr;
 use script_words::{parse_number, print_decimal, printed_numbers_are_read_again};
 
-// The count in the line of a counter, and what follows that line.
+// The count in the line of a counter, and the text after that line.
 pub(crate) fn read_line(text: &[u8], counter: Counter) -> Option<(u64, &[u8])>
     ensures back { (n : ℕ) → (rest : List ℕ) → n < 2 ^ 64 → text.now ≡ line counter n ++ rest → IsCountRead (option_map (λ p. (p.0, p.1.now)) result) n rest }
     ensures only { IfSome result (λ p. text.now ≡ line counter p.0 ++ p.1.now) }
@@ -20,7 +20,7 @@ pub(crate) fn read_line(text: &[u8], counter: Counter) -> Option<(u64, &[u8])>
     Some((count, split.1))
 }
 
-// What follows the name of a counter and a space.
+// The text after the name of a counter and a space.
 fn after_name(text: &[u8], counter: Counter) -> Option<&[u8]>
     ensures { MatchOption result ((rest : List ℕ) → text.now ≢ name counter ++ (32 ∷ rest)) (λ x. text.now ≡ name counter ++ (32 ∷ x.now)) }
 {
@@ -38,7 +38,7 @@ fn after_reason(text: &[u8], reason: Option<Reason>) -> Option<&[u8]>
     }
 }
 
-// What follows a space and this word.
+// The text after a space and this word.
 fn after_word<'a>(text: &'a [u8], word: &[u8]) -> Option<&'a [u8]>
     ensures { MatchOption result ((rest : List ℕ) → text.now ≢ (codes " " ++ word.now) ++ rest) (λ x. text.now ≡ (codes " " ++ word.now) ++ x.now) }
 {
@@ -46,14 +46,14 @@ fn after_word<'a>(text: &'a [u8], word: &[u8]) -> Option<&'a [u8]>
     after(space, word)
 }
 
-// What follows this front.
+// The text after this front.
 fn after<'a>(text: &'a [u8], front: &[u8]) -> Option<&'a [u8]>
     ensures { MatchOption result ((rest : List ℕ) → text.now ≢ front.now ++ rest) (λ x. text.now ≡ front.now ++ x.now) }
 {
     text.strip_prefix(front)
 }
 
-// What is before the first newline, and what is behind it.
+// The text before the first newline, and the text after it.
 fn split_line(text: &[u8]) -> Option<(&[u8], &[u8])>
     ensures back { (line rest : List ℕ) → HasNoNewline line → text.now ≡ line ++ 10 ∷ rest → IsLineRead (option_map (λ p. (p.0.now, p.1.now)) result) line rest }
     ensures only { IfSome result (λ p. text.now ≡ p.0.now ++ 10 ∷ p.1.now) }

@@ -1,4 +1,4 @@
--- A reply as people read it: what it has as `\xHH` is the byte itself, if that is a space or prints.
+-- A reply as people read it: a `\xHH` becomes the byte itself, if that is a space or prints.
 use Rattle.std.specs.Prelude.{ℕ, zero, suc, ◌==◌, List, [], ◌∷◌, Option, None, Some, if◌then◌else◌}
 use Rattle.script_words.specs.Text.{escape_of}
 use Rattle.script_words.specs.Words.{is_plain_byte}
@@ -12,7 +12,7 @@ if_plain (Some c) = if is_plain_byte c then Some c else None
 abbrev pub plain_escape : List ℕ → Option ℕ
 plain_escape cs = if_plain (escape_of cs)
 
--- What follows a backslash: the byte in place of the escape and what is past it, or the backslash and what is next.
+-- The text after a backslash: the byte instead of the escape and the text after the escape, or the backslash and the text after it.
 abbrev pub after_backslash : Option ℕ → List ℕ → List ℕ → List ℕ
 after_backslash None past next = 92 ∷ next
 after_backslash (Some c) past next = c ∷ past

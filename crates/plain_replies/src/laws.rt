@@ -1,4 +1,4 @@
-//! What people read of a text that was printed.
+//! Printed texts as people read them.
 ghost use Rattle.std.specs.Prelude.{◌≡◌, ◌<◌, ◌≤◌, ℕ, List, length, All};
 ghost use Rattle.script_words.specs.Printing.{shown};
 ghost use Rattle.plain_replies.specs.Plain.{plain_of};

@@ -5,4 +5,4 @@ mod laws;
 mod plain;
 
 pub use laws::printed_texts_are_read_by_people;
-pub use plain::{send_plain, tell_plain};
+pub use plain::{print_plain, send_plain};

@@ -1,7 +1,7 @@
-//! Replies without escapes, where people can do without them.
+//! Replies without escapes, if people can do without them.
 ghost use Rattle.std.specs.Prelude.{◌≡◌, ◌<◌, ◌≤◌, ◌++◌, ℕ, List, None, Some, drop, take, length, IfSome};
-ghost use Rattle.script_streams.specs.Replies.{TellsText, telling};
-ghost use Rattle.script_streams.specs.Telling.{IsDelivered};
+ghost use Rattle.script_streams.specs.Replies.{PrintsText, printing};
+ghost use Rattle.script_streams.specs.Printing.{IsDelivered};
 ghost use Rattle.plain_replies.specs.Plain.{front_escape, if_plain, plain_escape, plain_of};
 
 use script_streams::{Output, Reply, StreamFault};
@@ -18,36 +18,37 @@ pub fn send_plain<O: Output>(text: &[u8], output: &mut O) -> Result<(), StreamFa
     ensures { IsDelivered (O.taken output.old) (O.failures output.old) (O.taken output.new) (O.failures output.new) (plain_of text.now) result }
 {
     let mut reply = Reply::new(output);
-    tell_plain(&mut reply, text);
+    print_plain(&mut reply, text);
     reply.finish()
 }
 
-/// Tells a reply as people read it.
-pub fn tell_plain<O: Output>(reply: &mut Reply<'_, O>, text: &[u8])
-    ensures { TellsText (telling O.Output reply.old reply.new) (plain_of text.now) }
+/// Prints a reply as people read it.
+pub fn print_plain<O: Output>(reply: &mut Reply<'_, O>, text: &[u8])
+    ensures { PrintsText (printing O.Output reply.old reply.new) (plain_of text.now) }
 {
     let mut rest = text;
     while !rest.is_empty() {
-        let count = tell_front(reply, rest);
+        let count = print_front(reply, rest);
         rest = rest.split_at(count).1;
     }
 }
 
-// Tells the front of a reply: the byte of an escape, or what comes before the next one. Says how many bytes of the reply that is.
-fn tell_front<O: Output>(reply: &mut Reply<'_, O>, text: &[u8]) -> usize
+// Prints the front of a reply: the byte of an escape, or the text
+// before the next one. Returns how many bytes of the reply that is.
+fn print_front<O: Output>(reply: &mut Reply<'_, O>, text: &[u8]) -> usize
     requires { 0 < length text.now }
     ensures some { 0 < result }
     ensures within { result ≤ length text.now }
-    ensures tells { (front : List ℕ) × TellsText (telling O.Output reply.old reply.new) front × (plain_of text.now ≡ front ++ plain_of (drop result text.now)) }
+    ensures states { (front : List ℕ) × PrintsText (printing O.Output reply.old reply.new) front × (plain_of text.now ≡ front ++ plain_of (drop result text.now)) }
 {
     match front_escape(text) {
         Some(byte) => {
-            reply.tell(&[byte]);
+            reply.print(&[byte]);
             ESCAPE
         }
         None => {
             let count = plain_front(text);
-            reply.tell(&text[..count]);
+            reply.print(&text[..count]);
             count
         }
     }
@@ -66,7 +67,7 @@ fn front_escape(text: &[u8]) -> Option<u8>
     }
 }
 
-// The byte of `xHH` at the front of what follows a backslash, if it is a space or prints.
+// The byte of `xHH` at the front of the text after a backslash, if it is a space or prints.
 fn plain_escape(rest: &[u8]) -> Option<u8>
     ensures byte { result ≡ plain_escape rest.now }
     ensures within { IfSome result (λ _. 3 ≤ length rest.now) }

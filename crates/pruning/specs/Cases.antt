@@ -1,4 +1,4 @@
--- The cases of an archive, and what the cores among them need.
+-- The cases of an archive, and the builds and names that the cores among them need.
 use Rattle.std.specs.Prelude.{ℕ, Bool, true, false, not, ◌&&◌, ◌||◌, ◌==◌, List, [], Option, None, Some, map}
 use Rattle.std.specs.Borrow.{Bor}
 use Rattle.std.specs.List.{filter, list_any}
@@ -39,8 +39,8 @@ abbrev pub is_id : List ℕ → Option (Bor (List ℕ)) → Bool
 is_id id None = false
 is_id id (Some own) = bytes_eq own.now id
 
--- A mapped file needs the build that the core tells for it, and that of the executable that is used for it: this one's debug file is
--- found by its build.
+-- A mapped file needs the build that the core gives for it, and that of the
+-- executable that is used for it: this one's debug file is found by its build.
 abbrev pub needs_id : List ℕ → MappedFile → Bool
 needs_id id f = is_id id f.told || is_id id f.used
 

@@ -1,4 +1,4 @@
--- What the code's tables of needed builds and of names mean.
+-- The meaning of the code's tables of needed builds and of names.
 use Rattle.std.specs.Prelude.{◌≡◌, ℕ, Bool, List}
 use Rattle.std.specs.Borrow.{Bor}
 use Rattle.std.specs.BTreeSet.{BTreeSet, contains_by}

@@ -1,4 +1,4 @@
--- What the lines that ask a core look up in an archive: executables and debug files, by their names.
+-- The look-ups in an archive by the lines about a core: executables and debug files, by their names.
 use Rattle.std.specs.Prelude.{◌≡◌, ◌⊎◌, ℕ, Bool, true, not, ◌&&◌, if◌then◌else◌, List, find, Option, None, Some}
 use Rattle.std.specs.Borrow.{Bor}
 use Rattle.std.specs.Str.{bytes_eq}

@@ -22,7 +22,7 @@ pub record Goes (is_needed is_named : List ℕ → Bool) (c : LiveCase) : Type 0
   pub not_needed : is_needed build.id ≡ false
   pub not_named : is_named c.name.now ≡ false
 
--- the cases that go where these cores stay
+-- the cases that go if these cores stay
 abbrev pub GoesBy : List LiveCase → LiveCase → Type 0
 GoesBy cores = Goes (needed cores) (named cores)
 
@@ -32,8 +32,8 @@ ArePicked P [] numbers = numbers ≡ []
 ArePicked P (c ∷ cs) numbers =
     (P c × (rest : List ℕ) × (numbers ≡ number c ∷ rest) × ArePicked P cs rest) ⊎ ((P c → ⊥) × ArePicked P cs numbers)
 
--- What a prune drops: the cores that the retention rule drops by the policy, over the cores alone; then the executables and debug files
--- that go where the other cores stay.
+-- The cases that a prune drops: the cores that the retention rule drops by the policy, over the cores alone; then the executables and debug
+-- files that the other cores do not need.
 pub record IsPruning (policy : Policy) (cases : List LiveCase) (dropped : List ℕ) (unmet : Bool) : Type 0 where
   pub cores : List ℕ
   pub builds : List ℕ

@@ -1,4 +1,4 @@
--- What holds of each prune.
+-- Laws of each prune.
 use Rattle.std.specs.Prelude.{◌≡◌, ◌⊎◌, ◌≤◌, ℕ, Bool, true, false, not, ◌==◌, List, [], None, map, count_by, Contains}
 use Rattle.std.specs.Bool.{Decides}
 use Rattle.std.specs.List.{AllZip, filter}
@@ -20,7 +20,7 @@ abbrev pub left : List ℕ → List LiveCase → List LiveCase
 left dropped cases = filter (λ c. not (is_among dropped (number c))) cases
 
 -- Of a prune's numbers: there is one list of them, with no number twice, and in each of its two parts they rise. It has those cores that
--- the retention rule drops by the policy, and those executables and debug files that go where the other cores stay.
+-- the retention rule drops by the policy, and those executables and debug files that go if the other cores stay.
 pub record IsExact (policy : Policy) (cases : List LiveCase) (dropped : List ℕ) (unmet : Bool) (p : IsPruning policy cases dropped unmet) : Type 0 where
   pub one : (dropped' : List ℕ) (unmet' : Bool) → IsPruning policy cases dropped' unmet' → (dropped ≡ dropped') × (unmet ≡ unmet')
   pub once : (n : ℕ) → count_by (λ m. m == n) dropped ≤ 1
@@ -77,7 +77,7 @@ pub record IsSameCase (gone : List ℕ) (c d : LiveCase) : Type 0 where
   pub needs : is_among gone (number c) ≡ false → (id : List ℕ) → needs id c ≡ needs id d
   pub names : is_among gone (number c) ≡ false → (name : List ℕ) → names name c ≡ names name d
 
--- What cores that go map does not count: a prune of some cases is one of the same cases in which they map other files.
+-- The files that dropped cores map do not count: a prune of some cases is one of the same cases in which they map other files.
 abbrev pub CoresThatGoNeedNoFiles : Type 0
 CoresThatGoNeedNoFiles = (policy : Policy) (cases : List LiveCase) (dropped : List ℕ) (unmet : Bool) → AreInOrder cases → IsPruning policy cases dropped unmet
     → (others : List LiveCase) → AllZip (IsSameCase dropped) cases others → IsPruning policy others dropped unmet

@@ -11,13 +11,13 @@ use std::alloc::{AllocError, Global};
 pub struct MappedFile<'a> {
     /// Its name in the core's NT_FILE (core(5)).
     pub name: &'a [u8],
-    /// The build ID that the core tells for it, if it tells one.
+    /// The build ID that the core gives for it, if it gives one.
     pub told: Option<&'a [u8]>,
     /// The build ID of the executable that is used for it, if there is one and it has one.
     pub used: Option<&'a [u8]>,
 }
 
-/// What a case holds.
+/// The content of a case.
 #[derive(Clone, Copy)]
 pub enum Content<'t, 'a> {
     /// A core, which maps these files. One whose headers or notes have a fault, or that has no NT_FILE, maps none.
@@ -33,7 +33,7 @@ pub struct LiveCase<'t, 'a> {
     pub name: &'a [u8],
     /// Its number, time and length, and whether it is pinned.
     pub brief: Brief,
-    /// What it holds.
+    /// Its content.
     pub content: Content<'t, 'a>,
 }
 

@@ -12,7 +12,7 @@ use build_ids::{a_name_is_of_one_build, id_of_name};
 use retention::{Policy, decide};
 use std::alloc::{AllocError, Global};
 
-/// What a prune drops.
+/// The cases that a prune drops.
 #[derive(Drop)]
 pub struct Pruning {
     /// The numbers of the cases: cores first, then executables and debug files, both rising.
@@ -21,13 +21,13 @@ pub struct Pruning {
     pub unmet: bool,
 }
 
-/// Says which cases a prune drops, of all that an archive has. First cores, as the retention rule decides by this policy over the cores
-/// alone: none, if the policy has no limit. Then each executable or debug file that is not pinned and has the name of a build, if of the
-/// cores that stay none needs this build and none maps a file of that name.
+/// Decides which cases a prune drops, of all that an archive has. First cores, as the retention rule decides by this policy over the
+/// cores alone: no cores, if the policy has no limit. Then each executable or debug file that is not pinned and has the name of a build,
+/// if of the cores that stay none needs this build and none maps a file of that name.
 ///
 /// # Errors
 ///
-/// `AllocError` where there is no memory for what the cores need, or for the numbers.
+/// `AllocError` if there is no memory for the needs of the cores, or for the numbers.
 pub fn prune(
     alloc: Global,
     cases: &[LiveCase<'_, '_>],

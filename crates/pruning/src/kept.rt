@@ -1,4 +1,4 @@
-//! What the cores that stay need.
+//! The builds and names that the cores that stay need.
 ghost use Rattle.std.specs.Prelude.{◌≡◌, ◌||◌, false, ℕ, List, IfOk, OnOk, not, ◌&&◌};
 ghost use Rattle.std.specs.List.{list_any};
 ghost use Rattle.std.specs.List.Sorted.{IsStrictlyIncreasing};
@@ -40,7 +40,7 @@ impl<'a> Kept<'a> {
         Ok(())
     }
 
-    /// What one mapped file needs.
+    /// Adds the builds and names that one mapped file needs.
     fn add_file(&mut self, file: &MappedFile<'a>) -> Result<(), AllocError>
         ensures ids { OnOk result ((id : List ℕ) → has_id self.new id ≡ (has_id self.old id || spec.needs_id id file.now)) }
         ensures names { OnOk result ((name : List ℕ) → has_name self.new name ≡ (has_name self.old name || spec.is_named name file.now)) }
@@ -51,7 +51,7 @@ impl<'a> Kept<'a> {
         Ok(())
     }
 
-    /// What the files that one core maps need.
+    /// Adds the builds and names that the files of one core need.
     fn add_files(&mut self, files: &[MappedFile<'a>]) -> Result<(), AllocError>
         ensures ids { OnOk result ((id : List ℕ) → has_id self.new id ≡ (has_id self.old id || list_any (spec.needs_id id) files.now)) }
         ensures names { OnOk result ((name : List ℕ) → has_name self.new name ≡ (has_name self.old name || list_any (spec.is_named name) files.now)) }
@@ -62,7 +62,8 @@ impl<'a> Kept<'a> {
         Ok(())
     }
 
-    /// What the cores need, but for those of these numbers, which rise. The error is that there is no memory.
+    /// The builds and names that the cores need, except those of these
+    /// numbers, which rise. The only error is that there is no memory.
     pub(crate) fn of(
         alloc: Global,
         cases: &[LiveCase<'_, 'a>],

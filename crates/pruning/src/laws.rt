@@ -1,4 +1,4 @@
-//! What holds of each prune. These functions do nothing.
+//! Laws of each prune. These functions do nothing.
 ghost use Rattle.pruning.specs.PruningLaws.{CoresThatGoNeedNoFiles, PruneChangesNoAnswer, PruneIsDone, PrunesExactly, Spares};
 
 use build_ids::a_name_is_of_one_build;
@@ -34,7 +34,7 @@ pub fn prune_changes_no_answer()
     a_name_is_of_one_build();
 }
 
-/// What the cores that go map does not count: the prune is the same whichever files they are said to map.
+/// The files that dropped cores map do not count: the prune is the same whatever files these cores map.
 pub fn cores_that_go_need_no_files()
     ensures { CoresThatGoNeedNoFiles }
 {}

@@ -1,4 +1,4 @@
--- What a `RegisterPlace` says.
+-- The meaning of a `RegisterPlace`.
 use Rattle.thread_regs.specs.RegisterWords.{reg_number}
 use Rattle.register_places.specs.Places.{Place}
 use Rattle.register_places.specs.declared.places.RegisterPlace.{RegisterPlace}

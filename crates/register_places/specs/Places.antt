@@ -9,7 +9,7 @@ pub record Place : Type 0 where
   pub register : ℕ
   pub past : ℕ
 
--- where a word has its first plus sign
+-- the place of the first plus sign in a word
 abbrev pub plus_in : List ℕ → Option ℕ
 plus_in word = position (λ c. c == 43) word
 

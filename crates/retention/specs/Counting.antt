@@ -1,4 +1,4 @@
--- How many spare cases are dropped, and what is left then.
+-- How many spare cases are dropped, and the cases that are left then.
 use Rattle.std.specs.Prelude.{◌≡◌, ℕ, ◌<◌, ◌≤◌, Bool, true, false, not, List, ◌∷◌, length, sum_by, if◌then◌else◌}
 use Rattle.retention.specs.declared.Brief.{Brief}
 use Rattle.retention.specs.declared.Policy.{Policy}

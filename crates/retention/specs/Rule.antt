@@ -29,7 +29,7 @@ is_spare policy case = not case.pinned && not (is_before case.time policy.before
 abbrev pub spare_count : Policy → List Brief → ℕ
 spare_count policy cases = length (filter (is_spare policy) cases)
 
--- the cases that are dropped where the first n of those are
+-- the cases that are dropped if the first n of those are
 abbrev pub goes : Policy → ℕ → List Brief → List Brief
 goes policy n [] = []
 goes policy zero (c ∷ cs) = if is_old policy c then c ∷ goes policy zero cs else goes policy zero cs
@@ -56,12 +56,12 @@ is_within n (Some limit) = nat_le n limit
 abbrev pub meets : Policy → ℕ → ℕ → Bool
 meets policy count bytes = is_within count policy.keep && is_within bytes policy.bytes
 
--- the limits hold of what stays where the first n of the spare cases are dropped
+-- the limits hold of the cases that stay if the first n of the spare cases are dropped
 abbrev pub holds_after : Policy → List Brief → ℕ → Bool
 holds_after policy cases n = meets policy (length (stays policy n cases)) (sum_by bytes_in (stays policy n cases))
 
--- What the rule drops: the old cases and the first `count` of the spare ones, the least count after which the limits hold. If they hold after none, all of the spare ones
--- are dropped, and the limits are not met.
+-- The cases that the rule drops: the old cases and the first `count` of the spare ones, for the least count after which the limits hold. If the
+-- limits hold after no count, all spare ones are dropped, and the limits are not met.
 pub record IsDecision (policy : Policy) (cases : List Brief) (dropped : List ℕ) (unmet : Bool) : Type 0 where
   pub count : ℕ
   pub within : count ≤ spare_count policy cases

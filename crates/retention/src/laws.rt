@@ -1,4 +1,4 @@
-//! What the words of the rule mean.
+//! The meaning of the rule in other words.
 ghost use Rattle.std.specs.Prelude.{◌≡◌, ℕ, List, [], take, drop, filter};
 ghost use Rattle.retention.specs.Rule.{is_pinned, is_old, is_spare, goes, stays, IsOneDecision};
 ghost use Rattle.retention.specs.declared.Brief.{Brief};

@@ -7,7 +7,7 @@ mod rule;
 pub use laws::{a_decision_is_one, what_goes_and_what_stays};
 pub use rule::decide;
 
-/// What the rule looks at of a case.
+/// The fields of a case that the rule reads.
 #[derive(Clone, Copy, PartialEq, Eq, Debug)]
 pub struct Brief {
     /// Its number.
@@ -20,7 +20,7 @@ pub struct Brief {
     pub pinned: bool,
 }
 
-/// What an archive is to be brought down to. A limit that is absent is always met.
+/// The limits that an archive is brought down to. An absent limit is always met.
 #[derive(Clone, Copy, PartialEq, Eq, Debug)]
 pub struct Policy {
     /// The most cases that stay.
@@ -31,7 +31,7 @@ pub struct Policy {
     pub before: Option<u64>,
 }
 
-/// What the rule says of an archive's cases.
+/// The decision of the rule about an archive's cases.
 #[derive(Drop)]
 pub struct Decision {
     /// The numbers of the cases that are dropped, rising.

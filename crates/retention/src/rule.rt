@@ -7,13 +7,13 @@ ghost use Rattle.retention.specs.Counting.{TotalsAre, AreToGo, GoesOn, weight_if
 use crate::{Brief, Decision, Policy};
 use std::alloc::{AllocError, Global};
 
-/// Says which cases are dropped. First all unpinned cases from before `before`. Then the shortest front of the other
+/// Decides which cases are dropped. First all unpinned cases from before `before`. Then the shortest front of the other
 /// unpinned ones, in the order of their numbers, after which at most `keep` cases and at most `bytes` bytes stay, pinned
 /// ones counted. If there is no such front, all of them are dropped, and `unmet` is set.
 ///
 /// # Errors
 ///
-/// `AllocError` where there is no memory for the numbers.
+/// `AllocError` if there is no memory for the numbers.
 pub fn decide(alloc: Global, cases: &[Brief], policy: &Policy) -> Result<Decision, AllocError>
     requires { IsStrictlyIncreasing (map seq_of cases.now) }
     ensures decision { IfOk result (λ decision.
@@ -51,7 +51,7 @@ fn dropped_numbers(
     Ok(dropped)
 }
 
-// The most cases that are dropped where `count` spare ones are.
+// The most cases that are dropped if `count` spare ones are.
 fn most_dropped(policy: &Policy, cases: &[Brief], count: u64) -> usize {
     let old = cases
         .iter()

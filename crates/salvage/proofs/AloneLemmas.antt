@@ -11,12 +11,12 @@ use Rattle.journal_layout.specs.Reading.{case_at, kind_at, length_at}
 use Rattle.journal_layout.specs.Record.{Record, Store, record_size}
 use Rattle.journal_layout.specs.RecordLaws.{opened_first, record_again}
 use Rattle.journal_layout.specs.ReadingLaws.{read_or_faulty}
-use Rattle.journal_layout.specs.SpellLaws.{as_spelled, tells_length}
+use Rattle.journal_layout.specs.SpellLaws.{as_spelled, prints_length}
 use Rattle.journal_layout.specs.Stands.{AreFaulty, AreRead, StandInRow, StandsFirst}
 use Rattle.journal_layout.specs.declared.entry.Entry.{Entry}
 use Rattle.journal_layout.specs.declared.faults.OpenFault.{OpenFault}
 use Rattle.journal_layout.specs.declared.faults.OpenFault.TheVariants.{Disk, OutOfMemory, NotAnArchive, UnknownVersion, Damaged}
-use Rattle.journal_records.specs.Said.{TellsFaulty}
+use Rattle.journal_records.specs.Said.{SaysFaulty}
 use Rattle.salvage.specs.Alone.{HasHead, StoresCase, alone}
 use Rattle.salvage.specs.Finding.{not_found}
 use Rattle.salvage.specs.Reads.{IsStored}
@@ -86,7 +86,7 @@ module _ (blocks : ℕ) (rest : List ℕ) (size : ℕ) (head : HasHead rest size
   size_is f r stands =
       let same = as_spelled r only stands.spelled in
       let in_half = stands.in_half in
-      sym (tells_length r (drop (record_size r) only) (omega (arith, in_half, long, small))) ∙ ap length_at (sym same) ∙ length_is
+      sym (prints_length r (drop (record_size r) only) (omega (arith, in_half, long, small))) ∙ ap length_at (sym same) ∙ length_is
 
   -- it is a Store record
   store_is : (f : Folded) (r : Record) → StandsFirst blocks only f r → r ≡ Store (case_at only)
@@ -168,10 +168,10 @@ module _ (blocks : ℕ) (rest : List ℕ) (size : ℕ) (low : blocks ≤ 1677721
       (subst (λ (bytes : List ℕ). AreFaulty blocks 0 bytes (nothing_yet 2) fault) is faulty)
 
   -- what an error of the reading says
-  pub faulty_stored : (fault : OpenFault) (b : Bool) (made : List ℕ) → not_found fault ≡ Ok b → (size ≤ length rest → made ≡ alone rest size) → TellsFaulty blocks 2 0 made fault
+  pub faulty_stored : (fault : OpenFault) (b : Bool) (made : List ℕ) → not_found fault ≡ Ok b → (size ≤ length rest → made ≡ alone rest size) → SaysFaulty blocks 2 0 made fault
       → (c : Case) → StoresCase blocks rest size c → ⊥
-  faulty_stored Disk b made found made_is tells c stored = absurd (cc)
-  faulty_stored OutOfMemory b made found made_is tells c stored = absurd (cc)
-  faulty_stored NotAnArchive b made found made_is tells c stored = tells
-  faulty_stored (UnknownVersion v) b made found made_is tells c stored = tells
-  faulty_stored (Damaged at which) b made found made_is tells c stored = damaged_stored (Damaged at which) made made_is tells c stored
+  faulty_stored Disk b made found made_is states c stored = absurd (cc)
+  faulty_stored OutOfMemory b made found made_is states c stored = absurd (cc)
+  faulty_stored NotAnArchive b made found made_is states c stored = states
+  faulty_stored (UnknownVersion v) b made found made_is states c stored = states
+  faulty_stored (Damaged at which) b made found made_is states c stored = damaged_stored (Damaged at which) made made_is states c stored

@@ -15,5 +15,5 @@ mod ReadLemmas
 mod ReadsLemmas
 mod ShutLemmas
 mod SightLemmas
-mod TellLemmas
+mod PrintLemmas
 mod UseLemmas

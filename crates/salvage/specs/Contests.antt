@@ -47,7 +47,7 @@ IsKnown d behind r = behind.start ≤ r.place.start → r.place.start < behind.e
 abbrev pub AreKnown : Doubts → Span → List Read → Type 0
 AreKnown d behind reads = (r : Read) → Contains reads r → IsKnown d behind r
 
--- where the half begins and ends whose records stand
+-- the start and the end of the half whose records stand
 abbrev pub taken_start : Shape → ℕ → ℕ
 taken_start shape gate = half_start shape (taken_half shape gate)
 

@@ -15,7 +15,7 @@ use Rattle.salvage.specs.declared.finding.Sight.{Sight}
 use Rattle.salvage.specs.declared.shown.Patch.{Patch}
 use Rattle.salvage.specs.declared.source.Source as source
 
--- The new disk holds what these bytes hold, where they are those of an honest source: the same cases under their numbers, with their
+-- The new disk holds the archive of these bytes, if they are those of an honest source: the same cases under their numbers, with their
 -- facts, pins, labels and images.
 pub record CopiesAs {N : Type 0} (h : disk.Ghosts N) (honest : Bool) (bytes : List ℕ) (wanted : CopyWish) (onto onto' : N) (r : Result (Unit {0}) CopyFault) : Type 0 where
   -- an opening of the new disk finds the cases, whatever a crash from then on leaves of it

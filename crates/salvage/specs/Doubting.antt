@@ -26,8 +26,8 @@ abbrev pub place_of : Option Patch → ℕ
 place_of None = 0
 place_of (Some p) = p.at
 
--- Where the first fault is, if there is one: a damaged gate of an archive that opens; or else the gate that is shown as another, so that what
--- precedes the fault opens.
+-- The place of the first fault, if there is one: a damaged gate of an archive that opens; or else the gate that is shown as another, so that
+-- the records before the fault open.
 abbrev pub trouble_by : Option OpenFault → Option Patch → Option ℕ → Option Trouble
 trouble_by fault patch (Some gate) = Some (record { gate = gate; field = named.Gate; is_refused = false })
 trouble_by None patch None = None

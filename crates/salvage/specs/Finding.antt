@@ -27,7 +27,7 @@ pub record StandsUntil (b : List ℕ) (s : Standing) (fault : OpenFault) : Type 
   pub opened : slice_index (records_area b s.shape s.half) (sizes records) ≡ 165
   pub found : record_fault s.shape.data_blocks (records_start s.shape s.half + sizes records) (drop (sizes records) (records_area b s.shape s.half)) (replayed records (nothing_yet s.version)) ≡ Some fault
 
--- where the gate after the records of the taken half is
+-- the place of the gate after the records of the taken half
 abbrev pub gate_of : Standing → ℕ
 gate_of s = half_start s.shape s.half + s.used
 
@@ -39,7 +39,7 @@ closes gate = Some (record { at = gate; byte = 0 })
 abbrev pub EndsAt : Standing → ℕ → Type 0
 EndsAt u gate = (gate ≡ half_start u.shape A + u.used) ⊎ (gate ≡ half_start u.shape B + u.used)
 
--- Where the gate at this place is shown closed, an archive stands whose records end there.
+-- If the gate at this place is shown closed, an archive stands whose records end there.
 abbrev pub IsEnd : List ℕ → ℕ → Type 0
 IsEnd b gate = (u : Standing) × Stands (shown (closes gate) b) u × EndsAt u gate
 
@@ -64,7 +64,7 @@ IsLastGate b at (Err fault) = IsShort fault
 abbrev pub patched_within : ℕ → Option ℕ → Type 0
 patched_within size gate = (g : ℕ) → gate ≡ Some g → g < size
 
--- what comes of a try whose opening is refused so
+-- the result of a try whose opening is refused with this fault
 abbrev pub not_found : OpenFault → Result Bool OpenFault
 not_found Disk = Err Disk
 not_found OutOfMemory = Err OutOfMemory
@@ -105,7 +105,7 @@ IsRecordFound b at fault (Err f) = IsShort f ⊎ ((f ≡ fault) × GatesHave b (
 abbrev pub HasNoGate : List ℕ → Type 0
 HasNoGate b = (s : Standing) (fault : OpenFault) → StandsUntil b s fault → ⊥
 
--- what lets bytes open whose opening is refused so
+-- the patch with which bytes open whose opening is refused with this fault
 abbrev pub FindsPatch : List ℕ → OpenFault → Result Patch OpenFault → Type 0
 FindsPatch b fault (Ok patch) =
     Opens b (Some patch) × IsRefused b fault × ((s : Standing) (why : OpenFault) → StandsUntil b s why → (why ≡ fault) × (Some patch ≡ closes (gate_of s)))

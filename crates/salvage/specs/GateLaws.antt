@@ -107,7 +107,7 @@ half_behind : (s : Shape) (half : Half) → 4096 ≤ half_start s half
 half_behind s A = omega arith
 half_behind s B = omega arith
 
--- a gate in a half, after its header, is no part of what an opening reads first
+-- a gate in a half, after its header, does not belong to the bytes that an opening reads first
 pub front_spared : (b c : List ℕ) (s : Shape) (half : Half) (g x : ℕ) → IsWithinLimits s → half_start s half + 32 ≤ g → g < half_start s half + half_length s → g < length b
     → c ≡ overwritten b g (x ∷ []) → HasSameFront s b c
 front_spared b c s half g x limits low high within is = record {
@@ -184,7 +184,7 @@ pub until_refused : (b : List ℕ) (s : Standing) (fault : OpenFault) → Stands
 until_refused b s fault until =
     inr (front_of s, until.front, record { records = until.records; row = until.row; opened = until.opened; found = until.found })
 
--- an archive that stands where a gate is shown closed
+-- an archive that stands if a gate is shown closed
 module _ (b : List ℕ) (s u : Standing) (fault : OpenFault) (g : ℕ) (until : StandsUntil b s fault) (within : g < length b) (stands : Stands (shown (closes g) b) u) where
   abbrev c : List ℕ
   c = overwritten b g (0 ∷ [])

@@ -1,4 +1,4 @@
--- What becomes of the cases that precede the first fault.
+-- The fate of the cases before the first fault.
 use Rattle.std.specs.Prelude.{◌≡◌, ◌⊎◌, ◌<◌, List, ℕ, None}
 use Rattle.std.specs.List.{Contains}
 use Rattle.intake.specs.Blocks.{image_in}

@@ -19,7 +19,7 @@ pub mod Records
 pub mod ShowLaws
 pub mod Showing
 pub mod Shut
-pub mod Telling
+pub mod Printing
 pub mod Texts
 pub mod Told
 pub mod ToldLaws

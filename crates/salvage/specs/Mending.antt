@@ -1,4 +1,4 @@
--- What takes the place of a damaged superblock, of the header of a half, or of a file's length.
+-- The replacement of a damaged superblock, of the header of a half, or of a file's length.
 use Rattle.std.specs.Prelude.{◌≡◌, ◌↔◌, ◌⊎◌, ℕ, ◌+◌, ◌-◌, ◌*◌, ◌/◌, ◌%◌, ◌<◌, ◌≤◌, Bool, true, false, List, [], ◌∷◌, ◌++◌, length, take, drop, replicate, slice_index, Option, None, Some, IsTrue}
 use Rattle.disk_model.specs.Places.{part}
 use Rattle.journal_layout.specs.Front.{is_known, shape_at}
@@ -31,7 +31,7 @@ abbrev pub AreBelow : ℕ → List ℕ → Type 0
 AreBelow n [] = Unit {0}
 AreBelow n (k ∷ rest) = (k < n) × AreBelow n rest
 
--- what lies outside of the n bytes from place at on is the same in both
+-- the bytes outside of the n bytes from place at on are the same in both
 abbrev pub Spares : ℕ → ℕ → List ℕ → List ℕ → Type 0
 Spares at n old new = (p m : ℕ) → (p + m ≤ at) ⊎ (at + n ≤ p) → part new p m ≡ part old p m
 

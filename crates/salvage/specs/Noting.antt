@@ -20,7 +20,7 @@ number_if Name seq = 0
 number_if Block seq = 0
 number_if Room seq = 0
 
--- the highest number of a copied case; 0 if there is none
+-- the highest number of a copied case; 0 if no case was copied
 abbrev pub greatest_copied : List Read → ℕ
 greatest_copied [] = 0
 greatest_copied (r ∷ rest) = max (number_if r.fate r.entry.seq) (greatest_copied rest)

@@ -59,11 +59,11 @@ HasBound shape bytes t (Some d) = IsBound shape bytes t d.bound
 -- The cases of an archive that are found.
 pub record SeesCases (b : List ℕ) (f : Found) : Type 0 where
   pub sees : SeesArchive b f.sight
-  -- what precedes the first fault
+  -- the journal before the first fault
   pub first : Stands (shown f.sight.patch b) f.first.standing
   -- the reading that is copied instead, if there is one
   pub more : (m : More) → f.more ≡ Some m → (d : Doubts) × (f.doubts ≡ Some d) × IsMore b f.first.standing f.scan.drops.items f.scan.reads.items d.bound m
-  -- what deletes a case is a record of the archive
+  -- a record of the archive deletes each case that is reported as deleted
   pub drops : AreDrops (part b 0 (data_start f.first.standing.shape)) f.scan.drops.items
   -- each case that is reported as stored is stored by a record of the archive
   pub from : AreFrom f.first.standing.shape.data_blocks (part b 0 (data_start f.first.standing.shape)) f.scan.reads.items

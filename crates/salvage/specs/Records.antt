@@ -1,4 +1,4 @@
--- What records say that read by themselves.
+-- The meaning of records that read by themselves.
 use Rattle.std.specs.Prelude.{◌≡◌, ◌⊎◌, ℕ, ◌+◌, ◌*◌, List, [], ◌∷◌, length, nat_le, slice_index, if◌then◌else◌, Option, None, Some}
 use Rattle.std.specs.BTreeMap.{BTreeMap, get}
 use Rattle.std.specs.List.{Contains, slice_get}

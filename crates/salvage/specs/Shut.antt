@@ -31,7 +31,7 @@ abbrev pub IsByteRead : List ℕ → ℕ → Result ℕ OpenFault → Type 0
 IsByteRead b place (Ok x) = x ≡ slice_index b place
 IsByteRead b place (Err fault) = IsShort fault
 
--- where this gate is shown open, an archive stands whose records end after so many bytes of its half
+-- if this gate is shown open, an archive stands whose records end after so many bytes of its half
 abbrev pub StaysSo : List ℕ → ℕ → ℕ → Type 0
 StaysSo b gate used = (u : Standing) × Stands (shown (opens gate) b) u × (u.used ≡ used)
 
@@ -40,7 +40,7 @@ EndsThere b gate used (Ok true) = StaysSo b gate used
 EndsThere b gate used (Ok false) = StaysSo b gate used → ⊥
 EndsThere b gate used (Err fault) = IsShort fault
 
--- a damaged gate on which it depends where the records end
+-- a damaged gate that decides where the records end
 pub record IsShutThere (b : List ℕ) (gate used : ℕ) : Type 0 where
   pub within : gate < length b
   pub damaged : is_shut (slice_index b gate) ≡ true

@@ -9,8 +9,8 @@ use Rattle.salvage.specs.declared.cases_found.Found.{Found}
 use Rattle.salvage.specs.declared.cases_found.Loss.{Loss}
 use Rattle.salvage.specs.declared.cases_found.Loss.TheVariants as loss
 use Rattle.salvage.specs.declared.mending.Mend.{Mend}
-use Rattle.salvage.specs.declared.telling.Mark.{Mark}
-use Rattle.salvage.specs.declared.telling.Mark.TheVariants.{Whole, Doubtful, Cut, Lost}
+use Rattle.salvage.specs.declared.printing.Mark.{Mark}
+use Rattle.salvage.specs.declared.printing.Mark.TheVariants.{Whole, Doubtful, Cut, Lost}
 use Rattle.script_words.specs.Printing.{shown}
 
 -- why an opening is refused
@@ -60,7 +60,7 @@ abbrev pub deleting_words : List ℕ → Option ℕ → List ℕ
 deleting_words words None = []
 deleting_words words (Some place) = words ++ decimal place
 
--- what hinders a case that is lost, and which record deletes a case
+-- why a case is lost or doubtful, and which record deletes a case
 abbrev pub mark_reason : Mark → List ℕ
 mark_reason Whole = []
 mark_reason (Doubtful place) = deleting_words (codes " deleted at ") place

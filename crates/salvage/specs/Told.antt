@@ -11,10 +11,10 @@ use Rattle.salvage.specs.Texts.{case_line, front_lines}
 use Rattle.salvage.specs.declared.cases_found.Found.{Found}
 use Rattle.salvage.specs.declared.cases_found.Loss.{Loss}
 use Rattle.salvage.specs.declared.records.Read.{Read}
-use Rattle.salvage.specs.declared.telling.Mark.{Mark}
-use Rattle.salvage.specs.declared.telling.Mark.TheVariants.{Whole, Doubtful, Cut, Lost}
-use Rattle.script_streams.specs.Replies.{Telling, TellsText}
-use Rattle.script_streams.specs.Telling.{IsDelivered}
+use Rattle.salvage.specs.declared.printing.Mark.{Mark}
+use Rattle.salvage.specs.declared.printing.Mark.TheVariants.{Whole, Doubtful, Cut, Lost}
+use Rattle.script_streams.specs.Replies.{Printing, PrintsText}
+use Rattle.script_streams.specs.Printing.{IsDelivered}
 use Rattle.script_streams.specs.declared.streams.StreamFault.{StreamFault}
 
 -- a case, and the report on it
@@ -85,11 +85,11 @@ abbrev pub IsTold : List Line → Case → Type 0
 IsTold lines c = (l : Line) × Contains lines l × IsSameCase l.case c
 
 -- each of these lines is printed with this outcome
-abbrev pub TellsLines : Telling → (List Line → Type 0) → Type 0
-TellsLines t P = (lines : List Line) × P lines × TellsText t (lines_text lines)
+abbrev pub PrintsLines : Printing → (List Line → Type 0) → Type 0
+PrintsLines t P = (lines : List Line) × P lines × PrintsText t (lines_text lines)
 
 -- the first fault, the shape if it is another, and these lines go to an output that had taken `before`, and the answer says whether it has taken all
-abbrev pub TellsCases : Found → Option (List ℕ) → Option (List ℕ) → ℕ → ℕ → Bool → Type 0
-TellsCases f before after count count' done =
+abbrev pub PrintsCases : Found → Option (List ℕ) → Option (List ℕ) → ℕ → ℕ → Bool → Type 0
+PrintsCases f before after count count' done =
     (lines : List Line) × (sent : Result (Unit {0}) StreamFault) × AreTold f lines
     × IsDelivered before count after count' (front_lines f ++ lines_text lines) sent × (done ≡ is_ok sent)

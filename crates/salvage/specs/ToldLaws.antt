@@ -16,7 +16,7 @@ use Rattle.salvage.specs.Contests.{Contests, IsUncontested, Knows, OfEachBehind,
 use Rattle.salvage.specs.Doubting.{IsBound, trouble_by}
 use Rattle.salvage.specs.Readings.{HasBound, IsBelow, IsWholeIn, cases_by, fault_by, first_fault}
 use Rattle.salvage.specs.Reads.{IsAmong, IsFrom, IsTaken}
-use Rattle.salvage.specs.Telling.{EachReadableCaseIsTold, EachSoundCaseIsWhole, IsHeardOf, NoRecordContestsWhatIsToldWhole, NoRecordDeletesWhatIsToldWhole, WhatIsToldLostIsStored, WhatIsToldWholeIsBelow, WhatIsToldWholeIsNotDeleted}
+use Rattle.salvage.specs.Printing.{EachReadableCaseIsTold, EachSoundCaseIsWhole, IsHeardOf, NoRecordContestsWhatIsToldWhole, NoRecordDeletesWhatIsToldWhole, WhatIsToldLostIsStored, WhatIsToldWholeIsBelow, WhatIsToldWholeIsNotDeleted}
 use Rattle.salvage.specs.Records.{AreIndexed, IsDeleted}
 use Rattle.salvage.specs.Told.{AreCopied, AreLost, AreTold, HasDoubt, IsLost, IsMarked, IsTold, Line, copied_cases}
 use Rattle.salvage.specs.declared.cases_found.Found.{Found}
@@ -25,8 +25,8 @@ use Rattle.salvage.specs.declared.doubts.Doubts.{Doubts}
 use Rattle.salvage.specs.declared.doubts.Trouble.{Trouble}
 use Rattle.salvage.specs.declared.records.Read.{Read}
 use Rattle.salvage.specs.declared.shown.Patch.{Patch}
-use Rattle.salvage.specs.declared.telling.Mark.{Mark}
-use Rattle.salvage.specs.declared.telling.Mark.TheVariants.{Whole, Doubtful, Cut, Lost}
+use Rattle.salvage.specs.declared.printing.Mark.{Mark}
+use Rattle.salvage.specs.declared.printing.Mark.TheVariants.{Whole, Doubtful, Cut, Lost}
 
 itself : (c : Case) → IsSameCase c c
 itself c = record { seq = refl; image = record { origin = refl; len = refl; blocks = refl } }

@@ -67,11 +67,11 @@ pub struct Found {
     pub(crate) first: Journal,
     // The facts of the records of both halves that read by themselves, if there is a fault.
     pub(crate) scan: Scan,
-    // What makes a case doubtful that stands before the first fault, if something is.
+    // Why a case before the first fault is doubtful, if any is.
     doubts: Option<Doubts>,
     // The reading that is copied instead of the archive's records.
     pub(crate) more: Option<More>,
-    /// What a damaged superblock, the header of a half, or the file's length is taken for.
+    /// The value that is assumed instead of a damaged superblock, the header of a half, or the file's length.
     pub mend: Option<Mend>,
 }
 
@@ -116,7 +116,7 @@ impl Found {
         }
     }
 
-    /// Where the record is that deletes a case of this number, if one does that reads.
+    /// The place of the record that deletes a case of this number, if one does that reads.
     pub(crate) fn deleted_at(&self, seq: u32) -> Option<u64>
         ensures { IsDeletedAt self.now.scan.drops.items seq result }
     {
@@ -244,7 +244,7 @@ fn loss_of(fate: Fate) -> Loss {
     }
 }
 
-// Where the first fault is, if there is one.
+// The place of the first fault, if there is one.
 fn trouble_in(sight: Sight, shut: Option<u64>) -> Option<Trouble>
     ensures sound { sight.fault ≡ None → shut ≡ None → result ≡ None }
     ensures trouble { result ≡ None → (sight.fault ≡ None) × (shut ≡ None) }
@@ -483,11 +483,10 @@ fn look_on<S: Source>(
     Ok((scan, doubts, more))
 }
 
-/// Finds the cases of an archive. Those of a sound archive are as its opening finds them. If the first fault is of a record of the taken
-/// half,
-/// of a gate without which the archive opens without the records after it, or of the header of a half, the cases are those of the records
-/// of
-/// both halves that read by themselves, as far as they go with one another (see `choose`). Its errors are those of `find_sight`.
+/// Finds the cases of an archive. Those of a sound archive are as its opening finds them. If the first
+/// fault is of a record of the taken half, of a gate without which the archive opens without the records
+/// after it, or of the header of a half, the cases are those of the records of both halves that read by
+/// themselves, as far as they go with one another (see `choose`). Its errors are those of `find_sight`.
 pub fn find_cases<S: Source>(alloc: Global, source: &S) -> Result<Found, OpenFault>
     ensures within { IfOk result (FoundWithin (S.size source.now)) }
     ensures finds { IsTrue (S.is_honest source.now) → FindsCases (S.seen source.now) result }

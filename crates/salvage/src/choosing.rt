@@ -1,4 +1,4 @@
-// Which of the cases that records store are copied, where not all go with one another.
+// The choice of the cases that are copied, of those that records store, if not all go with one another.
 ghost use Rattle.std.specs.Prelude.{◌≡◌, false, true, IsTrue};
 ghost use Rattle.extents.specs.Runs.{blocks_of, run_blocks};
 ghost use Rattle.journal_layout.specs.Case.{case_of};
@@ -129,7 +129,7 @@ pub(crate) fn size_chosen(reads: &[Read]) -> usize {
 }
 
 impl Chosen {
-    // What becomes of a case, after those that were chosen before it.
+    // The fate of a case, after those that were chosen before it.
     fn fate_of(&self, reads: &[Read], read: &Read) -> Fate {
         if let Some(other) = self.numbers.get(&read.entry.seq) {
             return match reads.get(*other) {

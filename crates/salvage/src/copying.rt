@@ -12,7 +12,7 @@ use archive_care::{CopyFault, CopyWish, copy_archive};
 use disk_model::Disk;
 use std::alloc::Global;
 
-/// Copies the cases that an archive shows, with a byte of it shown as another where a sight says so, onto a new disk, whose bytes may be
+/// Copies the cases that an archive shows, with a byte of it shown as another if a sight says so, onto a new disk, whose bytes may be
 /// any. It becomes an archive of the wanted shape, and answers as `copy_archive` does.
 pub fn copy_shown<S: Source, N: Disk>(
     alloc: Global,

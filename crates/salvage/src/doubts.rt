@@ -20,7 +20,7 @@ use std::collections::BTreeSet;
 /// More than any number of a case.
 pub(crate) const NO_BOUND: u64 = 1 << 32;
 
-/// What makes a case doubtful that stands before the first fault.
+/// Why a case before the first fault is doubtful.
 #[derive(Drop)]
 pub(crate) struct Doubts {
     /// A case with this number or a greater one is doubtful.
@@ -31,7 +31,7 @@ pub(crate) struct Doubts {
     blocks: Blocks,
 }
 
-/// Where the first fault is, in bytes, and of which field; no place of one that is of no record and no gate.
+/// The place of the first fault, in bytes, and its field; a fault that belongs to no record and no gate has no place.
 #[derive(Clone, Copy)]
 pub(crate) struct Trouble {
     pub(crate) gate: usize,
@@ -222,7 +222,7 @@ impl Doubts {
         self.take(&read.entry)
     }
 
-    /// What makes cases doubtful: a bound, and the records that read and lie behind the fault.
+    /// The reasons why cases are doubtful: a bound, and the records that read and lie behind the fault.
     pub(crate) fn of(
         alloc: Global,
         bound: u64,
@@ -270,7 +270,7 @@ fn behind_in(half: Span, gate: usize) -> Span
     }
 }
 
-/// What makes cases doubtful that stand before the first fault.
+/// The reasons why cases before the first fault are doubtful.
 pub(crate) fn doubts_of(
     alloc: Global,
     front: &[u8],

@@ -14,7 +14,7 @@ use std::alloc::Global;
 /// The byte of a gate that is open.
 pub(crate) const GATE_OPEN: u8 = 0xA5;
 
-// The length of a record is a multiple of 16 bytes, and so is each place of a gate.
+// The length of a record is a multiple of 16 bytes, and each place of a gate is one too.
 const STEP: u64 = 16;
 
 /// How an archive can be read.
@@ -22,7 +22,7 @@ const STEP: u64 = 16;
 pub struct Sight {
     /// Why its opening is refused, if it is.
     pub fault: Option<OpenFault>,
-    /// The byte that is shown as another, so that what precedes the fault opens.
+    /// The byte that is shown as another, so that the records before the fault open.
     pub patch: Option<Patch>,
 }
 
@@ -58,7 +58,7 @@ fn is_behind(start: u64, count: u64, place: u64) -> bool
     start <= place && place - start == count
 }
 
-// Whether the records of the taken half end at this place, where the gate there is shown closed.
+// Whether the records of the taken half end at this place, if the gate there is shown closed.
 fn is_gate<S: Source>(alloc: Global, source: &S, gate: u64) -> Result<bool, OpenFault>
     requires { gate < S.size source.now }
     ensures { IsTrue (S.is_honest source.now) → IsGateFound (S.seen source.now) gate result }
@@ -97,7 +97,8 @@ fn find_gate<S: Source>(alloc: Global, source: &S, at: u64) -> Result<Option<u64
     Ok(None)
 }
 
-// The patch that closes the gate of the first bad record, whose fault names a byte. Returns the fault if there is none.
+// The patch that closes the gate of the first bad record, whose
+// fault names a byte. Returns the fault if there is no such record.
 fn find_record<S: Source>(
     alloc: Global,
     source: &S,
@@ -131,7 +132,7 @@ fn try_patch<S: Source>(alloc: Global, source: &S, patch: Patch) -> Result<bool,
     }
 }
 
-// Where the second half of the journal begins, by the superblock.
+// The start of the second half of the journal, by the superblock.
 fn second_half<S: Source>(source: &S) -> Result<u64, OpenFault>
     ensures { IfErr result (λ fault. fault ≡ OpenFault.Disk) }
 {
@@ -145,7 +146,8 @@ fn second_half<S: Source>(source: &S) -> Result<u64, OpenFault>
     Ok(BLOCK * (1 + u64::from(u32::from_le_bytes(word))))
 }
 
-// The patch that closes or opens the gate of a half, so that an archive opens. Returns the fault if there is none.
+// The patch that closes or opens the gate of a half, so that an
+// archive opens. Returns the fault if there is no such patch.
 fn find_half<S: Source>(alloc: Global, source: &S, fault: OpenFault) -> Result<Patch, OpenFault>
     ensures within { IfOk result (λ patch. patch.at < S.size source.now) }
     ensures half { IsTrue (S.is_honest source.now) → IsHalfFound (S.seen source.now) fault result }
@@ -211,10 +213,10 @@ fn find_patch<S: Source>(alloc: Global, source: &S, fault: OpenFault) -> Result<
     }
 }
 
-/// Finds how an archive can be read. A sound archive is read as it is. If the first fault is of a record of the taken half, its gate is
-/// shown
-/// closed, so that the records before it stand, and nothing else. If it is of the header of a half, the gate of a half is shown closed, or
-/// open, so that the archive opens. Returns the fault of the opening if none of that makes it open, `Disk` if the archive can't be read, or
+/// Finds how an archive can be read. A sound archive is read as it is. If the first fault is of a record
+/// of the taken half, its gate is shown closed, so that the records before it stand, and nothing else. If
+/// it is of the header of a half, the gate of a half is shown closed, or open, so that the archive opens.
+/// Returns the fault of the opening if none of that makes it open, `Disk` if the archive can't be read, or
 /// `OutOfMemory`.
 pub fn find_sight<S: Source>(alloc: Global, source: &S) -> Result<Sight, OpenFault>
     ensures within { IfOk result (λ sight. IsWithin (S.size source.now) sight.patch) }

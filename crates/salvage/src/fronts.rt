@@ -11,14 +11,14 @@ use std::alloc::{AllocError, Global};
 // The bytes of a block, and so the place of the first half.
 const FIRST: usize = 4096;
 
-// Where the version of a half is in its header, and where its generation is.
+// The places of the version and of the generation in the header of a half.
 const VERSION: usize = 4;
 
 const GENERATION: usize = 8;
 
 const HEADER: usize = 32;
 
-// Where the flag of a pin is in a Store record.
+// The place of the pin's flag in a Store record.
 const PINNED: usize = 13;
 
 // Puts a record at a place, with its gate open. Returns the place where the next one begins.
@@ -72,10 +72,9 @@ fn put_cases(front: &mut [u8], bytes: &[u8], reads: &[Read]) -> usize
     at
 }
 
-/// Makes the superblock and the journal of an archive that has the cases of those `reads` which are copied. `bytes` are those of the
-/// archive
-/// up to its data blocks, and `reads` are in the order of their numbers, the highest first. The next number has a record only if it is
-/// not the one after the last case: that says it already.
+/// Makes the superblock and the journal of an archive that has the cases of those `reads` which are copied. `bytes`
+/// are those of the archive up to its data blocks, and `reads` are in the order of their numbers, the highest
+/// first. The next number has a record only if it is not the one after the last case: that says it already.
 pub(crate) fn make_front(
     alloc: Global,
     bytes: &[u8],

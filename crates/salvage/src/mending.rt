@@ -1,4 +1,4 @@
-// What takes the place of a damaged superblock, of the header of a half, or of a file's length.
+// The replacement of a damaged superblock, of the header of a half, or of a file's length.
 ghost use Rattle.std.specs.Prelude.{◌≡◌, ◌↔◌, ◌+◌, ◌*◌, ◌^◌, ◌<◌, ◌≤◌, length, IfOk, IfSome, IsTrue, IsOkUnless, OnOk, Some};
 ghost use Rattle.case_journal.specs.Viewing.{IsOpenRefusal};
 ghost use Rattle.journal_layout.specs.Layout.{IsWithinLimits, data_start, disk_length};
@@ -34,7 +34,7 @@ const PLAIN: u32 = 1;
 
 const LABELLED: u32 = 2;
 
-/// What whoever asks knows of an archive's shape.
+/// The part of an archive's shape that the caller knows.
 #[derive(Clone, Copy)]
 pub struct ShapeWish {
     /// The blocks of each half of its journal.
@@ -152,7 +152,7 @@ fn is_half<S: Source>(source: &S, half_blocks: u32) -> Result<bool, OpenFault>
     Ok(is_header(&bytes) && is_head(&bytes[32..]))
 }
 
-// How many blocks each half has, by the one place where the second one begins; none if there is no such place, or more than one.
+// How many blocks each half has, by the one place where the second one begins; `None` if there is no such place, or more than one.
 fn find_half_blocks<S: Source>(source: &S) -> Result<Option<u32>, OpenFault>
     ensures { IsOpenRefusal result }
 {
@@ -227,7 +227,7 @@ fn are_before(runs: &[Run], blocks: u64) -> bool
     true
 }
 
-// Where the last of these runs ends.
+// The end of the last of these runs.
 fn end_of(runs: &[Run]) -> u32 {
     let mut end = 0u32;
     for run in runs {
@@ -317,7 +317,7 @@ fn mend_header(front: &mut [u8], start: usize, version: u32)
     }
 }
 
-// Puts a superblock of this shape, and into the header of each open half what its version or its generation lacks.
+// Puts a superblock of this shape, and repairs the version or the generation in the header of each open half.
 fn mend_front(front: &mut [u8], shape: Shape, version: u32)
     requires limits { IsWithinLimits shape }
     requires whole { length front.old ≡ data_start shape }
@@ -371,11 +371,10 @@ fn is_of_headers(fault: OpenFault) -> bool
     }
 }
 
-/// Finds a shape for an archive whose opening is refused for its superblock, for the headers of its halves, or for its length, and the
-/// bytes to
-/// read instead of these. The shape is that of the words; else that of the superblock, if the file has its length, or if the second half
-/// begins where it says; else that of the only place at which a header and a record stand. There are as many data blocks as the file
-/// has, and as the readable records name. Returns nothing if there is no such shape, or if the fault is another.
+/// Finds a shape for an archive whose opening is refused for its superblock, for the headers of its halves, or for its length, and
+/// the bytes to read instead of these. The shape is that of the words; else that of the superblock, if the file has its length, or
+/// if the second half begins where it says; else that of the only place at which a header and a record stand. There are as many data
+/// blocks as the file has, and as the readable records name. Returns nothing if there is no such shape, or if the fault is another.
 pub fn find_shape<S: Source>(
     alloc: Global,
     source: &S,

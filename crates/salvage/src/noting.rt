@@ -17,7 +17,7 @@ fn number_if_copied(read: &Read) -> u32
     }
 }
 
-/// The highest number of a copied case; 0 if there is none.
+/// The highest number of a copied case; 0 if no case was copied.
 pub(crate) fn last_of(reads: &[Read]) -> u32
     ensures { result ≡ greatest_copied reads.now }
 {

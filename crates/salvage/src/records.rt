@@ -19,7 +19,7 @@ use journal_records::replay;
 use std::alloc::{AllocError, Global};
 use std::collections::BTreeMap;
 
-/// The length of a record is a multiple of so many bytes, and so is its place in its half.
+/// The length of a record is a multiple of so many bytes, and its place in its half is one too.
 pub(crate) const STEP: usize = 16;
 
 // The bytes of a half's header.
@@ -42,14 +42,14 @@ const VERSION: u32 = 2;
 // The most data blocks of an archive.
 const MOST_BLOCKS: u32 = 16_777_216;
 
-/// Where a half of the journal begins and ends, or a record in it.
+/// The start and the end of a half of the journal, or of a record in it.
 #[derive(Clone, Copy)]
 pub(crate) struct Span {
     pub(crate) start: usize,
     pub(crate) end: usize,
 }
 
-/// What becomes of a case that a record stores.
+/// The fate of a case that a record stores.
 #[derive(Clone, Copy, PartialEq, Eq)]
 pub(crate) enum Fate {
     /// It is copied.
@@ -73,7 +73,7 @@ pub(crate) struct Read {
     pub(crate) place: Span,
     /// The case that it stores, pinned or not as the last Pin record behind it says.
     pub(crate) entry: Entry,
-    /// Where the last Label record behind it is that names the case.
+    /// The place of the last Label record behind it that names the case.
     pub(crate) label: Option<Span>,
     pub(crate) fate: Fate,
 }
@@ -82,7 +82,7 @@ pub(crate) struct Read {
 #[derive(Clone, Copy)]
 pub(crate) struct Dropped {
     pub(crate) seq: u32,
-    /// Where the record is among the archive's bytes.
+    /// The place of the record among the archive's bytes.
     pub(crate) place: usize,
 }
 
@@ -252,7 +252,7 @@ fn stored(
     }
 }
 
-/// Whether a record reads by itself at the beginning of a place, which ends with its half.
+/// Whether a record reads by itself at the start of a place, which ends with its half.
 pub(crate) fn reads_alone(
     alloc: Global,
     front: &[u8],
@@ -391,7 +391,7 @@ impl Scan {
         }
     }
 
-    // Takes where the record of a label is.
+    // Takes the place of the record of a label.
     fn take_label(&mut self, seq: u32, place: Span)
         ensures drops { self.new.drops ≡ self.old.drops }
         ensures dropped { self.new.dropped ≡ self.old.dropped }
@@ -429,7 +429,8 @@ impl Scan {
         Ok(())
     }
 
-    // Takes the facts of the record that reads at the beginning of a place. Returns its length, or 0 if none reads there.
+    // Takes the facts of the record that reads at the start of a
+    // place. Returns its length, or 0 if no record reads there.
     fn take(
         &mut self,
         alloc: Global,

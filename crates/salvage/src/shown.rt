@@ -75,7 +75,7 @@ impl<'a, S: Source> Shown<'a, S> {
     }
 }
 
-// Puts a byte in its place, where the bytes from place `at` on have it.
+// Puts a byte in its place, if the bytes from place `at` on have it.
 fn put_byte(into: &mut [u8], at: u64, patch: Patch)
     ensures before { patch.at < at → into.new ≡ into.old }
     ensures after { at + length into.old ≤ patch.at → into.new ≡ into.old }

@@ -29,7 +29,7 @@ fn read_byte<S: Source>(source: &S, place: u64) -> Result<u8, OpenFault>
     Ok(word[0])
 }
 
-// Whether the records of an archive end after so many bytes of a half, where the gate at this place is shown open.
+// Whether the records of an archive end after so many bytes of a half, if the gate at this place is shown open.
 fn ends_there<S: Source>(alloc: Global, source: &S, gate: u64, used: u64) -> Result<bool, OpenFault>
     requires { gate < S.size source.now }
     ensures { IsTrue (S.is_honest source.now) → EndsThere (S.seen source.now) gate used result }
@@ -44,7 +44,7 @@ fn ends_there<S: Source>(alloc: Global, source: &S, gate: u64, used: u64) -> Res
     }
 }
 
-// The gate so many bytes after the beginning of a half, if it is damaged, and the place where the records end that an opening reads.
+// The gate so many bytes after the start of a half, if it is damaged, and the place where the records end that an opening reads.
 fn shut_at<S: Source>(
     alloc: Global,
     source: &S,

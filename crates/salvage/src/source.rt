@@ -4,7 +4,7 @@ ghost use Rattle.disk_model.specs.Places.{AreBytes, part};
 
 use disk_model::DiskFault;
 
-/// A row of bytes of fixed length that is only read: no call of it writes. What its clauses say of bytes holds of an honest one.
+/// A row of bytes of fixed length that is only read: no call of it writes. Its clauses about bytes hold of an honest one.
 pub trait Source {
     /// The length in bytes.
     ghost size: { Self → ℕ };
@@ -19,7 +19,7 @@ pub trait Source {
     fn length(&self) -> u64
         ensures { result ≡ size self.now };
 
-    /// Reads the bytes from place `at` on into all of `into`. Answers a fault where they could not be read.
+    /// Reads the bytes from place `at` on into all of `into`. Answers a fault if they could not be read.
     fn read_at(&self, at: u64, into: &mut [u8]) -> Result<(), DiskFault>
         requires { at + length into.old ≤ size self.now }
         ensures bytes { OnOk result (IsTrue (is_honest self.now) → into.new ≡ part (seen self.now) at (length into.old)) };
@@ -30,6 +30,6 @@ pub trait Source {
     /// Reads give as many bytes as it is long.
     ghost whole: { (s : Self) → IsTrue (is_honest s) → length (seen s) ≡ size s };
 
-    /// What reads give is bytes.
+    /// The numbers that reads give are bytes.
     ghost seen_bytes: { (s : Self) → IsTrue (is_honest s) → AreBytes (seen s) };
 }

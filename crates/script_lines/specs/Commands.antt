@@ -1,4 +1,4 @@
--- What the code's commands say.
+-- The meaning of the code's commands.
 use Rattle.std.specs.Prelude.{ℕ, List}
 use Rattle.arrayvec.specs.ArrayVec.{ArrayVec}
 use Rattle.script_words.specs.WordsLeft.{words_left}
@@ -16,7 +16,7 @@ use Rattle.script_lines.specs.declared.question.Question.TheVariants as question
 use Rattle.script_lines.specs.declared.question.Call.{Call}
 use Rattle.script_lines.specs.declared.question.Call.TheVariants.{Delete, Pin, Label, Retire, ListCases, CountFree, Upgrade}
 
--- what is told of a process
+-- the description of a process
 abbrev pub process_of : Process → ProcessSaid
 process_of p = record {
   comm = p.comm.items;
@@ -32,7 +32,7 @@ process_of p = record {
   limit = p.limit;
 }
 
--- what is told of a process by its words
+-- the description of a process by its words
 abbrev pub process_told : ProcessWords → ProcessSaid
 process_told told = process_in (words_left told.words)
 
@@ -44,7 +44,7 @@ name_text name = name.text.items
 abbrev pub label_bytes : ArrayVec ℕ → List ℕ
 label_bytes label = label.items
 
--- what a request says
+-- the meaning of a request
 abbrev pub asked_by : Request → Said
 asked_by Silence = silence
 asked_by BadLine = bad_line
@@ -54,7 +54,7 @@ asked_by (BeginCore slot process) = begin_core slot (process_told process)
 asked_by (End slot) = end_of slot
 asked_by (Drop slot) = drop_of slot
 
--- what a call says
+-- the meaning of a call
 abbrev pub call_said : Call → Said
 call_said (Delete seq) = delete_of seq
 call_said (Pin seq flag) = pin_of seq flag
@@ -64,12 +64,12 @@ call_said ListCases = list_all_cases
 call_said CountFree = count_free
 call_said Upgrade = upgrade_archive
 
--- what a question says
+-- the meaning of a question
 abbrev pub question_said : Question → Said
 question_said (question.Inspect seq query) = inspect_of seq (query_of query)
 question_said (question.Call call) = call_said call
 
--- what a command says
+-- the meaning of a command
 abbrev pub said_by : Command → Said
 said_by (Part slot count) = part_of slot count
 said_by (Ask question) = question_said question

@@ -23,7 +23,7 @@ is_small_key key =
 abbrev pub is_large_key : List ℕ → Bool
 is_large_key key = bytes_eq key (codes "time") || bytes_eq key (codes "limit")
 
--- what the value of a key of `begin core` is
+-- the kind of value that a key of `begin core` has
 abbrev pub core_kind : List ℕ → Option ValueKind
 core_kind key =
     if is_text_key key then Some Text
@@ -31,13 +31,13 @@ core_kind key =
     else (if is_large_key key then Some Large
     else None))
 
--- what the value of a key of `retire` is
+-- the kind of value that a key of `retire` has
 abbrev pub retire_kind : List ℕ → Option ValueKind
 retire_kind key =
     if bytes_eq key (codes "keep") || bytes_eq key (codes "bytes") || bytes_eq key (codes "before") then Some Large
     else None
 
--- what the value of a key is, if the line knows it
+-- the kind of value that a key has, if the line knows the key
 abbrev pub value_kind : Keys → List ℕ → Option ValueKind
 value_kind Core key = core_kind key
 value_kind Retire key = retire_kind key

@@ -1,4 +1,4 @@
--- What the lines that inspect ask: each has a command, the number of a case, and then what its query wants.
+-- The queries of the lines that inspect: each line has a command, the number of a case, and then the words that its query needs.
 use Rattle.std.specs.Prelude.{ℕ, ◌^◌, ◌<◌, ◌≤◌, All, length, List, [], ◌∷◌, Option, None, Some, codes, if◌then◌else◌}
 use Rattle.std.specs.Str.{bytes_eq}
 use Rattle.script_words.specs.Hex.{needle_of}
@@ -13,7 +13,7 @@ use Rattle.script_lines.specs.declared.query.BuildQuery.TheVariants.{Compared, U
 use Rattle.script_lines.specs.declared.query.MemoryQuery.{MemoryQuery}
 use Rattle.script_lines.specs.declared.query.MemoryQuery.TheVariants.{Dump, At, Find, Strings, Backtrace, Unwind, Lines, Frame, Builds}
 
--- what a line asks an image
+-- a line's query about an image
 pub data QuerySaid : Type 0 where
   -- the header of the ELF file, and its segments
   ask_header : QuerySaid
@@ -31,13 +31,13 @@ pub data QuerySaid : Type 0 where
   ask_auxiliary_vector : QuerySaid
   -- the files that were mapped into its memory
   ask_files : QuerySaid
-  -- the stretches of its memory, and what each holds
+  -- the stretches of its memory, and the content of each
   ask_maps : QuerySaid
   -- the bytes of its memory from an address on, and how many of them
   ask_dump : ℕ → ℕ → QuerySaid
-  -- what is at this address of its memory
+  -- the content of its memory at this address
   ask_at : ℕ → QuerySaid
-  -- where these bytes occur in its memory
+  -- the places where these bytes occur in its memory
   ask_find : List ℕ → QuerySaid
   -- the texts in its memory of at least this length in bytes
   ask_strings : ℕ → QuerySaid
@@ -66,7 +66,7 @@ abbrev pub alone : QuerySaid → List (List ℕ) → Option QuerySaid
 alone query [] = Some query
 alone query (more ∷ words) = None
 
--- what the one word is read as
+-- the value that the single word is read as
 abbrev pub one_word : {A : Type 0} → (List ℕ → Option A) → List (List ℕ) → Option A
 one_word read [] = None
 one_word read (word ∷ []) = read word
@@ -124,7 +124,7 @@ memory_rows =
     ∷ (codes "frame", ranged ask_frame)
     ∷ build_rows
 
--- the lines that inspect: the command of each, and what may follow the number of the case
+-- the lines that inspect: the command of each, and the words that may follow the number of the case
 abbrev pub query_rows : List (List ℕ × (List (List ℕ) → Option QuerySaid))
 query_rows =
     (codes "header", alone ask_header)
@@ -137,7 +137,7 @@ query_rows =
     ∷ (codes "files", alone ask_files)
     ∷ memory_rows
 
--- what the row of a command makes of the words after the case
+-- the query that the row of a command gives for the words after the case
 abbrev pub query_in : List (List ℕ × (List (List ℕ) → Option QuerySaid)) → List ℕ → List (List ℕ) → Option QuerySaid
 query_in [] command words = None
 query_in (row ∷ rows) command words = if bytes_eq command row.0 then row.1 words else query_in rows command words
@@ -146,7 +146,7 @@ query_in (row ∷ rows) command words = if bytes_eq command row.0 then row.1 wor
 abbrev pub needle_bytes : Needle → List ℕ
 needle_bytes needle = needle.bytes.items
 
--- what the code's queries ask
+-- the meaning of the code's queries
 abbrev pub image_query : ImageQuery → QuerySaid
 image_query Header = ask_header
 image_query Notes = ask_notes
@@ -177,8 +177,8 @@ query_of (Symbol address) = ask_symbol address
 query_of (SymbolByBuild address) = ask_symbol_by_build address
 query_of (Line address) = ask_line address
 
--- what is asked where executables are chosen by build: the lines over memory that attach them by path do so by build, and a function
--- is looked up in the debug file too
+-- the query if executables are chosen by build: the lines over memory that attach
+-- them by path do so by build, and a function is looked up in the debug file too
 abbrev pub by_build : QuerySaid → QuerySaid
 by_build (ask_dump first length) = ask_by_build (ask_dump first length)
 by_build (ask_at address) = ask_by_build (ask_at address)

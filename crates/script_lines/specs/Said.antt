@@ -1,4 +1,4 @@
--- What a line of a script says.
+-- The meaning of a line of a script.
 use Rattle.std.specs.Prelude.{ℕ, ◌^◌, ◌-◌, Bool, true, false, nat_lt, nat_le, List, [], ◌∷◌, length, Option, None, Some, codes, if◌then◌else◌}
 use Rattle.std.specs.Str.{bytes_eq}
 use Rattle.retention.specs.declared.Policy.{Policy}
@@ -9,7 +9,7 @@ use Rattle.script_lines.specs.declared.keys.Keys.TheVariants.{Core, Retire}
 use Rattle.script_lines.specs.Queries.{QuerySaid, by_build, query_rows, query_in}
 use Rattle.script_lines.specs.Keys.{are_pairs, text_at, small_at, large_at, number_or_zero}
 
--- what a line tells of a process that dumped core: what it leaves out is empty or 0
+-- the description that a line gives of a process that dumped core: a key that the line leaves out is empty or 0
 pub record ProcessSaid : Type 0 where
   pub comm : List ℕ
   pub exe : List ℕ
@@ -23,7 +23,7 @@ pub record ProcessSaid : Type 0 where
   pub time : ℕ
   pub limit : ℕ
 
--- what a line asks for, or why it asks for nothing
+-- the request of a line, or why the line requests nothing
 pub data Said : Type 0 where
   -- nothing, and it has no reply
   silence : Said
@@ -58,7 +58,7 @@ pub data Said : Type 0 where
   -- this is asked of the image of the case of this number
   inspect_of : ℕ → QuerySaid → Said
 
--- what is said, if it is anything that is known
+-- the meaning, if the words are known
 abbrev pub known_or_bad : Option Said → Said
 known_or_bad None = bad_line
 known_or_bad (Some said) = said
@@ -94,7 +94,7 @@ exec_said (slot ∷ []) = None
 exec_said (slot ∷ name ∷ []) = begins (slot_of slot) (text_of name)
 exec_said (slot ∷ name ∷ more ∷ words) = None
 
--- what pairs tell of a process
+-- the description of a process by pairs
 abbrev pub process_in : List (List ℕ) → ProcessSaid
 process_in words = record {
   comm = text_at (codes "comm") words;
@@ -110,7 +110,7 @@ process_in words = record {
   limit = number_or_zero (large_at (codes "limit") words);
 }
 
--- what pairs tell of a process, if they are pairs that tell of one
+-- the description of a process by pairs, if they are pairs that describe one
 abbrev pub process_said : List (List ℕ) → Option ProcessSaid
 process_said words = if are_pairs Core words then Some (process_in words) else None
 
@@ -125,7 +125,7 @@ abbrev pub core_said : List (List ℕ) → Option Said
 core_said [] = None
 core_said (slot ∷ words) = begins_core (slot_of slot) (process_said words)
 
--- what follows the word of each command: `begin KIND ..`
+-- the words after the word of each command: `begin KIND ..`
 abbrev pub begin_said : List (List ℕ) → Option Said
 begin_said [] = None
 begin_said (kind ∷ words) =
@@ -170,7 +170,7 @@ abbrev pub short_label : Option (List ℕ) → Option (List ℕ)
 short_label None = None
 short_label (Some text) = if nat_le (length text) 64 then Some text else None
 
--- the label after the case: a text of at most 64 bytes; where there is none it is empty
+-- the label after the case: a text of at most 64 bytes; it is empty if the line gives no text
 abbrev pub label_text : List (List ℕ) → Option (List ℕ)
 label_text [] = Some []
 label_text (text ∷ []) = short_label (text_of text)
@@ -181,7 +181,7 @@ abbrev pub label_said : List (List ℕ) → Option Said
 label_said [] = None
 label_said (seq ∷ words) = labels (number_within 1 (2 ^ 32 - 1) seq) (label_text words)
 
--- what pairs say that an archive is to be brought down to
+-- the policy that pairs give
 abbrev pub policy_in : List (List ℕ) → Policy
 policy_in words = record {
   keep = large_at (codes "keep") words;
@@ -241,16 +241,16 @@ command_said command words =
     else (if bytes_eq command (codes "drop") then drops (slot_alone words)
     else case_words_said command words)))
 
--- what the words of a line say
+-- the meaning of the words of a line
 abbrev pub words_said : List (List ℕ) → Option Said
 words_said [] = None
 words_said (command ∷ words) = command_said command words
 
--- what a line says that has a reply and is not too long: it has no bytes but spaces and 0x21 to 0x7e
+-- the meaning of a line that has a reply and is not too long: it has no bytes but spaces and 0x21 to 0x7e
 abbrev pub short_line_said : List ℕ → Said
 short_line_said line = if is_plain_line line then known_or_bad (words_said (words_of line)) else bad_line
 
--- What a line says. A blank line and a comment have no reply, however long they are; any other line that is too long says only that.
+-- The meaning of a line. A blank line and a comment have no reply, however long they are; any other line that is too long means only that.
 abbrev pub said : List ℕ → Said
 said line =
     if is_blank_or_comment_line line then silence
@@ -276,7 +276,7 @@ raw_length count_free = 0
 raw_length upgrade_archive = 0
 raw_length (inspect_of seq query) = 0
 
--- The line asks for something that one line can do: it begins, feeds, ends and drops no stream, and is none that has no reply.
+-- The request of the line is complete in one line: it does not begin, feed, end or drop a stream, and it has a reply.
 abbrev pub is_question : Said → Bool
 is_question (delete_of seq) = true
 is_question (pin_of seq flag) = true
@@ -288,14 +288,14 @@ is_question upgrade_archive = true
 is_question (inspect_of seq query) = true
 is_question _ = false
 
--- The line shows what is in an archive, and changes nothing in it.
+-- The line only reads an archive, and changes nothing in it.
 abbrev pub only_looks : Said → Bool
 only_looks list_all_cases = true
 only_looks count_free = true
 only_looks (inspect_of seq query) = true
 only_looks _ = false
 
--- what is said where executables are chosen by build, and if they are
+-- the meaning of a line if executables are chosen by build, and the same by a flag for that choice
 abbrev pub said_by_build : Said → Said
 said_by_build (inspect_of seq query) = inspect_of seq (by_build query)
 said_by_build what = what

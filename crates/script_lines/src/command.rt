@@ -1,4 +1,4 @@
-//! What a line of a script says.
+//! The meaning of a line of a script.
 ghost use Rattle.std.specs.Prelude.{◌≡◌, ◌<◌, ◌≤◌, ℕ, List, length, option_map, is_some, IfSome};
 ghost use Rattle.script_words.specs.Words.{words_of};
 ghost use Rattle.script_words.specs.WordsLeft.{words_left};
@@ -16,7 +16,7 @@ use script_words::{
     Words, decode_text, is_blank_or_comment, is_plain, parse_part_length, parse_slot,
 };
 
-/// What a line asks for, or why it asks for nothing.
+/// The request of a line, or why the line requests nothing.
 #[derive(Drop)]
 pub enum Command<'a> {
     /// So many bytes more for a stream, which follow the line.
@@ -32,7 +32,7 @@ pub enum Command<'a> {
     Plain(Request<'a>),
 }
 
-/// What a line says that asks for nothing, or for a step of a stream, and that no bytes follow.
+/// A line that requests nothing, or a step of a stream, and that no bytes follow.
 #[derive(Drop)]
 pub enum Request<'a> {
     /// Nothing, and it has no reply.
@@ -52,7 +52,7 @@ pub enum Request<'a> {
     BeginCore {
         /// The slot of the stream, 0 to 7.
         slot: u8,
-        /// The words that tell of the process.
+        /// The words that describe the process.
         process: ProcessWords<'a>,
     },
     /// The stream becomes a case.
@@ -67,7 +67,7 @@ pub enum Request<'a> {
     },
 }
 
-/// What a line says, which a reader of lines has kept.
+/// The meaning of a line that a reader of lines has kept.
 pub fn parse_line(line: &KeptLine) -> Command<'_>
     requires { (text : List ℕ) × KeepsLine text line.now }
     ensures { (text : List ℕ) → KeepsLine text line.now → said_by result ≡ said text }
@@ -81,7 +81,7 @@ pub fn parse_line(line: &KeptLine) -> Command<'_>
     parse_short_line(line.text())
 }
 
-/// What a line says that is at hand whole, without its newline.
+/// The meaning of a line that is at hand whole, without its newline.
 pub fn parse_text(line: &[u8]) -> Command<'_>
     ensures { said_by result ≡ said line.now }
 {
@@ -94,7 +94,7 @@ pub fn parse_text(line: &[u8]) -> Command<'_>
     parse_short_line(line)
 }
 
-// What a line says that has a reply and is not too long.
+// The meaning of a line that has a reply and is not too long.
 fn parse_short_line(line: &[u8]) -> Command<'_>
     requires { length line.now ≤ 1024 }
     ensures { said_by result ≡ short_line_said line.now }
@@ -108,7 +108,7 @@ fn parse_short_line(line: &[u8]) -> Command<'_>
     }
 }
 
-// What the words of a line say.
+// The meaning of the words of a line.
 fn parse_words(words: Words<'_>) -> Option<Command<'_>>
     requires { AreWords (words_left words) }
     ensures { option_map said_by result ≡ words_said (words_left words.entry) }
@@ -132,7 +132,7 @@ fn parse_words(words: Words<'_>) -> Option<Command<'_>>
     }
 }
 
-// `begin`: the kind, and what it is of.
+// `begin`: the kind, and the words for that kind.
 fn parse_begin(words: Words<'_>) -> Option<Request<'_>>
     requires { AreWords (words_left words) }
     ensures { option_map asked_by result ≡ begin_said (words_left words.entry) }
@@ -175,7 +175,7 @@ fn parse_name(word: &[u8]) -> Option<NameWord>
     Some(NameWord { text })
 }
 
-// `begin core`: a slot and what is told of a process.
+// `begin core`: a slot and the description of a process.
 fn parse_core(words: Words<'_>) -> Option<Request<'_>>
     requires { AreWords (words_left words) }
     ensures { option_map asked_by result ≡ core_said (words_left words.entry) }
@@ -216,9 +216,9 @@ fn parse_slot_alone(words: Words<'_>) -> Option<u8>
     parse_slot(slot)
 }
 
-/// What a line asks, if it asks for something that one line can do: `delete`, `pin`, `unpin`, `label`, `retire`, `list`, `free`,
-/// `upgrade` and the lines that inspect do. A line that begins, feeds, ends or drops a stream doesn't, nor does one outside the
-/// grammar, or with no reply.
+/// The question of a line, if one line is a complete request: `delete`, `pin`, `unpin`, `label`, `retire`, `list`, `free`,
+/// `upgrade` and the lines that inspect are. A line that begins, feeds, ends or drops a stream is no question, and neither
+/// is a line outside the grammar, or with no reply.
 pub fn parse_question(line: &[u8]) -> Option<Question>
     ensures said { IfSome result (λ question. question_said question ≡ said line.now) }
     ensures asked { is_some result ≡ is_question (said line.now) }

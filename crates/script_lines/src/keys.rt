@@ -17,7 +17,7 @@ pub(crate) enum Keys {
     Retire,
 }
 
-// What the value of a key is.
+// The kind of value that a key has.
 #[derive(Clone, Copy)]
 pub(crate) enum ValueKind {
     // A text.
@@ -53,7 +53,7 @@ fn is_first_pair(keys: Keys, word: &[u8], behind: Words<'_>) -> bool
     is_good_value(value_kind(keys, key), value) && value_of(behind, key).is_none()
 }
 
-// What the value of a key is, if the line knows it.
+// The kind of value that a key has, if the line knows the key.
 fn value_kind(keys: Keys, key: &[u8]) -> Option<ValueKind>
     ensures { result ≡ value_kind keys key.now }
 {
@@ -63,7 +63,7 @@ fn value_kind(keys: Keys, key: &[u8]) -> Option<ValueKind>
     }
 }
 
-// What the value of a key of `begin core` is.
+// The kind of value that a key of `begin core` has.
 fn core_kind(key: &[u8]) -> Option<ValueKind>
     ensures { result ≡ core_kind key.now }
 {
@@ -101,7 +101,7 @@ fn is_large_key(key: &[u8]) -> bool
     key == b"time".as_slice() || key == b"limit".as_slice()
 }
 
-// What the value of a key of `retire` is.
+// The kind of value that a key of `retire` has.
 fn retire_kind(key: &[u8]) -> Option<ValueKind>
     ensures { result ≡ retire_kind key.now }
 {

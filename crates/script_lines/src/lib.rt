@@ -1,4 +1,4 @@
-//! What the lines of a script say.
+//! The meaning of the lines of a script.
 #![tactic(auto)]
 
 mod command;

@@ -3,7 +3,7 @@ ghost use Rattle.std.specs.Prelude.{◌<◌, length};
 
 use arrayvec::ArrayVec;
 
-/// A name that is the text of a word, and so is not empty.
+/// A name that is the text of a word, and thus not empty.
 #[derive(Drop)]
 pub struct NameWord {
     /// Its bytes: escapes are read.

@@ -1,4 +1,4 @@
-// What a line tells of a process that dumped core.
+// The description that a line gives of a process that dumped core.
 ghost use Rattle.std.specs.Prelude.{◌≡◌, option_map};
 ghost use Rattle.script_words.specs.WordsLeft.{words_left};
 ghost use Rattle.script_lines.specs.LineWords.{AreWords, AreWords-prop};
@@ -7,7 +7,7 @@ use crate::keys::{Keys, are_pairs, large_at, small_at, text_at};
 use arrayvec::ArrayVec;
 use script_words::Words;
 
-/// What a line tells of a process that dumped core: what the line leaves out is empty or 0.
+/// The description that a line gives of a process that dumped core: a key that the line leaves out is empty or 0.
 #[derive(Drop)]
 pub struct Process {
     /// The name of its command.
@@ -34,8 +34,8 @@ pub struct Process {
     pub limit: u64,
 }
 
-/// The words that tell of a process that dumped core: pairs of a key and a value. They are read when they are wanted, since all
-/// that they may tell takes some 3 KB.
+/// The words that describe a process that dumped core: pairs of a key and a value. They are read only when they are needed,
+/// since a full description takes some 3 KB.
 #[derive(Clone, Copy)]
 pub struct ProcessWords<'a> {
     words: Words<'a>,
@@ -46,7 +46,7 @@ impl<'a> ProcessWords<'a> {
     ghost use Rattle.script_lines.specs.Said.{process_said};
     ghost use Rattle.script_lines.specs.Commands.{process_of, process_told};
 
-    // The words, if they are pairs that tell of a process.
+    // The words, if they are pairs that describe a process.
     pub(crate) fn of(words: Words<'a>) -> Option<Self>
         requires { AreWords (words_left words) }
         ensures { option_map process_told result ≡ process_said (words_left words.entry) }
@@ -57,7 +57,7 @@ impl<'a> ProcessWords<'a> {
         Some(ProcessWords { words })
     }
 
-    /// What they tell.
+    /// The description that they give.
     pub fn read(&self) -> Process
         ensures { process_of result ≡ process_told self.now }
     {

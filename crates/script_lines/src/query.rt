@@ -1,4 +1,4 @@
-//! What a line asks an image.
+//! A line's query about an image.
 ghost use Rattle.std.specs.Prelude.{◌≡◌, option_map};
 ghost use Rattle.script_words.specs.WordsLeft.{words_left};
 ghost use Rattle.script_words.specs.Hex.{needle_of};
@@ -8,21 +8,21 @@ ghost use Rattle.script_lines.specs.Queries.{ask_dump, ask_frame, query_rows, me
 use crate::names::Needle;
 use script_words::{Words, decode_hex, parse_number, parse_number_within};
 
-/// What a line asks an image.
+/// A line's query about an image.
 #[derive(Drop)]
 pub enum Query {
-    /// What the image alone answers.
+    /// A query that the image alone answers.
     Image(ImageQuery),
-    /// What a core and the executables that its process had mapped answer.
+    /// A query that a core answers, with the executables that its process had mapped.
     Memory(MemoryQuery),
-    /// The same, where the executables are attached of the builds that were mapped, not those under the paths.
+    /// The same, if the executables of the builds that were mapped are attached, not those under the paths.
     ByBuild(MemoryQuery),
     /// The function of an executable that covers an address.
     Symbol {
         /// The address.
         address: u64,
     },
-    /// The same, where the debug file of the executable's build is asked if no function of its own covers the address.
+    /// The same, but the debug file of the executable's build is searched if no function of its own covers the address.
     SymbolByBuild {
         /// The address.
         address: u64,
@@ -35,7 +35,7 @@ pub enum Query {
 }
 
 impl Query {
-    /// The same query where executables are chosen by build: `dump`, `at`, `find`, `strings` and `bt` attach those of the builds that
+    /// The same query if executables are chosen by build: `dump`, `at`, `find`, `strings` and `bt` attach those of the builds that
     /// were mapped, and `at`, `bt` and `symbol` name functions by their debug files too. Any other query chooses so already, or reads no executable.
     pub(crate) fn by_build(self) -> Query
         ensures { query_of result ≡ by_build (query_of self) }
@@ -61,7 +61,7 @@ fn memory_by_build(query: MemoryQuery) -> Query
     }
 }
 
-/// What an image alone answers.
+/// A query that an image alone answers.
 #[derive(Drop)]
 pub enum ImageQuery {
     /// The header of the ELF file, and its segments.
@@ -83,11 +83,11 @@ pub enum ImageQuery {
     AuxiliaryVector,
     /// The files that were mapped into its memory.
     Files,
-    /// The stretches of its memory, and what each holds.
+    /// The stretches of its memory, and the content of each.
     Maps,
 }
 
-/// What is asked of a core's memory, which the executables that its process had mapped are a part of.
+/// A query about a core's memory, to which the executables that its process had mapped belong.
 #[derive(Drop)]
 pub enum MemoryQuery {
     /// Bytes of it.
@@ -97,12 +97,12 @@ pub enum MemoryQuery {
         /// How many bytes.
         length: u64,
     },
-    /// What is at an address of it.
+    /// The content of its memory at an address.
     At {
         /// The address.
         address: u64,
     },
-    /// Where bytes occur in it.
+    /// The places where bytes occur in it.
     Find {
         /// The bytes.
         needle: Needle,
@@ -138,7 +138,7 @@ pub enum MemoryQuery {
     Builds(BuildQuery),
 }
 
-/// What is asked of the builds of the files that were mapped into a core's memory.
+/// A query about the builds of the files that were mapped into a core's memory.
 #[derive(Clone, Copy, Debug)]
 pub enum BuildQuery {
     /// The build ID of each, and that of the executable that is stored for it.
@@ -149,7 +149,7 @@ pub enum BuildQuery {
     Wanted,
 }
 
-// The table of the lines that inspect: the command of each, and what may follow the number of the case.
+// The table of the lines that inspect: the command of each, and the words that may follow the number of the case.
 pub(crate) fn parse_query(command: &[u8], words: Words<'_>) -> Option<Query>
     ensures { option_map query_of result ≡ query_in query_rows command.now (words_left words.entry) }
 {

@@ -1,4 +1,4 @@
-//! What one line asks of an archive.
+//! The question of one line about an archive.
 ghost use Rattle.std.specs.Prelude.{◌≡◌, ◌≤◌, length, option_map};
 ghost use Rattle.script_words.specs.WordsLeft.{words_left};
 ghost use Rattle.script_words.specs.Text.{text_of};
@@ -12,14 +12,14 @@ use arrayvec::ArrayVec;
 use retention::Policy;
 use script_words::{Words, decode_text, parse_case_number};
 
-/// What a line asks of an archive. One line does it: it begins, feeds, ends and drops no stream.
+/// A line's question about an archive. One line does it: it does not begin, feed, end or drop a stream.
 #[derive(Drop)]
 pub enum Question {
     /// Something is asked of the image of a case.
     Inspect {
         /// The number of the case, from 1 on.
         seq: u32,
-        /// What is asked.
+        /// The query.
         query: Query,
     },
     /// Anything else is a call of the archive.
@@ -45,12 +45,12 @@ pub enum Call {
     Label {
         /// The number of the case, from 1 on.
         seq: u32,
-        /// The label's bytes, at most 64: escapes are read. Where the line gives no text there are none.
+        /// The label's bytes, at most 64: escapes are read. It is empty if the line gives no text.
         label: ArrayVec<u8, 64>,
     },
     /// The cases that the rule drops are dropped.
     Retire {
-        /// What the archive is to be brought down to.
+        /// The policy whose limits the archive is brought down to.
         policy: Policy,
     },
     /// The cases.
@@ -71,9 +71,9 @@ impl Call {
 }
 
 impl Question {
-    /// The same question where executables are chosen by build, if they are: then `dump`, `at`, `find`, `strings` and `bt` attach those of
-    /// the builds that were mapped, not those that are stored under the paths, and `at`, `bt` and `symbol` name functions by their debug
-    /// files too. Any other question stays.
+    /// The same question if executables are chosen by build, and by whether they are: then `dump`, `at`, `find`, `strings` and `bt` attach
+    /// those of the builds that were mapped, not those that are stored under the paths, and `at`, `bt` and `symbol` name functions by
+    /// their debug files too. Any other question stays.
     pub fn choosing(self, by_build: bool) -> Question
         ensures { question_said result ≡ said_choosing by_build (question_said self) }
     {
@@ -86,8 +86,8 @@ impl Question {
         }
     }
 
-    /// Whether the question only looks at an archive: `list`, `free` and the lines that inspect do, whatever they are answered. Any
-    /// other may change what is in it.
+    /// Whether the question only reads an archive: `list`, `free` and the lines that inspect do, whatever the answer is. Any other
+    /// may change the archive's content.
     pub fn only_looks(&self) -> bool
         ensures { result ≡ only_looks (question_said self.now) }
     {
@@ -98,7 +98,7 @@ impl Question {
     }
 }
 
-// What the words of a line on cases, or on the archive as a whole, say.
+// The meaning of the words of a line about cases, or about the archive as a whole.
 pub(crate) fn parse_case_words(command: &[u8], words: Words<'_>) -> Option<Question>
     requires { AreWords (words_left words) }
     ensures { option_map question_said result ≡ case_words_said command.now (words_left words.entry) }
@@ -235,7 +235,7 @@ fn parse_upgrade(words: Words<'_>) -> Option<Call>
     Some(Call::Upgrade)
 }
 
-// A line that inspects: the number of a case, and what is asked of its image.
+// A line that inspects: the number of a case, and the query about its image.
 fn parse_inspect(command: &[u8], words: Words<'_>) -> Option<Question>
     ensures { option_map question_said result ≡ inspect_said command.now (words_left words.entry) }
 {

@@ -1,4 +1,4 @@
 pub mod LineLemmas
 pub mod ReadingLemmas
 pub mod EndingLemmas
-pub mod TellingLemmas
+pub mod PrintingLemmas

@@ -17,7 +17,7 @@ TakesLine front old new kept false =
     (piece : List ℕ) × IsLine piece × KeepsLine (front ++ piece) kept
     × ((a : Option (List ℕ)) → Gives a a old new piece)
 
--- the line continues by a piece, to its end or to what was read now
+-- the line continues by a piece, up to its end or to the end of the bytes that were read now
 abbrev pub GoesOn : List ℕ → Option (List ℕ) → Option (List ℕ) → ScriptBuffer → ScriptBuffer → KeptLine
     → Result (Option LineEnding) ReadStop → Type 0
 GoesOn front before after old new kept (Ok None) =

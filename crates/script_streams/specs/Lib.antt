@@ -1,7 +1,7 @@
 pub mod Lines
 pub mod Reading
 pub mod GoingOn
-pub mod Telling
-pub mod TellLaws
+pub mod Printing
+pub mod PrintLaws
 pub mod Writing
 pub mod Replies

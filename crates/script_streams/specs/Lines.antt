@@ -1,4 +1,4 @@
--- A line of a script, and what is kept of a line of any length.
+-- A line of a script, and the part that is kept of a line of any length.
 use Rattle.std.specs.Prelude.{◌≡◌, ◌≢◌, ℕ, ◌<◌, List, length}
 use Rattle.std.specs.List.{AllByRecursion}
 use Rattle.script_words.specs.Words.{first_visible_of}
@@ -8,7 +8,7 @@ use Rattle.script_streams.specs.declared.kept_line.KeptLine.{KeptLine}
 abbrev pub IsLine : List ℕ → Type 0
 IsLine bytes = AllByRecursion (λ c. c ≢ 10) bytes
 
--- what is kept tells a line of at most 1,024 bytes from a longer one, and of each its first byte that is no space
+-- the kept part shows whether the line has at most 1,024 bytes, and its first byte that is no space
 pub record KeepsLine (line : List ℕ) (kept : KeptLine) : Type 0 where
   pub whole : length kept.bytes.items < 1025 → line ≡ kept.bytes.items
   pub long : length kept.bytes.items ≡ 1025 → 1024 < length line

@@ -1,4 +1,4 @@
--- What a script's reader has given of what it held and read.
+-- The bytes that a script's reader has given of those that it held and read.
 use Rattle.std.specs.Prelude.{◌≡◌, ℕ, ◌+◌, ◌-◌, ◌*◌, ◌^◌, ◌<◌, ◌≤◌, List, [], ◌∷◌, ◌++◌, length, take, drop, Option, Result, Ok, Err}
 use Rattle.std.specs.Io.KnownBytes.{Consumes, IsAtEnd}
 use Rattle.diagnostics.specs.Counts.{HasRisen}
@@ -34,8 +34,8 @@ pub record Gives (before after : Option (List ℕ)) (old new : ScriptBuffer) (gi
 abbrev pub IsUsedUp : Option (List ℕ) → ScriptBuffer → Type 0
 IsUsedUp after buffer = IsAtEnd after × (held_bytes buffer ≡ [])
 
--- the next line: all before the next newline, or at the end of the input all that is left. Where reading stopped
--- the bytes since the last newline are gone, and no newline is among them.
+-- the next line: all before the next newline, or at the end of the input all that is left. If reading stopped, the bytes since the last
+-- newline are gone, and no newline is among them.
 abbrev pub GivesLine : Option (List ℕ) → Option (List ℕ) → ScriptBuffer → ScriptBuffer → KeptLine
     → Result LineEnding ReadStop → Type 0
 GivesLine before after old new kept (Ok Newline) =

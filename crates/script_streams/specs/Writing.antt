@@ -10,7 +10,7 @@ Writes before after failures failures' text (Ok done) = Appends before after tex
 Writes before after failures failures' text (Err fault) =
     (out : List ℕ) × (rest : List ℕ) × (out ++ rest ≡ text) × Appends before after out × HasRisen failures failures'
 
--- the same, where nothing is written if a write failed before, and the answer says whether one has failed by now
+-- the same, but nothing is written if a write failed before, and the answer says whether one has failed by now
 abbrev pub PassesOn : Bool → Option (List ℕ) → Option (List ℕ) → ℕ → ℕ → List ℕ → Bool → Type 0
 PassesOn true before after failures failures' text failed = (failed ≡ true) × (after ≡ before) × (failures' ≡ failures)
 PassesOn false before after failures failures' text false = Appends before after text × (failures' ≡ failures)

@@ -1,4 +1,4 @@
-//! What is kept of a line.
+//! The part of a line that is kept.
 ghost use Rattle.std.specs.Prelude.{◌≡◌, ℕ, ◌+◌, ◌<◌, ◌≤◌, List, ◌++◌, length};
 ghost use Rattle.arrayvec.specs.ArrayVec.{array_vec_len};
 ghost use Rattle.script_words.specs.Words.{first_visible_of};
@@ -6,8 +6,9 @@ ghost use Rattle.script_words.specs.Words.{first_visible_of};
 use arrayvec::ArrayVec;
 use script_words::first_visible;
 
-/// What is kept of a line of any length: all of it, up to 1,024 bytes; of a longer one that it is longer; and the first
-/// byte that is no space, which shows whether the line is blank or a comment, however long it is. It is of a fixed size.
+/// The part that is kept of a line of any length: all of it, up to 1,024 bytes; of a
+/// longer one the fact that it is longer; and the first byte that is no space, which
+/// shows whether the line is blank or a comment, however long it is. It has a fixed size.
 #[derive(Drop)]
 pub struct KeptLine {
     bytes: ArrayVec<u8, 1025>,

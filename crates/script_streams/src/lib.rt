@@ -9,8 +9,8 @@ mod reply;
 mod streams;
 
 pub use kept_line::KeptLine;
-pub use laws::{lines_are_cut_one_way, reading_adds_up, telling_adds_up};
+pub use laws::{lines_are_cut_one_way, printing_adds_up, reading_adds_up};
 pub use reader::{LineEnding, ReadStop, ScriptBuffer};
-pub use replies::{tell_no, tell_ok};
+pub use replies::{print_no, print_ok};
 pub use reply::{Reply, write_whole};
 pub use streams::{Input, Output, ReadInput, StreamFault, WriteOutput};

@@ -18,7 +18,7 @@ pub enum ReadStop {
     TooManyReads,
 }
 
-/// What ended a line.
+/// The end of a line.
 #[derive(Clone, Copy, PartialEq, Eq, Debug)]
 pub enum LineEnding {
     /// A newline, which is not of the line.
@@ -29,7 +29,7 @@ pub enum LineEnding {
     NothingLeft,
 }
 
-/// What was read of a script's input and not used yet. It is of a fixed size.
+/// The bytes of a script's input that were read and not used yet. It has a fixed size.
 #[derive(Drop)]
 pub struct ScriptBuffer {
     bytes: [u8; 65536],
@@ -50,7 +50,7 @@ impl ScriptBuffer {
     ghost use Rattle.std.specs.Io.KnownBytes.{IsAtEnd};
     ghost use Rattle.script_streams.specs.Reading.{held_bytes, reads_made, steps_left, Gives, GivesLine, GivesRaw, Stops};
     ghost use Rattle.script_streams.specs.GoingOn.{TakesLine, GoesOn};
-    ghost use Rattle.script_streams.specs.Telling.{Tells, sink, has_failed, held_text};
+    ghost use Rattle.script_streams.specs.Printing.{Prints, sink, has_failed, held_text};
 
     /// A buffer that holds nothing, before the first read.
     pub fn new() -> Self
@@ -96,13 +96,14 @@ impl ScriptBuffer {
         self.start += count;
     }
 
-    /// Reads the next line: all before the next newline, or all that is left where the input ends before one.
-    /// `line` then keeps it, whatever it kept before. What the output was told is written before the input is asked for more.
+    /// Reads the next line: the bytes up to the next newline, or all bytes that are left
+    /// if the input ends before one. `line` then keeps it and drops its old content. Text
+    /// that was printed is written to the output before the input is asked for more.
     ///
     /// # Errors
     ///
-    /// `ReadFailed` where the input failed in this call, and `TooManyReads` where more bytes are wanted and 2^40 reads
-    /// were made, each of which gave a byte. In both cases the bytes since the last newline are lost.
+    /// `ReadFailed` if the input failed in this call, and `TooManyReads` if more bytes are wanted and 2^40 reads were
+    /// made, each of which gave a byte. In both cases the bytes since the last newline are lost.
     pub fn next_line<I: Input, O: Output>(
         &mut self,
         input: &mut I,
@@ -111,7 +112,7 @@ impl ScriptBuffer {
     ) -> Result<LineEnding, ReadStop>
         ensures gives { GivesLine (I.remaining input.old) (I.remaining input.new) self.old self.new line.new result }
         ensures stops { Stops (I.failures input.old) (I.failures input.new) self.new result }
-        ensures tells { Tells (sink O.Output reply.old) (sink O.Output reply.new) [] }
+        ensures states { Prints (sink O.Output reply.old) (sink O.Output reply.new) [] }
         ensures failed { has_failed reply.old ≡ true → has_failed reply.new ≡ true }
     {
         line.clear();
@@ -122,8 +123,8 @@ impl ScriptBuffer {
         self.finish_line(input, line, reply)
     }
 
-    /// Reads the next bytes as they are, to the front of `into`, and answers how many: as many as are there, and at
-    /// least one unless the input has ended. What the output was told is written before the input is asked for more.
+    /// Reads the next bytes as they are, to the front of `into`, and returns how many: as many as are there, and at least
+    /// one unless the input has ended. Text that was printed is written to the output before the input is asked for more.
     ///
     /// # Errors
     ///
@@ -137,7 +138,7 @@ impl ScriptBuffer {
         requires { 0 < length into.old }
         ensures gives { GivesRaw (I.remaining input.old) (I.remaining input.new) self.old self.new into.new result }
         ensures stops { Stops (I.failures input.old) (I.failures input.new) self.new result }
-        ensures tells { Tells (sink O.Output reply.old) (sink O.Output reply.new) [] }
+        ensures states { Prints (sink O.Output reply.old) (sink O.Output reply.new) [] }
     {
         self.hold_some(input, reply)?;
         Ok(self.copy_held(into))
@@ -190,7 +191,7 @@ impl ScriptBuffer {
         }
     }
 
-    // Moves what is held into a line, up to the next newline, which is dropped. Answers whether there was one.
+    // Moves the held bytes into a line, up to the next newline, which is dropped. Returns whether there was one.
     fn take_line(&mut self, line: &mut KeptLine) -> bool
         ensures gives { (front : List ℕ) → KeepsLine front line.old → TakesLine front self.old self.new line.new result }
         ensures emptied { OnFalse result (held_bytes self.new ≡ []) }
@@ -212,7 +213,7 @@ impl ScriptBuffer {
         }
     }
 
-    // Copies what is held to the front of a slice, as much of it as fits there, and answers how much.
+    // Copies the held bytes to the front of a slice, as many as fit there, and returns how many.
     fn copy_held(&mut self, into: &mut [u8]) -> usize
         ensures count { result ≡ min (length (held_bytes self.old)) (length into.old) }
         ensures bytes { held_bytes self.old ≡ take result into.new ++ held_bytes self.new }
@@ -236,7 +237,7 @@ impl ScriptBuffer {
         ensures end { OnOk result (held_bytes self.new ≡ [] → IsAtEnd (I.remaining input.new)) }
         ensures err { OnErr result (held_bytes self.new ≡ []) }
         ensures stops { Stops (I.failures input.old) (I.failures input.new) self.new result }
-        ensures tells { Tells (sink O.Output reply.old) (sink O.Output reply.new) [] }
+        ensures states { Prints (sink O.Output reply.old) (sink O.Output reply.new) [] }
     {
         if self.held().is_empty() {
             reply.flush();

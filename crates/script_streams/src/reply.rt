@@ -15,18 +15,18 @@ use script_words::{
 // How many bytes are held at most.
 const MOST_HELD: usize = 8192;
 
-// How many bytes are told as digits at a time.
+// How many bytes are printed as digits at a time.
 const HEX_ROW: usize = 16;
 
-/// The text of replies on its way to an output, which it holds while it is told. Text waits in a buffer of a fixed size.
-/// Once a write has failed no more is written, and `finish` says so: no caller has to look at each write.
+/// The text of replies on its way to an output, which is borrowed while text is printed. Text waits in a buffer of a
+/// fixed size. Once a write has failed no more is written, and `finish` reports it: no caller needs to check each write.
 #[derive(Drop)]
 pub struct Reply<'a, O: Output> {
     output: &'a mut O,
     unwritten: Unwritten,
 }
 
-// Text that the output was told and has not taken yet, and whether a write has failed.
+// Printed text that the output has not taken yet, and whether a write has failed.
 #[derive(Drop)]
 struct Unwritten {
     held: ArrayVec<u8, 8192>,
@@ -46,9 +46,9 @@ impl Unwritten {
 
 impl<'a, O: Output> Reply<'a, O> {
     ghost use Rattle.arrayvec.specs.ArrayVec.{array_vec_len};
-    ghost use Rattle.script_streams.specs.Telling.{Told, Tells, IsDelivered, has_failed, held_text, sink};
+    ghost use Rattle.script_streams.specs.Printing.{Told, Prints, IsDelivered, has_failed, held_text, sink};
 
-    /// The reply to go to this output, which was told nothing yet.
+    /// The reply to go to this output. Nothing was printed yet.
     pub fn new(output: &'a mut O) -> Self
         ensures told { Told (O.taken output.old) (O.failures output.old) output.entry.ghost_name (sink O.Output result) [] }
         ensures unfailed { has_failed result ≡ false }
@@ -62,9 +62,9 @@ impl<'a, O: Output> Reply<'a, O> {
         }
     }
 
-    /// Tells a text as it is.
-    pub fn tell(&mut self, text: &[u8])
-        ensures { Tells (sink O.Output self.old) (sink O.Output self.new) text.now }
+    /// Prints a text as it is.
+    pub fn print(&mut self, text: &[u8])
+        ensures { Prints (sink O.Output self.old) (sink O.Output self.new) text.now }
     {
         if text.len() <= self.unwritten.held.remaining_capacity() {
             self.hold(text);
@@ -78,77 +78,77 @@ impl<'a, O: Output> Reply<'a, O> {
         }
     }
 
-    /// Tells how a text prints: bytes outside 0x21 to 0x7e and backslashes as `\xHH`, the empty text as `-`, and the text
-    /// `-` as `\x2d`.
-    pub fn tell_text(&mut self, text: &[u8])
-        ensures { Tells (sink O.Output self.old) (sink O.Output self.new) (shown text.now) }
+    /// Prints a text in its printable form: bytes outside 0x21 to 0x7e and backslashes as `\xHH`, the empty text as `-`,
+    /// and the text `-` as `\x2d`.
+    pub fn print_text(&mut self, text: &[u8])
+        ensures { Prints (sink O.Output self.old) (sink O.Output self.new) (shown text.now) }
     {
         match text {
-            [] => self.tell(b"-"),
-            [b'-'] => self.tell(b"\\x2d"),
-            _ => self.tell_bytes(text),
+            [] => self.print(b"-"),
+            [b'-'] => self.print(b"\\x2d"),
+            _ => self.print_bytes(text),
         }
     }
 
-    /// Tells how each byte of a text prints, one after the other. So a long text can be told in pieces.
-    pub fn tell_bytes(&mut self, text: &[u8])
-        ensures { Tells (sink O.Output self.old) (sink O.Output self.new) (flat_map shown_byte text.now) }
+    /// Prints the printable form of each byte of a text, one after the other. So a long text can be printed in pieces.
+    pub fn print_bytes(&mut self, text: &[u8])
+        ensures { Prints (sink O.Output self.old) (sink O.Output self.new) (flat_map shown_byte text.now) }
     {
         let mut rest = text;
         while !rest.is_empty() {
-            let count = self.tell_front(rest);
+            let count = self.print_front(rest);
             rest = rest.split_at(count).1;
         }
     }
 
-    // Tells how the front of a text prints: the bytes that print as themselves as one slice, or else the first byte. Says how
-    // many bytes that are.
-    fn tell_front(&mut self, text: &[u8]) -> usize
+    // Prints the printable form of the front of a text: the bytes that print as themselves as one slice, or else the first
+    // byte. Returns how many bytes that are.
+    fn print_front(&mut self, text: &[u8]) -> usize
         requires { 0 < length text.now }
         ensures some { 0 < result }
         ensures within { result ≤ length text.now }
-        ensures tells { Tells (sink O.Output self.old) (sink O.Output self.new) (flat_map shown_byte (take result text.now)) }
+        ensures states { Prints (sink O.Output self.old) (sink O.Output self.new) (flat_map shown_byte (take result text.now)) }
     {
         let count = plain_front(text);
         if count > 0 {
-            self.tell(&text[..count]);
+            self.print(&text[..count]);
             return count;
         }
-        self.tell(print_byte(text[0]).as_slice());
+        self.print(print_byte(text[0]).as_slice());
         1
     }
 
-    /// Tells bytes as pairs of hexadecimal digits, with nothing between them.
-    pub fn tell_hex(&mut self, bytes: &[u8])
-        ensures { Tells (sink O.Output self.old) (sink O.Output self.new) (hex_of bytes.now) }
+    /// Prints bytes as pairs of hexadecimal digits, with nothing between them.
+    pub fn print_hex(&mut self, bytes: &[u8])
+        ensures { Prints (sink O.Output self.old) (sink O.Output self.new) (hex_of bytes.now) }
     {
         let mut rest = bytes;
         while !rest.is_empty() {
             let (row, left) = rest.split_at(rest.len().min(HEX_ROW));
-            self.tell(print_hex_row(row).as_slice());
+            self.print(print_hex_row(row).as_slice());
             rest = left;
         }
     }
 
-    /// Tells a number in decimal.
-    pub fn tell_decimal(&mut self, number: u128)
-        ensures { Tells (sink O.Output self.old) (sink O.Output self.new) (decimal number) }
+    /// Prints a number in decimal.
+    pub fn print_decimal(&mut self, number: u128)
+        ensures { Prints (sink O.Output self.old) (sink O.Output self.new) (decimal number) }
     {
-        self.tell(print_decimal(number).as_slice());
+        self.print(print_decimal(number).as_slice());
     }
 
-    /// Tells a signed number in decimal, with `-` before a negative one.
-    pub fn tell_signed(&mut self, number: i64)
-        ensures { Tells (sink O.Output self.old) (sink O.Output self.new) (signed_decimal number) }
+    /// Prints a signed number in decimal, with `-` before a negative one.
+    pub fn print_signed(&mut self, number: i64)
+        ensures { Prints (sink O.Output self.old) (sink O.Output self.new) (signed_decimal number) }
     {
-        self.tell(print_signed(number).as_slice());
+        self.print(print_signed(number).as_slice());
     }
 
-    /// Tells a number as `0x` and its hexadecimal digits.
-    pub fn tell_hexadecimal(&mut self, number: u128)
-        ensures { Tells (sink O.Output self.old) (sink O.Output self.new) (hexadecimal number) }
+    /// Prints a number as `0x` and its hexadecimal digits.
+    pub fn print_hexadecimal(&mut self, number: u128)
+        ensures { Prints (sink O.Output self.old) (sink O.Output self.new) (hexadecimal number) }
     {
-        self.tell(print_hexadecimal(number).as_slice());
+        self.print(print_hexadecimal(number).as_slice());
     }
 
     /// Whether a write has failed: then nothing more is written.
@@ -159,13 +159,13 @@ impl<'a, O: Output> Reply<'a, O> {
         self.unwritten.has_failed()
     }
 
-    /// Writes what was told and is not written yet.
+    /// Writes the printed text that is not written yet.
     ///
     /// # Errors
     ///
-    /// `StreamFault` where a write has failed, in this call or before. More may be told then, and none of it is written.
+    /// `StreamFault` if a write has failed, in this call or before. More may be printed then, and none of it is written.
     pub fn finish(&mut self) -> Result<(), StreamFault>
-        ensures tells { Tells (sink O.Output self.old) (sink O.Output self.new) [] }
+        ensures states { Prints (sink O.Output self.old) (sink O.Output self.new) [] }
         ensures delivered { (start : Option (List ℕ)) (count name : ℕ) (told : List ℕ)
             → Told start count name (sink O.Output self.old) told
             → IsDelivered start count (O.taken self.new.output.now) (O.failures self.new.output.now) told result }
@@ -183,14 +183,14 @@ impl<'a, O: Output> Reply<'a, O> {
     // Holds a text, for which there is room.
     fn hold(&mut self, text: &[u8])
         requires { length (held_text self.old) + length text.now ≤ 8192 }
-        ensures { Tells (sink O.Output self.old) (sink O.Output self.new) text.now }
+        ensures { Prints (sink O.Output self.old) (sink O.Output self.new) text.now }
     {
         let _ = self.unwritten.held.try_extend_from_slice(text);
     }
 
-    // Writes what is held.
+    // Writes the held bytes.
     pub(crate) fn flush(&mut self)
-        ensures tells { Tells (sink O.Output self.old) (sink O.Output self.new) [] }
+        ensures states { Prints (sink O.Output self.old) (sink O.Output self.new) [] }
         ensures emptied { held_text self.new ≡ [] }
         ensures failed { has_failed self.old ≡ true → has_failed self.new ≡ true }
         ensures same { self.new.output.ghost_name ≡ self.old.output.ghost_name }
@@ -203,10 +203,10 @@ impl<'a, O: Output> Reply<'a, O> {
         self.unwritten.held.clear();
     }
 
-    // Writes a text, where nothing is held.
+    // Writes a text, if nothing is held.
     fn write_behind(&mut self, text: &[u8])
         requires { held_text self.old ≡ [] }
-        ensures { Tells (sink O.Output self.old) (sink O.Output self.new) text.now }
+        ensures { Prints (sink O.Output self.old) (sink O.Output self.new) text.now }
     {
         self.unwritten.failed = pass_on(self.unwritten.failed, self.output, text);
     }
@@ -230,7 +230,7 @@ fn pass_on<O: Output>(failed: bool, output: &mut O, text: &[u8]) -> bool
 ///
 /// # Errors
 ///
-/// `StreamFault` where a write failed: the output has taken a front of the text.
+/// `StreamFault` if a write failed: the output has taken a front of the text.
 pub fn write_whole<O: Output>(output: &mut O, text: &[u8]) -> Result<(), StreamFault>
     ensures { Writes (O.taken output.old) (O.taken output.new)
         (O.failures output.old) (O.failures output.new) text.now result }

@@ -1,4 +1,4 @@
-//! Where a script comes from, and where replies go.
+//! The source of a script, and the destination of replies.
 ghost use Rattle.std.specs.Prelude.{◌≡◌, ℕ, ◌<◌, ◌≤◌, List, Option, None, length, IfOk, OnOk, OnErr, is_some, nat_lt};
 ghost use Rattle.std.specs.Io.KnownBytes.{ReadConsumes, WriteAppends};
 ghost use Rattle.diagnostics.specs.Counts.{HasRisen};
@@ -14,7 +14,7 @@ pub struct StreamFault;
 
 /// Gives a script's bytes, piece by piece.
 pub trait Input {
-    // The bytes that are still to come, where they are known.
+    // The bytes that are still to come, if they are known.
     ghost remaining: { Self → Option (List ℕ) };
 
     // How many calls have failed.
@@ -31,7 +31,7 @@ pub trait Input {
 
 /// Takes the text of replies.
 pub trait Output {
-    // The bytes that it has taken, where they are known.
+    // The bytes that it has taken, if they are known.
     ghost taken: { Self → Option (List ℕ) };
 
     // How many calls have failed.
@@ -54,7 +54,7 @@ pub struct ReadInput<R> {
 }
 
 impl<R: Read> ReadInput<R> {
-    /// The input of a reader, from where it is. No failure is counted yet.
+    /// The input of a reader, from its present place on. No failure is counted yet.
     pub fn new(reader: R) -> Self
         ensures remaining { ⟦<ReadInput<R> as Input>⟧.remaining result ≡ R.remaining reader }
         ensures failures { ⟦<ReadInput<R> as Input>⟧.failures result ≡ 0 }
@@ -82,7 +82,7 @@ impl<R: Read> Input for ReadInput<R> {
     }
 }
 
-/// The bytes that one of std's writers takes. Each `Err`, of any kind, is a failure, and so is a write that takes nothing.
+/// The bytes that one of std's writers takes. Each `Err`, of any kind, is a failure, and so is a write that takes no byte.
 #[derive(Drop)]
 pub struct WriteOutput<W> {
     writer: W,
@@ -93,7 +93,7 @@ pub struct WriteOutput<W> {
 }
 
 impl<W: Write> WriteOutput<W> {
-    /// The output to a writer, after what it holds already. No failure is counted yet.
+    /// The output to a writer, after the bytes that it holds already. No failure is counted yet.
     pub fn new(writer: W) -> Self
         ensures taken { ⟦<WriteOutput<W> as Output>⟧.taken result ≡ W.contents writer }
         ensures failures { ⟦<WriteOutput<W> as Output>⟧.failures result ≡ 0 }

@@ -20,6 +20,6 @@ bytes_of_hex (high ∷ low ∷ digits) =
     if is_digit high 16 && is_digit low 16 then with_byte (16 * digit_value high + digit_value low) (bytes_of_hex digits)
     else None
 
--- what is looked for in a memory: 1 to 64 bytes
+-- the bytes to search a memory for: 1 to 64 bytes
 abbrev pub needle_of : List ℕ → Option (List ℕ)
 needle_of word = if nat_le 2 (length word) && nat_le (length word) 128 then bytes_of_hex word else None

@@ -6,7 +6,7 @@ abbrev pub with_key_byte : ℕ → Option (List ℕ × List ℕ) → Option (Lis
 with_key_byte c None = None
 with_key_byte c (Some pair) = Some (c ∷ pair.0, pair.1)
 
--- what is before the first `=` of a word, and what is after it
+-- the bytes before the first `=` of a word, and those after it
 abbrev pub pair_of : List ℕ → Option (List ℕ × List ℕ)
 pair_of [] = None
 pair_of (c ∷ cs) = if c == 61 then Some ([], cs) else with_key_byte c (pair_of cs)

@@ -16,7 +16,7 @@ escape_of (x ∷ high ∷ low ∷ rest) =
     if x == 120 && is_digit high 16 && is_digit low 16 then Some (16 * digit_value high + digit_value low)
     else None
 
--- what follows an escape, if there is one
+-- the text after an escape, if there is an escape
 abbrev pub after_escape : Option ℕ → Option (List ℕ) → Option (List ℕ)
 after_escape None text = None
 after_escape (Some c) text = with_byte c text

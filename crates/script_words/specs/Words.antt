@@ -1,4 +1,4 @@
--- The words of a script line: what is between its spaces.
+-- The words of a script line: the bytes between its spaces.
 use Rattle.std.specs.Prelude.{ℕ, Bool, true, false, ◌==◌, ◌&&◌, nat_le, List, [], ◌∷◌, Option, None, Some, filter, if◌then◌else◌}
 use Rattle.std.specs.List.{list_all}
 
@@ -11,7 +11,7 @@ abbrev pub with_first : ℕ → List (List ℕ) → List (List ℕ)
 with_first c [] = (c ∷ []) ∷ []
 with_first c (piece ∷ pieces) = (c ∷ piece) ∷ pieces
 
--- what is before, between and after the spaces of a line: one piece more than there are spaces
+-- the pieces before, between and after the spaces of a line: one more than there are spaces
 abbrev pub pieces_of : List ℕ → List (List ℕ)
 pieces_of [] = [] ∷ []
 pieces_of (c ∷ cs) = if is_space c then [] ∷ pieces_of cs else with_first c (pieces_of cs)

@@ -1,4 +1,4 @@
--- What callers see of the iterator over a line's words.
+-- The iterator over a line's words as callers see it.
 use Rattle.std.specs.Prelude.{ℕ, List}
 use Rattle.std.specs.Borrow.{Bor}
 use Rattle.script_words.specs.declared.line.Words.{Words}

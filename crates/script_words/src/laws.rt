@@ -1,4 +1,4 @@
-//! What is printed is read again.
+//! Printed texts are read back.
 ghost use Rattle.std.specs.Prelude.{◌≡◌, ◌<◌, ◌^◌, ℕ, List, [], Some, length, All, decimal};
 ghost use Rattle.script_words.specs.Number.{number_of};
 ghost use Rattle.script_words.specs.Hex.{hex_of, bytes_of_hex};

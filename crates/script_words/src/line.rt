@@ -38,7 +38,7 @@ fn without_spaces(line: &[u8]) -> &[u8]
     line.split_at(start).1
 }
 
-// The first word of what is left of a line, and what is left after it.
+// The first word of the rest of a line, and the rest after it.
 fn first_word(line: &[u8]) -> Option<(&[u8], &[u8])>
     ensures { MatchOption result (words_of line.now ≡ [])
         (λ found. words_of line.now ≡ found.0.now ∷ words_of found.1.now) }

@@ -3,7 +3,7 @@ ghost use Rattle.std.specs.Prelude.{◌≡◌, ◌≤◌, ◌^◌, ◌-◌, ℕ,
 ghost use Rattle.script_words.specs.Number.{numeral_of, number_of, number_within};
 ghost use Rattle.script_words.specs.Digits.{next_value};
 
-/// The number of a word: decimal digits, or `0x` and hexadecimal digits of either case. `None` where the word is anything
+/// The number of a word: decimal digits, or `0x` and hexadecimal digits of either case. `None` if the word is anything
 /// else (a sign, an underscore, `0X`, nothing), or its number is 2^64 or more. Leading zeros are accepted, however many.
 pub fn parse_number(word: &[u8]) -> Option<u64>
     ensures { result ≡ number_of word.now }

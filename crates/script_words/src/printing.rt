@@ -10,7 +10,8 @@ ghost use Rattle.script_words.specs.Printing.{prints_itself, shown_byte, hexadec
 use arrayvec::ArrayVec;
 use itoa::Buffer;
 
-/// How a byte of a text prints: itself, or `\xHH` in lower case where it is a backslash or outside 0x21 to 0x7e.
+/// The printed form of a byte of a text: the byte itself, or `\xHH`
+/// in lower case if it is a backslash or outside 0x21 to 0x7e.
 pub fn print_byte(byte: u8) -> ArrayVec<u8, 4>
     ensures { result.items ≡ shown_byte byte }
 {
@@ -59,7 +60,7 @@ pub fn print_hex_row(bytes: &[u8]) -> ArrayVec<u8, 32>
     digits
 }
 
-/// A number in decimal. (More than 64 bits are taken, since a stretch of addresses can be as long as the address space.)
+/// A number in decimal. (More than 64 bits are taken, since a range of addresses can be as long as the address space.)
 pub fn print_decimal(number: u128) -> ArrayVec<u8, 39>
     ensures { result.items ≡ decimal number }
 {
@@ -104,7 +105,7 @@ pub fn print_hexadecimal(number: u128) -> ArrayVec<u8, 34>
     text
 }
 
-// Writes a number's hexadecimal digits at the end of a buffer, none for 0, and answers where they begin.
+// Writes a number's hexadecimal digits at the end of a buffer, none for 0, and returns the place where they start.
 fn write_hex_digits(digits: &mut [u8; 32], number: u128) -> usize
     ensures within { result ≤ 32 }
     ensures written { drop result digits.new ≡ map digit_char (digits_of 16 number) }

@@ -7,7 +7,7 @@ ghost use Rattle.script_words.specs.Text.{text_of, with_byte, escape_of};
 use arrayvec::ArrayVec;
 use bstr::ByteSlice;
 
-/// The text of a word: `\xHH`, with digits of either case, is one byte, and every other byte is itself. `None` where the
+/// The text of a word: `\xHH`, with digits of either case, is one byte, and every other byte is itself. `None` if the
 /// word has any other backslash.
 pub fn decode_text(word: &[u8]) -> Option<ArrayVec<u8, 1024>>
     requires { length word.now ≤ 1024 }
@@ -24,7 +24,7 @@ pub fn decode_text(word: &[u8]) -> Option<ArrayVec<u8, 1024>>
     Some(text)
 }
 
-/// The bytes of a word of hexadecimal digits, 1 to 64 of them, with no `0x` before them. `None` where the word has an odd
+/// The bytes of a word of hexadecimal digits, 1 to 64 of them, with no `0x` before them. `None` if the word has an odd
 /// number of digits, none, more than 128, or another byte.
 pub fn decode_hex(word: &[u8]) -> Option<ArrayVec<u8, 64>>
     ensures { MatchOption result (needle_of word.now ≡ None)
@@ -36,7 +36,7 @@ pub fn decode_hex(word: &[u8]) -> Option<ArrayVec<u8, 64>>
     decode_pairs(word)
 }
 
-/// The key and the value of a word: what is before its first `=` and after it. `None` where it has no `=`.
+/// The key and the value of a word: the bytes before its first `=` and after it. `None` if it has no `=`.
 pub fn split_pair(word: &[u8]) -> Option<(&[u8], &[u8])>
     ensures { MatchOption result (pair_of word.now ≡ None)
         (λ pair. pair_of word.now ≡ Some (pair.0.now, pair.1.now)) }
@@ -62,7 +62,7 @@ fn decode_pairs(word: &[u8]) -> Option<ArrayVec<u8, 64>>
     Some(bytes)
 }
 
-// The byte of the first two digits, and what follows them.
+// The byte of the first two digits, and the text after them.
 fn next_pair(word: &[u8]) -> Option<(u8, &[u8])>
     requires { 0 < length word.now }
     ensures byte { MatchOption result (bytes_of_hex word.now ≡ None)
@@ -91,7 +91,7 @@ fn next_byte(word: &[u8]) -> Option<(u8, &[u8])>
     Some((byte, rest.split_at(3).1))
 }
 
-// The byte of `xHH` at the front of what follows a backslash.
+// The byte of `xHH` at the front of the text after a backslash.
 fn escaped_byte(rest: &[u8]) -> Option<u8>
     ensures { result ≡ escape_of rest.now }
 {

@@ -12,7 +12,7 @@ abbrev pub IsThere : List ℕ → List Part → ℕ → ℕ → Bor (List ℕ) �
 IsThere front parts place most bytes =
     (0 < length bytes.now) × (length bytes.now ≤ most) × ((size : ℕ) (image : List ℕ) → IsImageBy front size parts image → IsPartOf image place bytes.now)
 
--- what was gathered of each such image is of it, and so is what is gathered since
+-- if the old bytes are bytes of each such image, the new bytes are too
 abbrev pub StaysPart : List ℕ → List Part → ℕ → List ℕ → List ℕ → Type 0
 StaysPart front parts start old new = (size : ℕ) (image : List ℕ) → IsImageBy front size parts image → IsPartOf image start old → IsPartOf image start new
 

@@ -1,4 +1,4 @@
-// What is at hand of an image from a place on.
+// The bytes of an image that are at hand from a place on.
 ghost use Rattle.std.specs.Prelude.{◌≤◌, ◌<◌, ℕ, List, MatchOption, length};
 ghost use Rattle.seen_bytes.specs.Gathering.{IsThere};
 ghost use Rattle.seen_memory.specs.Parts.{HasParts, IsBeside, IsOutside, IsPartOf};
@@ -7,7 +7,7 @@ ghost use Rattle.seen_memory.specs.Seen.{IsUnread};
 use elf_view::part;
 use seen_memory::Part;
 
-/// What a part has of an image from a place on, at most `most` bytes, if it has that place.
+/// The bytes of an image that a part has from a place on, at most `most` bytes, if it has that place.
 fn part_from<'p>(piece: &Part<'p>, place: u64, most: u64) -> Option<&'p [u8]>
     requires { 0 < most }
     ensures { MatchOption result (IsOutside place piece.now) (λ x. (0 < length x.now) × (length x.now ≤ most)
@@ -21,7 +21,7 @@ fn part_from<'p>(piece: &Part<'p>, place: u64, most: u64) -> Option<&'p [u8]>
     Some(bytes)
 }
 
-/// What one of an image's parts has of it from a place on, at most `most` bytes, if one has that place.
+/// The bytes of an image that one of its parts has from a place on, at most `most` bytes, if one has that place.
 fn parts_from<'p>(parts: &[Part<'p>], place: u64, most: u64) -> Option<&'p [u8]>
     requires { 0 < most }
     ensures { MatchOption result (IsBeside place parts.now) (λ x. (0 < length x.now) × (length x.now ≤ most)
@@ -35,7 +35,7 @@ fn parts_from<'p>(parts: &[Part<'p>], place: u64, most: u64) -> Option<&'p [u8]>
     None
 }
 
-/// What the first bytes of an image, or a part of it, have of it from a place on, at most `most` bytes.
+/// The bytes of an image that its first bytes or a part have from a place on, at most `most` bytes.
 pub(crate) fn bytes_at<'p>(
     front: &'p [u8],
     parts: &[Part<'p>],

@@ -46,7 +46,7 @@ fn add_bytes(
 }
 
 /// Gathers `count` bytes of an image from place `start` on, of which these are the first. Of the image the first bytes are at hand,
-/// and these parts. If another byte is wanted, what was gathered stays, and the call can be made again.
+/// and these parts. If another byte is wanted, the gathered bytes stay, and the call can be made again.
 pub fn gather(
     front: &[u8],
     parts: &[Part<'_>],

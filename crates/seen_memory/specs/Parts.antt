@@ -7,7 +7,7 @@ use Rattle.seen_memory.specs.declared.part.Part.{Part}
 abbrev pub IsPartOf : List ℕ → ℕ → List ℕ → Type 0
 IsPartOf image at bytes = bytes ≡ part image at (length bytes)
 
--- so are those of each part
+-- the bytes of each part are bytes of the image
 abbrev pub HasParts : List ℕ → List Part → Type 0
 HasParts image [] = ⊤
 HasParts image (p ∷ ps) = IsPartOf image p.at p.bytes.now × HasParts image ps

@@ -1,4 +1,4 @@
--- What a memory can be, of whose core's image some bytes are at hand.
+-- The memories that are possible if only some bytes of the core's image are at hand.
 use Rattle.std.specs.Prelude.{◌≡◌, ◌≤◌, ◌<◌, ℕ, List, length, slice_index, Result, Ok, Err}
 use Rattle.address_space.specs.Source.{Space}
 use Rattle.address_space.specs.SpaceWords.{space_of}
@@ -32,7 +32,7 @@ pub record IsWantedBy (front : List ℕ) (size : ℕ) (parts : List Part) (u : U
 abbrev pub IsWanted : SeenMemory → Unread → Type 0
 IsWanted m u = IsWantedBy m.front.now m.size m.parts.now u
 
--- what is told is so in each memory that this one can be
+-- the answer holds in each memory that this one can be
 abbrev pub InEach : {A : Type 0} → SeenMemory → (Space → A) → A → Type 0
 InEach m told x = (image : List ℕ) → IsImageOf m image → x ≡ told (space_by m image)
 

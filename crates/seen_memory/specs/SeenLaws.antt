@@ -1,4 +1,4 @@
--- What is told of each memory that one can be.
+-- The answers that hold in each memory that one can be.
 use Rattle.std.proofs.Common.{◌≡◌, ℕ, List, Result, Ok, Err, ◌∙◌}
 use Rattle.address_space.specs.Source.{Space}
 use Rattle.seen_memory.specs.Seen.{ForEach, space_by}

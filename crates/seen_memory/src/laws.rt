@@ -1,7 +1,8 @@
-// What the definitions that the contracts cite say together.
+// Consequences of the definitions that the contracts cite.
 ghost use Rattle.seen_memory.specs.Unread.{UnreadBytesAreNotTold};
 
-/// What depends on a byte that is not at hand is not told: `value` and `word` answer then that the byte is wanted. It does nothing.
+/// A value that depends on a byte that is not at hand is not given: `value`
+/// and `word` then answer that the byte is wanted. This function does nothing.
 pub fn unread_bytes_are_not_told()
     ensures { UnreadBytesAreNotTold }
 {}

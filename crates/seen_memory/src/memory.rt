@@ -1,4 +1,4 @@
-// What is at hand of a process's memory.
+// The part of a process's memory that is at hand.
 ghost use Rattle.std.specs.Prelude.{◌≡◌};
 ghost use Rattle.address_space.specs.SpaceWords.{core_of};
 
@@ -8,7 +8,7 @@ use address_space::AddressSpace;
 /// The memory of a process. Of its core's image the first bytes are at hand, and parts of the rest.
 #[derive(Clone, Copy)]
 pub struct SeenMemory<'s, 'c> {
-    /// The memory that the first bytes of the image tell, as a core of their own.
+    /// The memory that the first bytes of the image describe, as a core of their own.
     pub space: &'s AddressSpace<'c>,
     /// The first bytes of the image.
     pub front: &'s [u8],

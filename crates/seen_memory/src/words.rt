@@ -16,7 +16,7 @@ use address_space::{FileSpot, StretchKind};
 use elf_view::{a_sound_front_is_enough, accepted_segments_fit, u64_at};
 
 impl<'s, 'c> SeenMemory<'s, 'c> {
-    /// Where the byte of an address is.
+    /// The place of the byte of an address.
     fn stretch_at(&self, address: u64) -> StretchKind<'c>
         ensures content { (b : List ℕ) → IsFrontOf self.now.front.now self.now.size b
             → content_from (space_in b (space_of self.now.space.now)) address 1 ≡ shown_in b 1 result }
@@ -42,7 +42,7 @@ impl<'s, 'c> SeenMemory<'s, 'c> {
         }
     }
 
-    /// The value of an address, if it has one. The error is a byte of the image that would tell it.
+    /// The value of an address, if it has one. The error is a byte of the image that is needed to know it.
     pub fn value(&self, address: u64) -> Result<Option<u8>, Unread>
         ensures { ForEach self.now (λ space. source.value_at space address) result }
     {
@@ -55,8 +55,8 @@ impl<'s, 'c> SeenMemory<'s, 'c> {
         }
     }
 
-    /// The little-endian number in the values of eight addresses, or `None` where one of them has none. The error is a byte of the
-    /// image that would tell it.
+    /// The little-endian number in the values of eight addresses, or `None` if one of them has no value. The error is a byte of
+    /// the image that is needed to know it.
     pub fn word(&self, address: u64) -> Result<Option<u64>, Unread>
         ensures { ForEach self.now (λ space. source.word_at space address 8) result }
     {

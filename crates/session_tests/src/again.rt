@@ -1,5 +1,5 @@
-// Lines that are made again where they were refused memory. Run as they are none is refused: `scripts/fail-alloc` refuses each
-// allocation in turn, and each test has to pass then.
+// Lines that are made again if they were refused memory. In a normal run none of them is refused: `scripts/fail-alloc` refuses
+// each allocation in turn, and each test must pass then.
 use crate::archives::{fresh, told};
 use disk_model::Disk;
 use intake::Archive;
@@ -59,7 +59,7 @@ static ROWS: [Row; 11] = [
     },
 ];
 
-// The replies to these lines, or, where one of them was refused memory, to all of them made again: a stream that was refused it is
+// The replies to these lines, or, if one of them was refused memory, to all of them made again: a stream that was refused it is
 // gone. An archive whose disk in memory found none is stopped, so nothing is made again there.
 fn told_again<D: Disk>(
     rt: &(impl AllocGlobal + Abort),

@@ -51,7 +51,7 @@ pub(crate) fn named(template: &[u8]) -> Result<Naming, Fail> {
     })
 }
 
-// How a session ends: nothing else is said of it here, so that no proof has to carry it.
+// The end of a session: nothing else is promised here, so that no proof must carry it.
 pub(crate) fn session<I: Input, O: Output, D: Disk>(
     alloc: Global,
     input: &mut I,
@@ -62,7 +62,7 @@ pub(crate) fn session<I: Input, O: Output, D: Disk>(
     run_session(alloc, input, output, archive, naming)
 }
 
-// What a session over this script writes, which ends well.
+// The output of a session over this script, which ends well.
 pub(crate) fn told<D: Disk>(
     alloc: Global,
     archive: &mut Archive<D>,
@@ -76,7 +76,7 @@ pub(crate) fn told<D: Disk>(
     Ok(String::from_utf8(text)?)
 }
 
-// What a session over this script writes, over the archive on a disk, and the disk that it leaves.
+// The output of a session over this script, over the archive on a disk, and the disk that it leaves.
 pub(crate) fn after<D: Disk + Drop>(
     alloc: Global,
     disk: D,
@@ -88,7 +88,7 @@ pub(crate) fn after<D: Disk + Drop>(
 }
 
 // A session over this script writes this text.
-pub(crate) fn tells<D: Disk>(
+pub(crate) fn states<D: Disk>(
     rt: &(impl AllocGlobal + Abort),
     archive: &mut Archive<D>,
     script: &[u8],

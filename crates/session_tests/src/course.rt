@@ -1,5 +1,5 @@
-// A script that stores, pins, deletes and retires, with two streams at a time, until an append has written the journal anew: what it
-// reads, what it answers, and what the archive has after each of its lines.
+// A script that stores, pins, deletes and retires, with two streams at a time, until an append has written the journal anew: its
+// input, its replies, and the content of the archive after each of its lines.
 use crate::archives::{disk_of, opened, told};
 use disk_model::{Disk, MemDisk};
 use intake::Archive;
@@ -15,7 +15,8 @@ struct Image {
     count: usize,
 }
 
-// A line with the bytes that follow it; the reply to it; what `list` tells then; and the images that the archive has then.
+// A line with the bytes that follow it; the reply to it; the lines
+// that `list` prints then; and the images that the archive has then.
 struct Line {
     text: &'static [u8],
     from: usize,
@@ -195,8 +196,8 @@ static LINES: [Line; 16] = [
 // of each of these 64, with a closed gate after it: 58 fit, and the last one has the journal written anew.
 static NAMES: &[u8; 59] = b"bcdefghijklmnopqrstuvwxyzABCDEFGHIJKLMNOPQRSTUVWXYZ01234567";
 
-// Where a line with its bytes ends in the script, and its reply in the replies; where what `list` tells then is in the lists; and the
-// images that the archive has then.
+// The end of a line with its bytes in the script, and of its reply in the replies; the place of the `list` text of that moment in the
+// lists; and the images that the archive has then.
 #[derive(Drop)]
 struct Row {
     script: usize,
@@ -205,7 +206,7 @@ struct Row {
     images: &'static [Image],
 }
 
-// The script, its replies, what `list` tells after its lines, and the bytes of its images.
+// The script, its replies, the texts that `list` prints after its lines, and the bytes of its images.
 #[derive(Drop)]
 pub(crate) struct Course {
     pub(crate) script: Vec<u8>,
@@ -230,7 +231,7 @@ fn slice_of(bytes: &[u8], from: usize, count: usize) -> &[u8] {
 }
 
 impl Course {
-    // Adds what `list` tells.
+    // Adds a text that `list` prints.
     fn add_list(&mut self, cases: &[u8]) -> Result<(usize, usize), Fail> {
         let from = self.lists.len();
         self.lists.extend_from_slice(cases)?;
@@ -282,7 +283,7 @@ impl Course {
         self.add_row((from, end), JUST_A)
     }
 
-    // Where what `list` tells after this many lines is.
+    // The place of the text that `list` prints after this many lines.
     fn list_of(&self, rows: usize) -> (usize, usize) {
         match rows.checked_sub(1) {
             Some(last) => match self.rows.get(last) {
@@ -298,7 +299,7 @@ impl Course {
         self.rows.len()
     }
 
-    // Where the line with this index ends, with its bytes.
+    // The end of the line with this index, with its bytes.
     pub(crate) fn line_end(&self, index: usize) -> usize {
         match self.rows.get(index) {
             Some(row) => row.script,
@@ -340,7 +341,7 @@ impl Course {
         rows
     }
 
-    // How many lines were carried out, where this byte of the replies wasn't taken.
+    // How many lines were carried out, if this byte of the replies wasn't taken.
     pub(crate) fn rows_with(&self, byte: usize) -> usize {
         let mut rows = 1usize;
         for row in &self.rows {
@@ -364,13 +365,13 @@ impl Course {
         true
     }
 
-    // Whether this is what `list` is to tell after this many lines.
+    // Whether this is the text that `list` must print after this many lines.
     fn is_list(&self, text: &[u8], rows: usize) -> bool {
         let (from, end) = self.list_of(rows);
         rows <= self.rows.len() && self.lists.get(from..end) == Some(text)
     }
 
-    // Whether the archive has what it is to have after this many lines, or after one of the next `more`.
+    // Whether the archive has the expected cases after this many lines, or after one of the next `more`.
     pub(crate) fn is_shown<D: Disk>(
         &self,
         alloc: Global,
@@ -422,7 +423,7 @@ pub(crate) fn course_disk(alloc: Global) -> Result<MemDisk, Fail> {
     disk_of(alloc, 8)
 }
 
-// The archive on it, where nothing was stored yet.
+// The archive on it, with nothing stored yet.
 pub(crate) fn course_archive(alloc: Global) -> Result<Archive<MemDisk>, Fail> {
     opened(alloc, course_disk(alloc)?, 1 << 30)
 }

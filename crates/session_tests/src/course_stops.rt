@@ -10,8 +10,8 @@ use std::test::Fail;
 // How many calls of the disk the opening and the course make.
 const CALLS: u64 = 401;
 
-// What a crash leaves of what was written since the last sync: nothing, all of it, its first half, or in its place the bytes of open
-// gates, or others.
+// The part that a crash leaves of the bytes that were written since the last sync: nothing, all of it, its first half, or instead
+// the bytes of open gates, or others.
 static PICKS: [Pick; 5] = [
     Pick::Nothing,
     Pick::Whole,
@@ -31,7 +31,7 @@ fn run<D: Disk + Drop>(alloc: Global, course: &Course, disk: D) -> Result<(Strin
     }
 }
 
-// The archive on the disk has what it is to have after this many lines, or after the one that follows them.
+// The archive on the disk has the expected cases after this many lines, or after the next one.
 fn shows(
     rt: &(impl AllocGlobal + Abort),
     course: &Course,

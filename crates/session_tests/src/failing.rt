@@ -90,7 +90,7 @@ fn streams(course: &Course, reads: usize, last: usize) -> (Lines<'_>, Bytes<'_>)
 }
 
 // A session whose streams fail there, over a fresh archive: how it ends, how many lines were read whole, and how many bytes of the
-// replies were written. The archive then has what it is to have after `rows` lines, or, where that is none, after those that were read.
+// replies were written. The archive then has the expected cases after `rows` lines, or, if that is `None`, after those that were read.
 fn ends(
     rt: &(impl AllocGlobal + Abort),
     course: &Course,

@@ -1,4 +1,4 @@
-// Archives with images in them, and what lines that ask these read of the disk.
+// Archives with images in them, and the disk reads of lines about these images.
 use crate::archives::{after, disk_of, opened, told};
 use disk_model::{Disk, Fuse, MemDisk};
 use elf_view::sample::executable;

@@ -1,5 +1,5 @@
-//! Worked examples of sessions over disks and streams that fail, or whose calls are counted: tests alone, of what crosses
-//! the crates.
+//! Worked examples of sessions over disks and streams that fail, or whose
+//! calls are counted: only tests, of behaviour that crosses the crates.
 #![tactic(auto)]
 
 #[cfg(test)]

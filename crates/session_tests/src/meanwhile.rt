@@ -14,7 +14,7 @@ use std::process::Abort;
 use std::test::Fail;
 use unlocked_reading::{AskFault, UnlockedFault, ask_unlocked, copy_unlocked};
 
-// What happens to the archive from one moment to the next. The last script stores over the blocks of case 2, which is a core.
+// The changes of the archive from one moment to the next. The last script stores over the blocks of case 2, which is a core.
 static STEPS: [&str; 5] = [
     "free\n",
     "begin core 0 comm=b pid=2\npart 0 1\nxend 0\n",
@@ -35,14 +35,14 @@ fn moments(alloc: Global) -> Result<(Vec<u8>, usize), Fail> {
     Ok((bytes, disk.length() as usize))
 }
 
-// The archive as it is looked at first, where the second look comes so many moments later.
+// The archive as it is looked at first, if the second look comes so many moments later.
 fn looked(alloc: Global, later: usize) -> Result<Looked<ScriptedShare>, Fail> {
     let (bytes, size) = moments(alloc)?;
     let share = ScriptedShare::new(bytes, size, STEPS.len(), later).ok_or("moments")?;
     Ok(Looked::look(alloc, share)?)
 }
 
-// What a copy of case 2 gives where the second look comes so many moments later, or that the case is gone.
+// The bytes that a copy of case 2 gives if the second look comes so many moments later, or `None` if the case is gone.
 fn copied(alloc: Global, later: usize) -> Result<Option<Vec<u8>>, Fail> {
     let looked = looked(alloc, later)?;
     let mut image = Vec::new(alloc);
@@ -69,7 +69,7 @@ fn a_copy_is_of_the_case_or_it_is_gone(rt: HostRuntime) -> Result<(), Fail> {
     Ok(())
 }
 
-// The threads of case 2 where the second look comes so many moments later, or that the case is gone.
+// The threads of case 2 if the second look comes so many moments later, or `None` if the case is gone.
 fn asked(alloc: Global, later: usize) -> Result<Option<Vec<u8>>, Fail> {
     let looked = looked(alloc, later)?;
     let question = Question::Inspect {
@@ -99,7 +99,7 @@ fn an_answer_is_of_the_case_or_it_is_gone(rt: HostRuntime) -> Result<(), Fail> {
     Ok(())
 }
 
-// What `list` tells of the archive that is salvaged from these bytes.
+// The text that `list` prints of the archive that is salvaged from these bytes.
 fn salvaged(alloc: Global, bytes: &[u8]) -> Result<String, Fail> {
     let mut onto = disk_of(alloc, 8)?;
     salvage_onto(alloc, bytes, &mut onto)?;

@@ -1,5 +1,5 @@
 // A disk that fails at each read of a line over an image.
-use crate::archives::{opened, tells};
+use crate::archives::{opened, states};
 use crate::images::{calls, with_executable};
 use disk_model::{Disk, MemDisk, OneFault};
 use elf_view::sample::mapped_core;
@@ -14,7 +14,7 @@ fn stored(alloc: Global) -> Result<MemDisk, Fail> {
     with_executable(alloc, &core)
 }
 
-// Lines, and their replies where no call of the disk fails.
+// Lines, and their replies if no call of the disk fails.
 static READING: [(&str, &str); 9] = [
     ("threads 2\n", "0 4242 11 0x10400\nok\n"),
     (
@@ -33,7 +33,7 @@ static READING: [(&str, &str); 9] = [
     ("symbol 1 0\n", "no NoSymbol\n"),
 ];
 
-// Where this call of the disk fails the line is refused for that, and those after it, whatever else is wrong with them.
+// If this call of the disk fails, the line is refused for that, and those after it too, whatever else is wrong with them.
 fn stops_at(rt: &(impl AllocGlobal + Abort), line: &str, call: u64) -> Result<(), Fail> {
     let disk = OneFault::new(stored(rt.alloc())?, call);
     let mut archive = opened(rt.alloc(), disk, 1 << 30)?;
@@ -46,8 +46,8 @@ fn is_stopped_by<D: Disk>(
     archive: &mut Archive<D>,
     line: &str,
 ) -> Result<(), Fail> {
-    tells(rt, archive, line.as_bytes(), "no Disk\n")?;
-    tells(
+    states(rt, archive, line.as_bytes(), "no Disk\n")?;
+    states(
         rt,
         archive,
         b"maps 9\nbt 1 0\nsymbol 2 0\ndump 2 0 65537\n",

@@ -1,4 +1,5 @@
-// A disk that fails where room is made before a case is stored. What is stored where none fails is shown by rows of `examples/rows`.
+// A disk that fails while room is made before a case is stored. Rows
+// of `examples/rows` show which cases are stored if no disk fails.
 use crate::archives::{after, fresh_disk, named};
 use disk_model::{Disk, MemDisk, OneFault, Pick};
 use inspector_cli::{
@@ -17,7 +18,7 @@ const NO_CASE_STAYS: Policy = Policy {
     before: None,
 };
 
-// How a store ends before which no case is to stay: nothing else is said of it here, so that no proof has to carry it.
+// The end of a store before which no case is to stay: nothing else is promised here, so that no proof must carry it.
 fn store<I: Input, O: Output, D: Disk>(
     alloc: Global,
     disk: D,

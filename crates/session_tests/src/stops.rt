@@ -1,11 +1,11 @@
-// Disks that fail at the last call of a session, and what is found after a crash.
+// Disks that fail at the last call of a session, and the cases that are found after a crash.
 use crate::archives::{after, fresh_disk};
 use disk_model::{Disk, MemDisk, OneFault, Pick};
 use std::alloc::Global;
 use std::process::Abort;
 use std::test::Fail;
 
-// What a session over this script writes, and the disk that it leaves, where this call of the disk fails. The archive on
+// The output of a session over this script, and the disk that it leaves, if this call of the disk fails. The archive on
 // the disk stays as it is: the session is over a copy.
 fn stopped(
     alloc: Global,
@@ -17,7 +17,7 @@ fn stopped(
     after(alloc, OneFault::new(copy, call), script)
 }
 
-// The same, where the last call of the disk fails that the first part of the script makes.
+// The same, if the last disk call of the first part of the script fails.
 fn stopped_at_last_call(
     alloc: Global,
     disk: &MemDisk,
@@ -32,7 +32,7 @@ fn stopped_at_last_call(
 static STORED: &[u8] =
     b"begin exec 0 \\xa5\\xa5\\xa5\\xa5\\xa5\\xa5\\xa5\\xa5\\xa5\\xa5\\xa5\\xa5\\xa5\\xa5\\xa5\\xa5\\xa5\\xa5\\xa5\\xa5\npart 0 5\nhelloend 0\n";
 
-// The disk that is left where its last call fails within the end of that stream.
+// The disk that is left if its last call fails within the end of that stream.
 fn stopped_end(rt: &(impl AllocGlobal + Abort)) -> Result<MemDisk, Fail> {
     let disk = fresh_disk(rt.alloc())?;
     let (text, left) = stopped_at_last_call(rt.alloc(), &disk, STORED, STORED)?;
@@ -40,7 +40,7 @@ fn stopped_end(rt: &(impl AllocGlobal + Abort)) -> Result<MemDisk, Fail> {
     Ok(left)
 }
 
-// A session over this script writes this text, where no call of the disk fails.
+// A session over this script writes this text, if no call of the disk fails.
 fn ends_well(
     rt: &(impl AllocGlobal + Abort),
     disk: &MemDisk,
@@ -52,7 +52,7 @@ fn ends_well(
     Ok(())
 }
 
-// The disk that is left where the last call fails within another stream, which ends well where no call fails.
+// The disk that is left if the last call fails within another stream, which ends well if no call fails.
 fn stopped_next(rt: &(impl AllocGlobal + Abort), disk: &MemDisk) -> Result<MemDisk, Fail> {
     let script = b"begin exec 0 e\nend 0\n";
     ends_well(rt, disk, script, "name e\nok\nstored 1\nok\n")?;
@@ -88,7 +88,7 @@ fn a_crash_within_an_end_leaves_the_case_or_none(rt: HostRuntime) -> Result<(), 
     Ok(())
 }
 
-// The disk that is left where its last call fails within the deletion of case 1.
+// The disk that is left if its last call fails within the deletion of case 1.
 fn stopped_deletion(rt: &(impl AllocGlobal + Abort), disk: &MemDisk) -> Result<MemDisk, Fail> {
     let script = b"delete 1\nlist\n";
     let (text, left) = stopped_at_last_call(rt.alloc(), disk, b"delete 1\n", script)?;

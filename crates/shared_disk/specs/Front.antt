@@ -1,4 +1,4 @@
--- What a look saw.
+-- The bytes that a look saw.
 use Rattle.std.specs.Prelude.{◌≡◌, ◌≤◌, List, ℕ, length, IsTrue}
 use Rattle.disk_model.specs.Places.{part}
 use Rattle.shared_disk.specs.declared.shared.SharedDisk as shared

@@ -1,4 +1,4 @@
--- What is known of a disk that was looked at.
+-- The known facts about a disk after a look.
 use Rattle.std.specs.Prelude.{◌≡◌, List, IsTrue}
 use Rattle.intake.specs.declared.ranges.ByteRange.{ByteRange}
 use Rattle.shared_disk.specs.Meanwhile.{EndsWith}
@@ -18,7 +18,7 @@ module _ {S : Type 0} {g : shared.Ghosts S} where
   abbrev pub ranges_of : Unlocked S g → List ByteRange
   ranges_of u = u.ranges.items
 
--- It was looked at anew: the interval before ended with what it held then.
+-- A new look was made: the interval before ended with the bytes that the disk held then.
 pub record LooksAnew {S : Type 0} (g : shared.Ghosts S) (old new : S) : Type 0 where
   pub honesty : g.is_honest new ≡ g.is_honest old
   pub size : g.size new ≡ g.size old

@@ -1,4 +1,4 @@
--- What a disk that others change holds from one look at it to the next.
+-- The bytes of a disk that others change from one look at it to the next.
 use Rattle.std.specs.Prelude.{◌≡◌, ◌⊎◌, ℕ, ◌+◌, ◌<◌, List, [], ◌∷◌, ◌++◌, length, slice_index}
 
 -- it is one of these

@@ -1,4 +1,4 @@
--- A disk of which each moment is given, and what it holds between two looks.
+-- A disk of which each moment is given, and the bytes that it holds between two looks.
 use Rattle.std.proofs.Common.{◌≡◌, ◌⊎◌, inl, inr, ℕ, zero, suc, ◌+◌, ◌≤◌, List, [], ◌∷◌, ◌++◌, refl, sym, ap, subst, ◌∙◌, arith}
 use Rattle.journal_looks.specs.History.{moment}
 use Rattle.shared_disk.specs.Meanwhile.{EndsWith, IsHeld}
@@ -30,7 +30,7 @@ span_ends moments k (suc more) =
       ap (λ (l : List (List ℕ)). moment moments k ∷ l) (e.1 ∙ ap (λ (c : List ℕ). e.0 ++ c ∷ []) (next_moment moments k more)),
     )
 
--- what holds of each of them holds of what is held
+-- a property of each of them is a property of the bytes that are held
 pub span_all : (P : List ℕ → Type 0) (moments : List (List ℕ)) (k more : ℕ) → ((n : ℕ) → n ≤ more → P (moment moments (k + n))) → (c : List ℕ) → IsHeld (span moments k more) c → P c
 span_all P moments k zero all c (inl is) =
     let e : k + 0 ≡ k = omega arith in

@@ -1,4 +1,4 @@
--- What each moment of such a disk has, and what a read gives of it.
+-- The bytes of each moment of such a disk, and those that a read of it gives.
 use Rattle.std.proofs.Common.{◌≡◌, ⊎_elim, ℕ, zero, suc, ◌+◌, ◌-◌, ◌*◌, ◌%◌, ◌<◌, ◌≤◌, List, set, take, drop, length, slice_index, sym, ap, subst, ◌∙◌, arith}
 use Rattle.std.proofs.lemmas.Bool.{cases_lt}
 use Rattle.std.proofs.lemmas.List.{drop-drop, get_or-set_same, get_or-set_other}
@@ -16,7 +16,7 @@ module _ (count size : ℕ) (bytes : List ℕ) (seen next : ℕ) (whole : count 
       span_all (λ (l : List ℕ). length l ≡ size) (rows count size bytes) seen (next - seen)
       (λ n within. row_long count size bytes (seen + n) whole (omega (arith, within, order, low))) c held
 
--- where the bytes of a moment stand
+-- the place of the bytes of a moment
 pub row_is : (count size : ℕ) (bytes : List ℕ) (k : ℕ) → k < count → take size (drop (k * size) bytes) ≡ moment (rows count size bytes) k
 row_is zero size bytes k low = absurd (omega (arith, low))
 row_is (suc n) size bytes zero low =
@@ -37,14 +37,14 @@ module _ (count size : ℕ) (bytes : List ℕ) (seen next : ℕ) (order : seen �
       ∙ ap (λ (n : ℕ). moment (rows count2 n bytes) seen2) (sym same_size)
       ∙ ap (λ (l : List ℕ). moment (rows count2 size2 l) seen2) (sym same_bytes)
 
-  -- the next look sees the last of what is held until then
+  -- the next look sees the last of the lists that are held until then
   pub next_seen : EndsWith (span (rows count size bytes) seen (next - seen)) (moment (rows count2 size2 bytes2) seen2)
   next_seen =
       let last : seen + (next - seen) ≡ next = omega (arith, order) in
       subst (λ (c : List ℕ). EndsWith (span (rows count size bytes) seen (next - seen)) c) (ap (moment (rows count size bytes)) last ∙ same_moment)
       (span_ends (rows count size bytes) seen (next - seen))
 
--- what the next look sees is as long as the disk
+-- the bytes that the next look sees are as long as the disk
 pub row_fits : (count size : ℕ) (bytes : List ℕ) (next : ℕ) → count * size ≡ length bytes → next < count → (count2 size2 : ℕ) (bytes2 : List ℕ) (seen2 : ℕ) (row : List ℕ)
     → count2 ≡ count → size2 ≡ size → bytes2 ≡ bytes → seen2 ≡ next → row ≡ moment (rows count2 size2 bytes2) seen2 → length row ≡ size
 row_fits count size bytes next whole low count2 size2 bytes2 seen2 row same_count same_size same_bytes is here =

@@ -5,7 +5,7 @@ use Rattle.std.specs.Str.{bytes_eq}
 use Rattle.intake.specs.Ranges.{bytes_in}
 use Rattle.intake.specs.declared.ranges.ByteRange.{ByteRange}
 
--- each of these lists has there what the first one has
+-- each of these lists has the same bytes there as the first one
 abbrev pub are_steady : List ByteRange → List ℕ → List (List ℕ) → Bool
 are_steady ranges first [] = true
 are_steady ranges first (c ∷ cs) = bytes_eq (bytes_in c ranges) (bytes_in first ranges) && are_steady ranges first cs

@@ -99,7 +99,7 @@ place_same ranges b c at n k h below =
     ∙ part_place c h.start h.size (at + k - h.start) 0 within
     ∙ ap (λ (j : ℕ). get_or c j 0) e
 
--- What is read of a range that is steady is what the first list has there.
+-- A read of a range that is steady gives the bytes that the first list has there.
 pub steady_read : (ranges : List ByteRange) (first : List ℕ) (lists : List (List ℕ)) (at : ℕ) (bytes : List ℕ) → ((c : List ℕ) → IsHeld lists c → length c ≡ length first) → at + length bytes ≤ length first
     → are_steady ranges first lists ≡ true → is_in_one ranges at (length bytes) ≡ true → AreHeld lists at bytes → bytes ≡ part first at (length bytes)
 steady_read ranges first lists at bytes long within steady in_one held =

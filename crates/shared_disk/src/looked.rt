@@ -40,7 +40,7 @@ impl<S: SharedDisk + Drop> Looked<S> {
 impl<S: SharedDisk> Looked<S> {
     ghost use Rattle.shared_disk.specs.Looks.{ranges_of, shared_of, under};
 
-    /// The disk, as one that nobody changes. Of what lies after its front these ranges may be read.
+    /// The disk, as one that nobody changes. Of the bytes after its front these ranges may be read.
     pub fn unlocked(&self, ranges: Vec<ByteRange>) -> Unlocked<'_, S>
         ensures under { under result ≡ shared_of self.now }
         ensures ranges { ranges_of result ≡ ranges.items }
@@ -64,8 +64,8 @@ impl<S: SharedDisk> Looked<S> {
     }
 }
 
-// How many bytes an archive's superblock and journal take, or a block where there is no archive; at most all of the disk. What is
-// read here without the lock is never changed.
+// How many bytes an archive's superblock and journal take, or a block if there is no archive; at most all of the disk. The bytes
+// that are read here without the lock are never changed.
 fn front_of<S: SharedDisk>(shared: &S) -> usize
     ensures { result ≤ S.size shared.now }
 {

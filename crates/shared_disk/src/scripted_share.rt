@@ -11,9 +11,9 @@ use crate::unlocked::copy_part;
 use disk_model::DiskFault;
 use std::alloc::Global;
 
-/// A shared disk in memory whose moments are given, honest. So what is said of honest shared disks is said of something. The first look
-/// sees the first moment, and each further look the moment that is `step` later, or the last one. A read between two looks meets a writer
-/// in its middle: place p has the byte of the moment that is p after the last look, counted round and round up to the next look's.
+/// A shared disk in memory whose moments are given, honest. It shows that honest shared disks exist. The first look sees the first
+/// moment, and each further look the moment that is `step` later, or the last one. A read between two looks meets a writer in its middle:
+/// place p has the byte of the moment that is p after the last look, counted round and round up to the next look's.
 #[derive(Drop)]
 pub struct ScriptedShare {
     // The bytes of all moments, one moment after the other.

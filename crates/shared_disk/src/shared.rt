@@ -19,7 +19,7 @@ pub enum LookFault {
     /// It could not be read.
     #[error("the disk could not be read")]
     Read,
-    /// There is no memory for what is seen of it.
+    /// There is no memory for the bytes that are seen of it.
     #[error("out of memory")]
     OutOfMemory,
 }
@@ -34,10 +34,10 @@ pub trait SharedDisk {
     /// Whether its clauses on bytes hold.
     ghost is_honest: { Self → Bool };
 
-    /// What it held at the last look.
+    /// The bytes that it held at the last look.
     ghost looked: { Self → List ℕ };
 
-    /// What it holds at each moment from the last look to the next one, in order.
+    /// The bytes that it holds at each moment from the last look to the next one, in order.
     ghost meanwhile: { Self → List (List ℕ) };
 
     /// The length in bytes. It never changes.
@@ -62,12 +62,12 @@ pub trait SharedDisk {
     /// A place of the disk is a number of 64 bits.
     ghost addressed: { (d : Self) → size d < 2 ^ 64 };
 
-    /// What it held at the last look is as long as the disk.
+    /// The bytes that it held at the last look are as long as the disk.
     ghost whole: { (d : Self) → IsTrue (is_honest d) → length (looked d) ≡ size d };
 
-    /// So is what it holds until the next.
+    /// The bytes that it holds until the next look are as long too.
     ghost lists: { (d : Self) (c : List ℕ) → IsTrue (is_honest d) → IsHeld (meanwhile d) c → length c ≡ size d };
 
-    /// What it held is bytes.
+    /// The numbers that it held at the last look are bytes.
     ghost looked_bytes: { (d : Self) → IsTrue (is_honest d) → AreBytes (looked d) };
 }

@@ -1,4 +1,5 @@
-// A file of the operating system that other processes change. Nothing is proved of its bytes: no contract can say what a file holds.
+// A file of the operating system that other processes change. Nothing
+// is proved of its bytes: no contract can say which bytes a file holds.
 ghost use Rattle.std.specs.Prelude.{◌≡◌, ◌^◌, ◌<◌, [], true, false, is_ok, None, Some, OnOk, IsOkUnless};
 ghost use Rattle.std.proofs.lemmas.Bool.{false≢true};
 ghost use Rattle.disk_model.specs.Calls.{read};
@@ -10,10 +11,11 @@ use disk_model::{DiskFault, FileFault, HeldFile, Hold};
 use journal_looks::WatchedDisk;
 use std::alloc::Global;
 
-/// A regular file that other processes change under its advisory lock (flock(2)), of the length that it had when it was looked at. A look
-/// shares the lock with others that look, as long as one read takes. If another has it alone, the look takes none (`look_lockless`). Only
-/// if that one changes the journal all the time does the look wait. What else is proved over a shared disk holds of it where the file
-/// system gives by each read bytes that the file had meanwhile, and where whoever changes the file has its lock.
+/// A regular file that other processes change under its advisory lock (flock(2)), of the length that it had when it
+/// was looked at. A look shares the lock with others that look, for as long as one read takes. If another process
+/// has the lock exclusively, the look takes none (`look_lockless`). Only if that process changes the journal all
+/// the time does the look wait. The laws that are proved over a shared disk hold of it if the file system gives by
+/// each read bytes that the file had meanwhile, and if each process that changes the file has its lock.
 #[derive(Drop)]
 pub struct SharedFile<F: HeldFile> {
     file: F,
@@ -24,8 +26,8 @@ pub struct SharedFile<F: HeldFile> {
 }
 
 impl<F: HeldFile + Drop> SharedFile<F> {
-    /// A file that is open for reading. Looks that have to wait for its lock do, or answer `Busy`. A folder is refused as `Folder`, and
-    /// what is no regular file as `Special`.
+    /// A file that is open for reading. If another process has its lock, a look waits for it if `waits` is set, and otherwise answers
+    /// `Busy`. A directory is refused as `Folder`, and any other file that is not regular as `Special`.
     pub fn new(file: F, waits: bool) -> Result<SharedFile<F>, FileFault>
         requires free { (F.facts file).lock ≡ None }
     {

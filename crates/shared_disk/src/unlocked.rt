@@ -12,10 +12,10 @@ use diagnostics::after_failure;
 use disk_model::{Disk, DiskFault};
 use intake::ByteRange;
 
-/// A disk between two looks. It gives the front as the last look saw it, and of its ranges what is read now, without the lock. Any
-/// other read is answered `Read`, and nothing is written. It is honest if the disk that others change is, and nobody changes the
-/// ranges until the next look. Whether that is so is known at the next look. Of a stop of the machine it says nothing: that ends
-/// its reader too.
+/// A disk between two looks. It gives the front as the last look saw it, and the bytes of its ranges as they are read now, without
+/// the lock. Any other read is answered `Read`, and nothing is written. It is honest if the disk that others change is, and nobody
+/// changes the ranges until the next look. Whether anybody did is known at the next look. It promises nothing about a stop of the
+/// machine: that ends its reader too.
 #[derive(Drop)]
 pub struct Unlocked<'a, S: SharedDisk> {
     shared: &'a S,
@@ -98,7 +98,7 @@ impl<'a, S: SharedDisk> Unlocked<'a, S> {
         found.unwrap_or(0)
     }
 
-    // Counts a failure where there was one.
+    // Counts a failure if there was one.
     fn counted(&mut self, outcome: Result<(), DiskFault>, fault: DiskFault) -> Result<(), DiskFault>
         ensures outcome { is_ok result ≡ is_ok outcome }
         ensures cause { HasCause self.old.failures self.new.failures result }

@@ -1,4 +1,4 @@
--- What is known of a disk whose reads are counted: the disk below.
+-- The facts about a disk whose reads are counted: the disk below.
 use Rattle.shown_progress.specs.declared.counted_disk.CountedDisk.{CountedDisk}
 
 module _ {D W : Type 0} where

@@ -5,7 +5,7 @@ ghost use Rattle.shown_progress.specs.Counted.{disk_below};
 use diagnostics::Onlooker;
 use disk_model::{Disk, DiskFault};
 
-/// A disk as it is. An onlooker is told of each byte that is written to it.
+/// A disk as it is. It reports each byte that is written to it to an onlooker.
 #[derive(Drop)]
 pub struct CountedDisk<'p, D, W: Onlooker> {
     disk: D,

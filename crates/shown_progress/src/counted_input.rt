@@ -5,7 +5,7 @@ use diagnostics::Onlooker;
 use std::io;
 use std::io::Read;
 
-/// A reader as it is. An onlooker is told of each byte that it gives.
+/// A reader as it is. It reports each byte that it gives to an onlooker.
 #[derive(Drop)]
 pub struct CountedInput<'p, I: Read, W: Onlooker> {
     reader: &'p mut I,

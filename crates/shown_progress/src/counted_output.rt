@@ -4,7 +4,7 @@ ghost use Rattle.std.specs.Prelude.{◌≡◌};
 use diagnostics::Onlooker;
 use script_streams::{Output, StreamFault};
 
-/// An output as it is. An onlooker is told of each byte that it takes.
+/// An output as it is. It reports each byte that it takes to an onlooker.
 #[derive(Drop)]
 pub struct CountedOutput<'p, O: Output, W: Onlooker> {
     output: &'p mut O,

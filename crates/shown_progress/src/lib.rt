@@ -1,4 +1,5 @@
-//! How far a command is, shown on a terminal; and streams and disks that tell an onlooker of each byte that passes.
+//! The progress of a command, shown on a terminal; and streams
+//! and disks that report each byte that passes to an onlooker.
 #![tactic(auto)]
 
 mod counted_disk;
@@ -13,4 +14,4 @@ pub use counted_input::CountedInput;
 pub use counted_output::CountedOutput;
 pub use listener::Listener;
 pub use meter::Meter;
-pub use work_text::{Work, tell_work};
+pub use work_text::{Work, print_work};

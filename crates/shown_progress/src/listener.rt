@@ -1,7 +1,7 @@
-// What a command tells, and to whom.
+// The onlooker of a command's reports.
 use diagnostics::{Onlooker, Trouble};
 
-/// Keeps the last trouble that it is told of, and passes on how far the work is, unless it is hushed.
+/// Keeps the last trouble that is reported, and passes on the progress of the work, unless it is hushed.
 #[derive(Drop)]
 pub struct Listener<'p, W: Onlooker> {
     onlooker: &'p mut W,
@@ -23,7 +23,7 @@ impl<'p, W: Onlooker> Listener<'p, W> {
         self.is_hushed = true;
     }
 
-    /// The last trouble that it was told of.
+    /// The last trouble that was reported.
     pub fn trouble(&self) -> Option<Trouble> {
         self.trouble
     }

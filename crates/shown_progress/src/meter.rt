@@ -1,5 +1,5 @@
-// A line on a terminal that says how far the work is.
-use crate::work_text::{Work, tell_work};
+// A line on a terminal that shows the progress of the work.
+use crate::work_text::{Work, print_work};
 use diagnostics::{Onlooker, Trouble};
 use script_streams::{Output, Reply, write_whole};
 use std::time::Clock;
@@ -12,8 +12,8 @@ const BETWEEN: u64 = 100;
 // The line anew: the terminal's cursor goes to its begin, and all behind it is erased (ECMA-48, EL).
 const ANEW: &[u8] = b"\r\x1b[K";
 
-/// Shows on a terminal how far a command is: from the first second of a piece of work on, at most ten times a second. What is shown is
-/// gone once the work ends. Without a terminal it shows nothing.
+/// Shows the progress of a command on a terminal: from the first second of a piece of work on, at most ten times a second. The line is
+/// erased once the work ends. Without a terminal it shows nothing.
 #[derive(Drop)]
 pub struct Meter<'r, R: Clock, O: Output> {
     rt: &'r R,
@@ -28,9 +28,9 @@ pub struct Meter<'r, R: Clock, O: Output> {
 // Writes the line of a piece of work after so many milliseconds.
 fn write_line<O: Output>(terminal: &mut O, work: Work, millis: u64) {
     let mut reply = Reply::new(terminal);
-    reply.tell(ANEW);
-    reply.tell(b"corekeep ");
-    tell_work(&mut reply, work, millis);
+    reply.print(ANEW);
+    reply.print(b"corekeep ");
+    print_work(&mut reply, work, millis);
     let _ = reply.finish();
 }
 

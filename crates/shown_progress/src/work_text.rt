@@ -1,5 +1,5 @@
-// How far a piece of work is, in words.
-use case_tables::tell_size;
+// The progress of a piece of work, in words.
+use case_tables::print_size;
 use script_streams::{Output, Reply};
 
 const SECOND: u64 = 1_000;
@@ -8,10 +8,10 @@ const MINUTE: u64 = 60;
 
 const HOUR: u64 = 3_600;
 
-/// A piece of work, and how far it is.
+/// A piece of work, and its progress.
 #[derive(Clone, Copy)]
 pub struct Work {
-    /// What is done, as a word of the sentence that `corekeep` begins.
+    /// The work, as a word of the sentence that `corekeep` begins.
     pub name: &'static str,
     /// The bytes of all of it, if that is known.
     pub whole: Option<u64>,
@@ -19,30 +19,31 @@ pub struct Work {
     pub done: u64,
 }
 
-/// Tells what is done of a piece of work after so many milliseconds: the bytes, and their rate; if it is known how many there are,
-/// the share of them and the time that is left, too. Of work that has no bytes so far, and may have none, it tells the name alone.
-pub fn tell_work<O: Output>(reply: &mut Reply<'_, O>, work: Work, millis: u64) {
-    reply.tell(work.name.as_bytes());
+/// Prints the progress of a piece of work after so many milliseconds: the bytes, and their
+/// rate; if the number of bytes is known, also the share that is done and the time that is
+/// left. For work that has no bytes so far, and may have none, it prints only the name.
+pub fn print_work<O: Output>(reply: &mut Reply<'_, O>, work: Work, millis: u64) {
+    reply.print(work.name.as_bytes());
     if work.whole.is_none() && work.done == 0 {
         return;
     }
-    reply.tell(b" ");
-    tell_size(reply, work.done);
+    reply.print(b" ");
+    print_size(reply, work.done);
     if let Some(whole) = work.whole {
-        reply.tell(b" of ");
-        tell_size(reply, whole);
-        reply.tell(b", ");
-        reply.tell_decimal(u128::from(ratio(work.done, 100, whole)));
-        reply.tell(b" %");
+        reply.print(b" of ");
+        print_size(reply, whole);
+        reply.print(b", ");
+        reply.print_decimal(u128::from(ratio(work.done, 100, whole)));
+        reply.print(b" %");
     }
-    reply.tell(b", ");
-    tell_size(reply, ratio(work.done, SECOND, millis));
-    reply.tell(b"/s");
+    reply.print(b", ");
+    print_size(reply, ratio(work.done, SECOND, millis));
+    reply.print(b"/s");
     if let Some(whole) = work.whole {
         let left = whole.saturating_sub(work.done);
-        reply.tell(b", ");
-        tell_time(reply, ratio(left, millis, work.done) / SECOND);
-        reply.tell(b" left");
+        reply.print(b", ");
+        print_time(reply, ratio(left, millis, work.done) / SECOND);
+        reply.print(b" left");
     }
 }
 
@@ -55,20 +56,20 @@ fn ratio(count: u64, factor: u64, by: u64) -> u64 {
     }
 }
 
-// Tells a time in seconds in its two greatest units.
-fn tell_time<O: Output>(reply: &mut Reply<'_, O>, seconds: u64) {
+// Prints a time in seconds in its two largest units.
+fn print_time<O: Output>(reply: &mut Reply<'_, O>, seconds: u64) {
     if seconds < MINUTE {
-        tell_unit(reply, seconds, b" s");
+        print_unit(reply, seconds, b" s");
     } else if seconds < HOUR {
-        tell_unit(reply, seconds / MINUTE, b" min ");
-        tell_unit(reply, seconds % MINUTE, b" s");
+        print_unit(reply, seconds / MINUTE, b" min ");
+        print_unit(reply, seconds % MINUTE, b" s");
     } else {
-        tell_unit(reply, seconds / HOUR, b" h ");
-        tell_unit(reply, seconds % HOUR / MINUTE, b" min");
+        print_unit(reply, seconds / HOUR, b" h ");
+        print_unit(reply, seconds % HOUR / MINUTE, b" min");
     }
 }
 
-fn tell_unit<O: Output>(reply: &mut Reply<'_, O>, count: u64, unit: &[u8]) {
-    reply.tell_decimal(u128::from(count));
-    reply.tell(unit);
+fn print_unit<O: Output>(reply: &mut Reply<'_, O>, count: u64, unit: &[u8]) {
+    reply.print_decimal(u128::from(count));
+    reply.print(unit);
 }

@@ -1,4 +1,4 @@
--- The cores that a folder has.
+-- The cores in a directory.
 use Rattle.std.specs.Prelude.{ℕ, List, map, sum}
 use Rattle.spool.specs.declared.entries.Entry.{Entry}
 

@@ -1,4 +1,4 @@
--- What came of a core, by the reason of its refusal.
+-- The outcome of a core, by the reason of its refusal.
 use Rattle.std.specs.Prelude.{ℕ, Bool, ◌||◌, List, codes, if◌then◌else◌}
 use Rattle.std.specs.Str.{bytes_eq}
 use Rattle.spool.specs.declared.outcomes.Outcome.{Outcome}

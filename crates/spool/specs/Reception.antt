@@ -1,4 +1,4 @@
--- What is promised of a core that is taken into a file.
+-- The promises about a core that is taken into a file.
 use Rattle.std.specs.Prelude.{◌≡◌, ◌≤◌, ◌+◌, ◌⊎◌, nat_lt, nat_le, ℕ, Bool, true, false, List, ◌++◌, length, take, Option, Some, None, Result, Ok, Err, if◌then◌else◌}
 use Rattle.std.specs.Io.KnownBytes.{Consumes}
 use Rattle.whole_files.specs.declared.facts.FileFacts.{FileFacts}
@@ -24,8 +24,8 @@ fits (Some left) n = nat_le n left
 abbrev pub has_room : Room → ℕ → Bool
 has_room room n = fits room.left n
 
--- What is known of the file after a core is not in the spool for this reason: it was made here and has no name but PATH.part, or what
--- `give_name` says.
+-- The facts about the file after a core is not in the spool for this reason: it
+-- was made here and has no name but PATH.part, or they are those of `give_name`.
 abbrev pub LeftSo : NotSpooled → FileFacts → Type 0
 LeftSo (File fault) f = IsUnnamed f
 LeftSo Unread f = IsUnnamed f

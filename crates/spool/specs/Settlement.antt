@@ -1,4 +1,4 @@
--- What is known of a core in the spool after each call.
+-- The known facts about a core in the spool after each call.
 use Rattle.std.specs.Prelude.{◌≡◌, Bool, true, false, not, ◌&&◌, Option, Some, None}
 use Rattle.spool.specs.declared.outcomes.Outcome.{Outcome}
 use Rattle.spool.specs.declared.settlement.SpooledFacts.{SpooledFacts}

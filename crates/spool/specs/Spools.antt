@@ -4,7 +4,7 @@ use Rattle.spool.specs.declared.outcomes.Outcome.TheVariants.{Stored, Busy, File
 use Rattle.spool.specs.declared.fate.Fate.{Fate}
 use Rattle.spool.specs.declared.fate.Fate.TheVariants.{Stay, Go}
 
--- A core that is stored goes, and so does one that is refused for good. One whose refusal may pass stays.
+-- A core that is stored is removed, and a core that is refused for good too. One whose refusal may pass stays.
 abbrev pub spools : Outcome → Fate
 spools Stored = Go
 spools Busy = Stay
@@ -25,7 +25,7 @@ spools Burst = Go
 spools Limit = Go
 spools Name = Go
 
--- A refusal for good: what it is for is in the core or in its words, and no archive takes it.
+-- A refusal for good: its reason is in the core or in its words, and no archive takes it.
 pub data NeverPasses : Outcome → Type 0 where
   too_long : NeverPasses TooLong
   short : NeverPasses Short

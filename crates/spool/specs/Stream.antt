@@ -10,7 +10,7 @@ pub record PassesOn (xs : List ℕ) (n : ℕ) (old new : Option (List ℕ)) (hel
   pub written : Appends old new (take n xs)
   pub rest : Consumes (Some xs) left (take n xs ++ held)
 
--- What an end says: nothing is left of a stream that has ended, and nothing is held where as many bytes went on as were wanted.
+-- The meaning of an end: nothing is left of a stream that has ended, and nothing is held if as many bytes went on as were wanted.
 abbrev pub EndsAt : End → ℕ → ℕ → List ℕ → Option (List ℕ) → Type 0
 EndsAt Whole n most held left = (held ≡ []) × IsAtEnd left
 EndsAt Most n most held left = (held ≡ []) × (n ≡ most)

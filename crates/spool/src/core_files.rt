@@ -1,5 +1,5 @@
-// The files of a core in the spool, as the operating system has them. No clause says what the system does: so this file has to be read. Each method
-// makes one call, and notes what is known then.
+// The files of a core in the spool, as the operating system has them. No clause can describe the system, so this file must be read with care. Each
+// method makes one call, and notes the facts that are known then.
 use crate::outcomes::Outcome;
 use crate::settlement::{Spooled, SpooledFacts};
 use crate::spool_name::Stage;
@@ -56,7 +56,7 @@ fn is_free<R: Files<File = File>>(rt: &R, path: &str) -> bool {
 impl<'a, R: Files<File = File>> Spooled for CoreFiles<'a, R> {
     ghost facts = { λ f. f.facts };
 
-    fn tell(&mut self, outcome: Outcome) {
+    fn print(&mut self, outcome: Outcome) {
         self.facts.outcome = Some(outcome);
     }
 

@@ -1,11 +1,11 @@
-// What a folder has of the spool.
+// The spool's entries in a directory.
 ghost use Rattle.std.specs.Prelude.{◌≡◌, min, ◌^◌, ◌-◌, IsPermutation};
 ghost use Rattle.std.specs.List.Sorted.{IsNonDecreasingBy};
 ghost use Rattle.spool.specs.Entries.{bytes_sum};
 
 use crate::spool_name::{SpoolName, Stage};
 
-/// A core that a folder has, or the words of one.
+/// A core in a directory, or the words of one.
 #[derive(Clone, Copy, Debug, PartialEq, Eq)]
 pub struct Entry {
     /// The core's name.

@@ -1,10 +1,10 @@
-// What stays of a core in the spool.
+// The files of a core that stay in the spool.
 ghost use Rattle.std.specs.Prelude.{◌≡◌};
 ghost use Rattle.spool.specs.Spools as spec;
 
 use crate::outcomes::Outcome;
 
-/// What becomes of the files of a core after it was to be stored.
+/// The fate of the files of a core after the attempt to store it.
 #[derive(Clone, Copy, Debug, PartialEq, Eq)]
 pub enum Fate {
     /// Both stay.
@@ -13,7 +13,7 @@ pub enum Fate {
     Go,
 }
 
-/// What becomes of the files after this outcome.
+/// The fate of the files after this outcome.
 pub fn fate_of(outcome: Outcome) -> Fate
     ensures { result ≡ spec.spools outcome }
 {

@@ -1,4 +1,5 @@
-// The folder of the spool, as the operating system has it. No clause says what the system does: so this file has to be read.
+// The directory of the spool, as the operating system has it. No
+// clause can describe the system, so this file must be read with care.
 use crate::entries::Entry;
 use crate::spool_name::SpoolName;
 use std::alloc::Global;
@@ -10,12 +11,12 @@ use std::{fs, io};
 // The rights of the group and of others.
 const OTHERS: u32 = 0o077;
 
-/// Why a folder is no spool.
+/// Why a directory can't be a spool.
 #[derive(Clone, Copy, Debug, PartialEq, Eq)]
 pub enum FolderFault {
-    /// There is none.
+    /// The directory does not exist.
     Missing,
-    /// It is no folder, or a link to one.
+    /// It is no directory, or a link to one.
     NoFolder,
     /// Others than its owner may enter it.
     Shared,
@@ -23,7 +24,7 @@ pub enum FolderFault {
     Foreign,
 }
 
-/// Why a folder is no spool, if it is none.
+/// Why a directory cannot be a spool, or `None` if it can.
 pub fn folder_fault<R: Files<File = File>>(rt: &R, path: &str) -> Option<FolderFault> {
     let Ok(about) = fs::symlink_metadata(rt, path) else {
         return Some(FolderFault::Missing);
@@ -40,7 +41,7 @@ pub fn folder_fault<R: Files<File = File>>(rt: &R, path: &str) -> Option<FolderF
     }
 }
 
-/// What a folder has of the spool, in no order.
+/// The spool's entries in a directory, in no order.
 #[derive(Drop)]
 pub struct Listing {
     /// Its cores.
@@ -61,7 +62,7 @@ impl Listing {
     }
 }
 
-/// What a folder has of the spool. Files of other names are left alone, and so are links and folders.
+/// The spool's entries in a directory. Files with other names are left alone, and so are links and directories.
 pub fn entries_in<R: Files<File = File> + AllocGlobal + Clone + Drop>(
     rt: &R,
     folder: &str,
@@ -72,7 +73,7 @@ pub fn entries_in<R: Files<File = File> + AllocGlobal + Clone + Drop>(
     };
     for found in read_dir(rt, folder)? {
         let found = found?;
-        // One that has gone meanwhile is none.
+        // One that has gone meanwhile does not count.
         let Ok(about) = found.metadata() else {
             continue;
         };

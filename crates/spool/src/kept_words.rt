@@ -22,7 +22,8 @@ pub fn words_text(alloc: Global, line: &[u8], length: Option<u64>) -> Result<Vec
     Ok(text)
 }
 
-/// Reads the text of such a file: the line, and the length. What was written so reads back as the same words.
+/// Reads the text of such a file: the line, and the length. Words
+/// that were written this way are read back as the same words.
 pub fn read_words(text: &[u8]) -> Option<(&[u8], Option<u64>)>
     ensures back { (line : List ℕ) → (length : Option ℕ) → HasNoNewline line → IsLength length
         → text.now ≡ words_text line length → ReadsAs line length (option_map (λ p. (p.0.now, p.1)) result) }

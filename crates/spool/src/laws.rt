@@ -1,4 +1,4 @@
-//! What holds of the table of fates.
+//! Laws of the table of fates.
 ghost use Rattle.std.specs.Prelude.{◌≡◌, ◌≢◌, ◌⊎◌};
 ghost use Rattle.spool.specs.Spools.{spools, MayPass, NeverPasses};
 ghost use Rattle.spool.specs.declared.outcomes.Outcome.{Outcome};

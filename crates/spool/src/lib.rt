@@ -1,5 +1,5 @@
-//! A core goes to a spool first, a folder in which it waits for its archive: how it gets there, what of it stays after it was to be stored, and
-//! what a folder has.
+//! A core goes to a spool first, a directory in which it waits for its archive: how it gets there, which files of it stay after the attempt to
+//! store it, and the spool's entries in a directory.
 #![tactic(auto)]
 
 mod core_files;

@@ -1,8 +1,8 @@
-// What came of a core that was to be stored.
+// The outcome of the attempt to store a core.
 ghost use Rattle.std.specs.Prelude.{◌≡◌};
 ghost use Rattle.spool.specs.Outcomes as spec;
 
-/// What came of a core that was to be stored from the spool.
+/// The outcome of the attempt to store a core from the spool.
 #[derive(Clone, Copy, Debug, PartialEq, Eq)]
 pub enum Outcome {
     /// It is stored.
@@ -43,8 +43,7 @@ pub enum Outcome {
     Name,
 }
 
-/// What came of it, by the reason of the refusal as a reply has it, whose further words don't count. If cases may go for it, no room is left
-/// even so.
+/// The outcome, by the reason of the refusal in a reply, whose further words don't count. If cases may go for it, no room is left even so.
 pub fn outcome_of(reason: &str, makes_room: bool) -> Outcome
     ensures { result ≡ spec.outcome_of reason.now makes_room }
 {

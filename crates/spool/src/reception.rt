@@ -46,7 +46,7 @@ pub struct Room {
 }
 
 impl Room {
-    // How many bytes are read at most: one more than fit tells that there is no room.
+    // How many bytes are read at most: one more than fit shows that there is no room.
     fn ceiling(self) -> u64
         ensures { result ≡ ceiling_of self }
     {
@@ -67,8 +67,8 @@ impl Room {
     }
 }
 
-/// Makes an empty file under PATH.part, for its owner alone, and has its lock. A file that is there stays, and so does one that could not be
-/// locked.
+/// Makes an empty file under PATH.part, for its owner alone, and locks it. If a
+/// file is there already it stays, and so does a file that could not be locked.
 pub fn begin_part<P: NewFile>(file: &mut P) -> Result<(), FileFault>
     ensures made { OnOk result (IsMade (P.facts file.new)) }
     ensures locked { OnOk result ((P.facts file.new).is_locked ≡ true) }
@@ -151,7 +151,8 @@ pub fn discard<P: NewFile>(file: &mut P, why: NotSpooled)
     }
 }
 
-/// The whole stream of a core that is not in the spool: what its file has, what was read of it besides, and what is still to come.
+/// The whole stream of a core that is not in the spool: the bytes of its file,
+/// the bytes that were read of it besides, and those that are still to come.
 pub fn rest_of<'a, F: Read, I: Read>(
     front: F,
     bytes: u64,

@@ -1,4 +1,4 @@
-// What stays of a core after it was to be stored, and what goes.
+// The files of a core that stay after the attempt to store it, and those that are removed.
 ghost use Rattle.std.specs.Prelude.{◌≡◌, is_ok, true, false, OnOk, IfOk};
 ghost use Rattle.spool.specs.Settlement.{told, sought, core_removed_if, words_removed_if, IsLetGo, WordsSettled};
 ghost use Rattle.spool.specs.Spools.{spools};
@@ -9,10 +9,10 @@ use crate::fate::{Fate, fate_of};
 use crate::outcomes::Outcome;
 use std::io;
 
-/// What is known of a core in the spool, by the calls that were made on its files.
+/// The known facts about a core in the spool, by the calls that were made on its files.
 #[derive(Clone, Copy)]
 pub struct SpooledFacts {
-    /// What came of it when it was to be stored the last time.
+    /// The outcome of the last attempt to store it.
     pub outcome: Option<Outcome>,
     /// The removal of its core was never asked for, or has failed, and no look has shown that its core is gone.
     pub has_core: bool,
@@ -25,11 +25,11 @@ pub struct SpooledFacts {
 /// A core in the spool: its file and that of its words. Each method is one call of the operating system, or a note. The `requires` say what has to
 /// have come before: a core is removed only after an outcome that lets it go, and its words only once it is gone, so that a core always has its words.
 pub trait Spooled {
-    /// What is known of it.
+    /// The known facts about it.
     ghost facts: { Self → SpooledFacts };
 
-    /// Notes what came of it when it was to be stored.
-    fn tell(&mut self, outcome: Outcome)
+    /// Notes the outcome of the attempt to store it.
+    fn print(&mut self, outcome: Outcome)
         ensures told { facts self.new ≡ told outcome (facts self.old) };
 
     /// Looks for its core, first under the name that it has until it is whole, and then under the other: it gets that one before it loses the
@@ -48,7 +48,7 @@ pub trait Spooled {
         ensures facts { facts self.new ≡ words_removed_if (is_ok result) (facts self.old) };
 }
 
-/// Leaves a core in the spool or removes it, by what came of it when it was to be stored, and says which.
+/// Leaves a core in the spool or removes it, by the outcome of the attempt to store it, and returns which.
 ///
 /// # Errors
 ///
@@ -59,7 +59,7 @@ pub fn settle<S: Spooled>(spooled: &mut S, outcome: Outcome) -> io::Result<Fate>
     ensures core { spools outcome ≡ Go → OnOk result ((S.facts spooled.new).has_core ≡ false) }
     ensures words { spools outcome ≡ Go → OnOk result ((S.facts spooled.new).has_words ≡ false) }
 {
-    spooled.tell(outcome);
+    spooled.print(outcome);
     match fate_of(outcome) {
         Fate::Stay => Ok(Fate::Stay),
         Fate::Go => {

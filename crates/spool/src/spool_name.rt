@@ -5,7 +5,7 @@ ghost use Rattle.spool.specs.Names as spec;
 use script_words::parse_number;
 use std::alloc::{AllocError, Global};
 
-/// How far a core is, or its words: a file has another name until it is whole.
+/// The stage of a core, or of its words: a file has another name until it is whole.
 #[derive(Clone, Copy, Debug, PartialEq, Eq)]
 pub enum Stage {
     /// It is on its way, or was cut on it.
@@ -52,7 +52,7 @@ impl SpoolName {
         format!(in alloc; "{}.{}.words.part", self.stamp, self.pid)
     }
 
-    /// What has this name, if a core has it.
+    /// The core with this file name, and its stage, if a core has the name.
     pub fn read(alloc: Global, name: &str) -> Option<(SpoolName, Stage)>
         ensures { IfSome result (λ found. name.now ≡ spec.name_of found.0 found.1) }
     {
@@ -65,7 +65,8 @@ impl SpoolName {
         }
     }
 
-    /// What has this name, if the words of a core have it. A file of any other name is none of the spool's.
+    /// The core whose words have this file name, and their stage. A
+    /// file with any other name is none of the spool's words.
     pub fn read_words(alloc: Global, name: &str) -> Option<(SpoolName, Stage)>
         ensures { IfSome result (λ found. name.now ≡ spec.words_of found.0 found.1) }
     {
@@ -99,7 +100,7 @@ fn written_words(alloc: Global, name: SpoolName, stage: Stage) -> Result<String,
     }
 }
 
-// What may have this name, which has this end once its file is whole.
+// The core that may have this file name, whose file has this end once it is whole.
 fn read_loosely(name: &str, end: &str) -> Option<(SpoolName, Stage)> {
     let (whole, stage) = match name.strip_suffix(".part") {
         Some(whole) => (whole, Stage::Part),

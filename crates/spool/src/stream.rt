@@ -58,7 +58,7 @@ pub fn pass_on<I: Read, W: Write>(
     }
 }
 
-// Passes a piece of a stream on, of at most so many bytes. Says how many bytes went on, and why no more follow.
+// Passes a piece of a stream on, of at most so many bytes. Returns how many bytes went on, and why no more follow.
 fn pass_piece<I: Read, W: Write>(
     input: &mut I,
     writer: &mut W,
@@ -84,7 +84,7 @@ fn pass_piece<I: Read, W: Write>(
     }
 }
 
-// Writes bytes, in as many writes as it takes. Says how many of them were taken.
+// Writes bytes, in as many writes as it takes. Returns how many of them were taken.
 fn send<W: Write>(writer: &mut W, bytes: &[u8]) -> (usize, Result<(), FileFault>)
     ensures count { result.0 ≤ length bytes.now }
     ensures written { Appends (W.contents writer.old) (W.contents writer.new) (take result.0 bytes.now) }

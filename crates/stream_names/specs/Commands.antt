@@ -12,7 +12,7 @@ stream_begun s = record {
   blocks = [];
 }
 
--- the stream, or what is wrong with its name
+-- the stream, or the fault of its name
 abbrev pub stream_found : Result NewStream (Bor (List ℕ)) → Result StreamFacts (List ℕ)
 stream_found (Ok stream) = Ok (stream_begun stream)
 stream_found (Err reason) = Err reason.now

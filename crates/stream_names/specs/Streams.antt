@@ -1,4 +1,4 @@
--- The streams that lines begin, and what is wrong with their names.
+-- The streams that lines begin, and the faults of their names.
 use Rattle.std.specs.Prelude.{ℕ, ◌==◌, nat_lt, List, [], length, Option, None, Some, Result, Ok, Err, codes, if◌then◌else◌}
 use Rattle.std.specs.List.{list_any}
 use Rattle.std.specs.Borrow.{Bor}
@@ -12,7 +12,7 @@ use Rattle.name_template.specs.declared.template.NameFault.TheVariants as name
 use Rattle.script_lines.specs.Said.{ProcessSaid}
 use Rattle.stream_names.specs.declared.naming.Naming.{Naming}
 
--- what is wrong with a name that a line gives: it has more than 128 bytes, or a NUL
+-- the fault of a name that a line gives: it has more than 128 bytes, or a NUL
 abbrev pub name_fault : List ℕ → Option (List ℕ)
 name_fault name =
     if nat_lt 128 (length name) then Some (codes "TooLong")
@@ -31,16 +31,16 @@ new_core process name = record {
   blocks = [];
 }
 
--- the stream, or what is wrong with its name
+-- the stream, or the fault of its name
 abbrev pub exec_unless : List ℕ → Option (List ℕ) → Result StreamFacts (List ℕ)
 exec_unless name None = Ok (new_exec name)
 exec_unless name (Some reason) = Err reason
 
--- what `begin exec` begins
+-- the stream that `begin exec` begins
 abbrev pub exec_stream : List ℕ → Result StreamFacts (List ℕ)
 exec_stream name = exec_unless name (name_fault name)
 
--- a text in memory. Where it lies there is looked at nowhere.
+-- a text in memory. Nothing depends on its address.
 abbrev pub lent : List ℕ → Bor (List ℕ)
 lent text = record { ref_ptr = (0, 0); now = text }
 
@@ -64,7 +64,7 @@ facts_of process = record {
 abbrev pub core_name : Naming → ProcessSaid → Result (List ℕ) NameFault
 core_name naming process = name_of (expansion (template_bytes naming.template) (facts_of process) naming.uses_pid)
 
--- the name that a template's refusal is told by
+-- the name of a template's refusal in replies
 abbrev pub name_reason : NameFault → List ℕ
 name_reason name.Empty = codes "Empty"
 name_reason name.TooLong = codes "TooLong"
@@ -74,6 +74,6 @@ abbrev pub core_unless : ProcessSaid → Result (List ℕ) NameFault → Result 
 core_unless process (Ok name) = Ok (new_core process name)
 core_unless process (Err fault) = Err (name_reason fault)
 
--- what `begin core` begins
+-- the stream that `begin core` begins
 abbrev pub core_stream : Naming → ProcessSaid → Result StreamFacts (List ℕ)
 core_stream naming process = core_unless process (core_name naming process)

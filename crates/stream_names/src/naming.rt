@@ -8,7 +8,7 @@ pub struct Naming {
     pub template: Template,
     /// Whether `.` and the process are added to a name whose template does not show the process.
     pub uses_pid: bool,
-    /// Whether the lines over a core's memory look for executables under the names of the builds that the core tells, and not under
-    /// those of its paths alone.
+    /// Whether the lines over a core's memory look for executables also under the names of the builds that the core gives, and not
+    /// only under those of its paths.
     pub by_build: bool,
 }

@@ -10,7 +10,7 @@ use journal_layout::{Kind, Name};
 use name_template::{Facts, NameFault};
 use script_lines::{NameWord, Process, ProcessWords};
 
-/// The stream that `begin exec` begins, or what is wrong with its name, as a reply tells it: `TooLong` over 128 bytes, then
+/// The stream that `begin exec` begins, or the fault of its name, as a reply has it: `TooLong` over 128 bytes, then
 /// `NulByte`.
 pub fn exec_stream(word: &NameWord) -> Result<NewStream, &'static [u8]>
     ensures refused_or_begun { stream_found result ≡ exec_stream (name_text word.now) }
@@ -31,7 +31,7 @@ pub fn exec_stream(word: &NameWord) -> Result<NewStream, &'static [u8]>
     })
 }
 
-/// The stream that `begin core` begins, named by the template, or what is wrong with its name, as a reply tells it: `Empty`,
+/// The stream that `begin core` begins, named by the template, or the fault of its name, as a reply has it: `Empty`,
 /// `TooLong`, `NulByte`.
 pub fn core_stream(told: &ProcessWords<'_>, naming: &Naming) -> Result<NewStream, &'static [u8]>
     ensures refused_or_begun { stream_found result ≡ core_stream naming.now (process_told told.now) }
@@ -39,7 +39,7 @@ pub fn core_stream(told: &ProcessWords<'_>, naming: &Naming) -> Result<NewStream
     process_stream(&told.read(), naming)
 }
 
-// The stream that is begun of a process's core, or what is wrong with its name.
+// The stream for a process's core, or the fault of its name.
 fn process_stream(process: &Process, naming: &Naming) -> Result<NewStream, &'static [u8]>
     ensures { stream_found result ≡ core_stream naming.now (process_of process.now) }
 {
@@ -76,7 +76,7 @@ fn core_name(process: &Process, naming: &Naming) -> Result<Name, NameFault>
     naming.template.expand(&facts, naming.uses_pid)
 }
 
-// The name that a template's refusal is told by.
+// The name of a template's refusal in replies.
 fn name_reason(fault: NameFault) -> &'static [u8]
     ensures { result.now ≡ name_reason fault }
 {

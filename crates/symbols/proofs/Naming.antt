@@ -1,14 +1,17 @@
 -- The one named is named by the relation, and there is one at most; it doesn't hang on the order of the list.
-use Rattle.std.proofs.Common.{◌≡◌, ◌<◌, ℕ, Bool, true, false, cond, List, [], ◌∷◌, Option, Some, None, All, MatchOption, ltb, eqb, refl, sym, ap, ⊎_elim, ◌∙◌, arith}
+use Rattle.std.proofs.Common.{◌≡◌, ◌≢◌, ◌+◌, ◌≤◌, ◌<◌, ◌&&◌, ◌||◌, ℕ, Bool, true, false, cond, List, [], ◌∷◌, Option, Some, None, All, Contains, MatchOption, IsTrue, ltb, leb, eqb, refl, sym, ap, ⊎_elim, ◌∙◌, arith}
 use Rattle.std.proofs.Math.Logic.{∥∥₁_elim}
 use Rattle.std.proofs.Props.{props}
 use Rattle.std.proofs.lemmas.Bool.{false≢true, ltb-true, lt-ltb, eqb-true, eq-eqb, ne_eqb, cases_order}
+use Rattle.std.proofs.lemmas.Bool.Decides.{nat_tests}
 use Rattle.std.proofs.lemmas.List.Elements.{All-nil, All-cons, All-weaker, All-contains, All-map, Contains-append_right}
 use Rattle.std.proofs.lemmas.List.Sorted.{All-permutation, Contains-permutation, IsPermutation-sym}
 use Rattle.std.specs.List.Sorted.{IsPermutation}
 use Rattle.std.specs.List.{range_with_len, filter}
+use Rattle.std.specs.Option.{option_map}
 use Rattle.symbols.specs.Covering.{covers, is_before, nearer, named, IsNamed, IsUnnamed}
 use Rattle.symbols.specs.Entry.{functions_of, function_at, is_function, entry_count}
+use Rattle.symbols.specs.Names.{SymbolView, shown, symbol_named}
 use Rattle.symbols.specs.declared.functions.Function.{Function}
 
 -- f is before g: by value, by rank, by index
@@ -157,3 +160,43 @@ same_answer d v fs (Some f) (Some g) moved x y =
 pub named_permuted : (d : List ℕ) (fs : List Function) → ∥ IsPermutation (functions_of d) fs ∥₁ → (v : ℕ) → named v fs ≡ named v (functions_of d)
 named_permuted d fs moved v =
     ∥∥₁_elim moved (hlevel props) (λ m. same_answer d v fs (named v fs) (named v (functions_of d)) m (named_is v fs) (named_is v (functions_of d)))
+
+-- the value and the end of the symbol that is shown, if there is one
+abbrev value_of : Option SymbolView → ℕ
+value_of None = 0
+value_of (Some s) = s.value
+
+abbrev end_of : Option SymbolView → ℕ
+end_of None = 0
+end_of (Some s) = s.value + s.size
+
+none_shown : (s : SymbolView) → ◌≡◌ {A = Option SymbolView} None (Some s) → ⊥
+none_shown s e = cc
+
+-- a function covers none past its end
+not_past : (a n v : ℕ) → a < v → a + n ≤ v → (leb a v && (ltb v (a + n) || eqb v a)) ≡ true → ⊥
+not_past a n v above past h = grind (arith, nat_tests)
+
+ended_in : (strings : List ℕ) (fs : List Function) (v : ℕ) (s : SymbolView) (o : Option Function) → Answers v fs o
+    → s.value < v → s.value + s.size ≤ v → option_map (shown strings) o ≡ Some s → ⊥
+ended_in strings fs v s None is above past e = none_shown s e
+ended_in strings fs v s (Some f) is above past e =
+    let start : f.value ≡ s.value = ap value_of e in
+    let end : f.value + f.size ≡ s.value + s.size = ap end_of e in
+    not_past f.value f.size v (omega arith) (omega arith) is.covering
+
+below_in : (strings : List ℕ) (fs : List Function) (v : ℕ) (f : Function) (s : SymbolView) (o : Option Function) → Answers v fs o
+    → Contains fs f → IsTrue (covers v f) → s.value < f.value → option_map (shown strings) o ≡ Some s → ⊥
+unfolding is_before
+below_in strings fs v f s None is among covered below e = none_shown s e
+below_in strings fs v f s (Some g) is among covered below e =
+    let start : g.value ≡ s.value = ap value_of e in
+    All-contains (NoneBefore v g) fs f is.first among covered
+    (test_of f.value f.rank f.index g.value g.rank g.index (by_value (omega arith)))
+
+-- a function that ended is not named, nor one below another that covers the address
+pub named_not_ended : (strings : List ℕ) (fs : List Function) (v : ℕ) (s : SymbolView) → s.value < v → s.value + s.size ≤ v → symbol_named strings fs v ≢ Some s
+named_not_ended strings fs v s = ended_in strings fs v s (named v fs) (named_is v fs)
+
+pub named_not_below : (strings : List ℕ) (fs : List Function) (v : ℕ) (f : Function) (s : SymbolView) → Contains fs f → IsTrue (covers v f) → s.value < f.value → symbol_named strings fs v ≢ Some s
+named_not_below strings fs v f s = below_in strings fs v f s (named v fs) (named_is v fs)

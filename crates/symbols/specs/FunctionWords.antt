@@ -1,4 +1,4 @@
--- What the code's iterator over functions means.
+-- The meaning of the code's iterator over functions.
 use Rattle.std.specs.Prelude.{◌-◌, List}
 use Rattle.symbols.specs.Entry.{functions_between}
 use Rattle.symbols.specs.declared.functions.Function.{Function}

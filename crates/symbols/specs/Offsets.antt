@@ -7,7 +7,7 @@ use Rattle.elf_view.specs.Header.{SegmentView, segments_of}
 abbrev pub has_offset : ℕ → SegmentView → Bool
 has_offset offset s = s.kind == 1 && nat_le s.offset offset && nat_lt offset (s.offset + s.filesz)
 
--- the address of that byte, where it is one
+-- the address of that byte, if it has one
 abbrev pub address_in : ℕ → SegmentView → Option ℕ
 address_in offset s =
     if nat_lt (s.vaddr + (offset - s.offset)) (2 ^ 64) then Some (s.vaddr + (offset - s.offset)) else None

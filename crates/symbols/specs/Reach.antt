@@ -2,11 +2,11 @@
 use Rattle.std.specs.Prelude.{ℕ, ◌+◌, ◌-◌, ◌^◌, nat_lt, min, max, Bool, false, List, [], ◌∷◌, Option, None, Some}
 use Rattle.symbols.specs.declared.functions.Function.{Function}
 
--- the last address that a function covers, the greatest of all if it passes that
+-- the last address that a function covers, or the highest address of all if it exceeds that
 abbrev pub last_of : Function → ℕ
 last_of f = min (f.value + (f.size - 1)) (2 ^ 64 - 1)
 
--- of each function the greatest last address among it, those before it, and one given
+-- for each function the highest last address among it, those before it, and a given one
 abbrev pub greatest_ends : ℕ → List Function → List ℕ
 greatest_ends m [] = []
 greatest_ends m (f ∷ fs) = max (last_of f) m ∷ greatest_ends (max (last_of f) m) fs

@@ -18,7 +18,7 @@ use Rattle.symbols.specs.declared.functions.Function.{Function}
 abbrev pub fault_at : SymbolField → ℕ → SymbolFault
 fault_at f i = record { «field» = f; index = i }
 
--- how many sections there are, none where that is at fault
+-- how many sections there are, or 0 if that number is bad
 abbrev pub count_of_sections : List ℕ → ℕ
 count_of_sections b = result_unwrap_or (section_count_of b) 0
 
@@ -37,7 +37,7 @@ first_of_kind b kind = find (is_kind b kind) (range_with_len 0 (count_of_section
 unfoldable pub table_number : List ℕ → Option ℕ
 table_number b = option_or (first_of_kind b 2) (first_of_kind b 11)
 
--- a section's bytes, where they all lie in the image
+-- a section's bytes, if they all lie in the image
 abbrev pub section_bytes : List ℕ → ℕ → List ℕ
 section_bytes b i = unwrap_or (section_at b i).bytes []
 
@@ -107,7 +107,7 @@ section_fault (Err sections.EShentsize) = Some (fault_at EShentsize 0)
 section_fault (Err sections.EShoff) = Some (fault_at EShoff 0)
 section_fault (Err sections.NoSection) = None
 
--- the first fault of the symbol table that is section i; where there is no such table there is no fault
+-- the first fault of the symbol table that is section i; without such a table there is no fault
 abbrev pub table_fault : List ℕ → Option ℕ → Option SymbolFault
 table_fault b None = None
 table_fault b (Some i) = first_failing (table_checks b i)

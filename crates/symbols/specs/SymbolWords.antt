@@ -1,4 +1,4 @@
--- What the code's symbols mean.
+-- The meaning of the code's symbols.
 use Rattle.std.specs.Prelude.{ℕ, List, Option, None, Some, Result, Ok, Err}
 use Rattle.symbols.specs.Entry.{functions_of}
 use Rattle.symbols.specs.Names.{SymbolView}

@@ -62,7 +62,7 @@ fn is_past(best: Option<Function>, function: Function) -> bool
 }
 
 /// The function that gives an address its name among the first `count` of functions that are sorted by value. Each comes
-/// with the greatest address that one up to it covers. It searches down from the last as far as one may cover the address.
+/// with the highest address that one up to it covers. It searches down from the last as far as one may cover the address.
 fn named_among(functions: &[Function], ends: &[u64], count: usize, address: u64) -> Option<Function>
     requires ordered { IsNonDecreasingBy (λ f. f.value) functions.now }
     requires reach { ends.now ≡ greatest_ends 0 functions.now }
@@ -85,7 +85,7 @@ fn named_among(functions: &[Function], ends: &[u64], count: usize, address: u64)
     best
 }
 
-/// The function that gives an address its name among functions that are sorted by value. Each comes with the greatest
+/// The function that gives an address its name among functions that are sorted by value. Each comes with the highest
 /// address that one up to it covers.
 pub(crate) fn named(functions: &[Function], ends: &[u64], address: u64) -> Option<Function>
     requires ordered { IsNonDecreasingBy (λ f. f.value) functions.now }

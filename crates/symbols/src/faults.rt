@@ -59,7 +59,7 @@ impl SymbolField {
 #[derive(Clone, Copy, Debug, PartialEq, Eq, Error)]
 #[error("{field} {index}")]
 pub struct SymbolFault {
-    /// The field at fault.
+    /// The bad field.
     pub field: SymbolField,
     /// The number of the section, for `StName` that of the symbol, and for the fields of the header 0.
     pub index: u64,

@@ -14,6 +14,6 @@ mod sorted;
 mod tables;
 
 pub use faults::{SymbolError, SymbolFault, SymbolField};
-pub use laws::the_nearest_covering_function_is_named;
+pub use laws::{no_function_is_named_past_its_end, the_nearest_covering_function_is_named};
 pub use names::{Symbol, Symbols};
 pub use offsets::vaddr_of_offset;

@@ -39,7 +39,7 @@ pub struct Symbols<'a> {
     ghost whole: { ∥ IsPermutation (functions_of entries.now) functions.items ∥₁ },
     /// They are sorted by value.
     ghost ordered: { IsNonDecreasingBy (λ (f : numbers.Function). f.value) functions.items },
-    /// For each, the greatest address that one up to it covers.
+    /// For each, the highest address that one up to it covers.
     ghost reach: { ends.items ≡ greatest_ends 0 functions.items },
 }
 
@@ -82,7 +82,7 @@ impl<'a> Symbols<'a> {
     }
 
     /// The function that covers an address of the image: its value is the address, or the address is one of the `size`
-    /// from there on. Of several it is the one with the greatest value, then by binding (GLOBAL, WEAK, LOCAL, others),
+    /// from there on. If several do, it is the one with the highest value, then by binding (GLOBAL, WEAK, LOCAL, others),
     /// then the first in the table.
     pub fn lookup(&self, address: u64) -> Option<Symbol<'a>>
         ensures { option_map symbol_view result

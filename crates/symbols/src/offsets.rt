@@ -17,7 +17,7 @@ fn has_offset(segment: &Segment<'_>, offset: u64) -> bool
 }
 
 /// The address, in the image's own numbering, of the byte at an offset of the file: that in the first PT_LOAD whose bytes
-/// in the file have it. There is none where no such segment has it, or where it is over 2^64 - 1.
+/// in the file have it. `None` if no such segment has it, or if it is over 2^64 - 1.
 pub fn vaddr_of_offset(elf: &Elf<'_>, offset: u64) -> Option<u64>
     ensures { result ≡ spec.address_of (image_of elf.now) offset }
 {

@@ -1,4 +1,4 @@
-// The functions of a table sorted by value, each with the greatest address that one up to it covers.
+// The functions of a table sorted by value, each with the highest address that one up to it covers.
 ghost use Rattle.std.specs.Prelude.{◌≡◌, IfOk};
 ghost use Rattle.std.specs.List.Sorted.{IsNonDecreasingBy, IsPermutation};
 ghost use Rattle.symbols.specs.Entry as entry;
@@ -38,7 +38,7 @@ fn last_of(function: Function) -> u64
         .saturating_add(function.size.saturating_sub(1))
 }
 
-/// The greatest last address among each function and those before it.
+/// For each function the highest last address among it and those before it.
 pub(crate) fn greatest_ends(alloc: Global, functions: &[Function]) -> Result<Vec<u64>, AllocError>
     ensures { IfOk result (λ v. v.items ≡ reach.greatest_ends 0 functions.now) }
 {

@@ -126,7 +126,7 @@ fn table_at<'a>(elf: &Elf<'a>, count: u64, i: u64) -> Result<Table<'a>, SymbolFa
     Ok(Table { entries, strings })
 }
 
-/// The symbol table among `count` sections, an empty one where there is none.
+/// The symbol table among `count` sections, or an empty one if there is no symbol table.
 fn find_table<'a>(elf: &Elf<'a>, count: u64) -> Result<Table<'a>, SymbolFault>
     requires { section_count_of (image_of elf.now) ≡ Ok count }
     ensures fault { result_err result ≡ spec.table_fault (image_of elf.now) (spec.table_number (image_of elf.now)) }
@@ -142,7 +142,7 @@ fn find_table<'a>(elf: &Elf<'a>, count: u64) -> Result<Table<'a>, SymbolFault>
     }
 }
 
-/// Whether the strings have a NUL at a place or after it, where the last is at `last`.
+/// Whether the strings have a NUL at a place or after it, if the last is at `last`.
 fn is_ended(strings: &[u8], last: Option<usize>, place: u32) -> bool
     requires { IsLastByte (is_byte 0) strings.now last }
     ensures { result ≡ spec.ends_in_nul strings.now place }

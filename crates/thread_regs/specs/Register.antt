@@ -1,4 +1,4 @@
--- The registers of RISC-V 64 by number and by name (the RISC-V psABI, "Integer Register Convention"), and where a
+-- The registers of RISC-V 64 by number and by name (the RISC-V psABI, "Integer Register Convention"), and the places where a
 -- thread's state holds them. Numbers 0 to 31 are x0 to x31, and 32 is pc.
 use Rattle.std.specs.Prelude.{ℕ, ◌==◌, if◌then◌else◌, List, [], ◌∷◌, Option, None, Some, position, codes}
 use Rattle.std.specs.Option.{option_or, option_map_or}

@@ -1,4 +1,4 @@
--- What the code's registers mean.
+-- The meaning of the code's registers.
 use Rattle.std.specs.Prelude.{ℕ}
 use Rattle.thread_regs.specs.declared.registers.Reg.{Reg}
 

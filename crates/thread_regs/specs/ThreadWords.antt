@@ -1,4 +1,4 @@
--- What the code's threads, and an iterator over them, mean: the descriptors of their states.
+-- The meaning of the code's threads, and of an iterator over them: the descriptors of their states.
 use Rattle.std.specs.Prelude.{ℕ, List}
 use Rattle.core_notes.specs.DescriptorWords.{status_bytes}
 use Rattle.core_notes.specs.CoreWords.{statuses_left}

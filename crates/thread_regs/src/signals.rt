@@ -22,7 +22,7 @@ fn numbered_name(number: usize) -> Option<&'static str>
     Some(name_at(&SIGNAL_NAMES, number - 1))
 }
 
-/// The name of a signal, without SIG; `None` where it is not from 1 to 31.
+/// The name of a signal, without SIG; `None` if it is not from 1 to 31.
 pub fn signal_name(signal: i32) -> Option<&'static str>
     ensures { option_copied result ≡ spec.name_of_signal signal }
 {

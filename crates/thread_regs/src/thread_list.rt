@@ -50,7 +50,7 @@ impl<'a> Iterator for ThreadList<'a> {
 }
 
 impl<'a> ThreadList<'a> {
-    /// The thread that is `i` places on, or `None` where there are fewer.
+    /// The thread that is `i` places on, or `None` if there are fewer.
     pub fn thread(&self, i: u64) -> Option<Thread<'a>>
         ensures { option_map thread_bytes result ≡ slice_get (threads_left self.now) i }
     {
@@ -63,7 +63,7 @@ impl<'a> ThreadList<'a> {
 }
 
 impl<'a> Thread<'a> {
-    /// What the register held; x0 is zero.
+    /// The value of the register; x0 is zero.
     pub fn register(&self, register: Reg) -> u64
         ensures { result ≡ register_in (thread_bytes self.now) (reg_number register) }
     {
@@ -80,7 +80,7 @@ impl<'a> Thread<'a> {
         self.status.pr_pid()
     }
 
-    /// The signal that the thread was stopped by, 0 where there is none.
+    /// The signal that the thread was stopped by, or 0 for no signal.
     pub fn signal(&self) -> i16
         ensures { result ≡ pr_cursig (thread_bytes self.now) }
     {

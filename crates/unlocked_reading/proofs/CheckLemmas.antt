@@ -124,6 +124,6 @@ module _ {S : Type 0} (g : shared.Ghosts S) (U : disk.Ghosts (Unlocked S g)) (s 
 
   pub reported : (f : Findings) (told : List ToldCase) (taken taken' : Option (List ℕ)) (lost lost' : ℕ) (r : Result (Unit {0}) UnlockedCheckFault) → Examines g U s sees (Ok f) → AreSettled g s f.cases.items told → Reports f told taken taken' lost lost' r
       → ChecksUnlocked g U s sees taken taken' lost lost' r
-  reported f told taken taken' lost lost' (Ok u) seen settles tells = (report_text f told, is_text f told seen settles, tells)
-  reported f told taken taken' lost lost' (Err fault.Output) seen settles tells = (report_text f told, is_text f told seen settles, tells.0, tells.1)
-  reported f told taken taken' lost lost' (Err _) seen settles tells = absurd tells
+  reported f told taken taken' lost lost' (Ok u) seen settles states = (report_text f told, is_text f told seen settles, states)
+  reported f told taken taken' lost lost' (Err fault.Output) seen settles states = (report_text f told, is_text f told seen settles, states.0, states.1)
+  reported f told taken taken' lost lost' (Err _) seen settles states = absurd states

@@ -94,12 +94,12 @@ module _ {D : Type 0} (U : disk.Ghosts D) (before : D) (b : List ℕ) (shape : S
 
   copied_is : (seq : ℕ) (start taken : Option (List ℕ)) (count failures : ℕ) (u : Unit {0}) (after : D) → ((a : Parts D) → durable_of U.seen a ≡ durable_part (state_of a) (contents_of U.seen a))
       → CopiesImage U 0 seq before start taken count failures (Ok u) after → (c : FoundCase) × IsNumbered x seq c × Appends start taken c.image
-  copied_is seq start taken count failures u after tells copies =
+  copied_is seq start taken count failures u after states copies =
       let real : IsTrue (U.is_honest copies.opened.disk) = copies.opening.honesty ∙ honest in
       let front = copies.goes.front real in
       let here = image_among (state_of copies.opened).cases (contents_of U.seen copies.opened).images seq front.0 front.1 in (
         here.0,
-        (subst (λ (y : Durable). IsAmong y.cases here.0) (sym (tells copies.opened) ∙ opened_holds copies.opened copies.opening) here.1, here.2),
+        (subst (λ (y : Durable). IsAmong y.cases here.0) (sym (states copies.opened) ∙ opened_holds copies.opened copies.opening) here.1, here.2),
         subst (Appends start taken) (front.2 ∙ sym here.3) copies.goes.appended,
       )
 
@@ -121,12 +121,12 @@ module _ {S : Type 0} (g : shared.Ghosts S) (s : S) (whole : IsTrue (g.is_honest
       → U.seen first ≡ g.looked s → U.seen second ≡ g.looked s → U.size first ≡ g.size s → ((a : Parts (Unlocked S g)) → durable_of U.seen a ≡ durable_part (state_of a) (contents_of U.seen a))
       → FindsPlaces U first seq (Ok ranges) → CopiesImage U 0 seq second start taken count failures (Ok u) after → LeavesThere g U s seq (Ok v)
       → Meanwhile g s (λ x ys. (c : FoundCase) × IsNumbered x seq c × Appends start taken c.image)
-  copied_between U first second seq start taken count failures ranges u v after honest0 honest1 seen0 seen1 size0 tells finds copies there shape x ys honest holds =
+  copied_between U first second seq start taken count failures ranges u v after honest0 honest1 seen0 seen1 size0 states finds copies there shape x ys honest holds =
       let at = located U first (g.looked s) shape x (honest0 honest) seen0 holds.first finds.0 seq ranges.items finds.1 finds.2 in
       let again = there honest in
       let later = again.2 (last_state x ys) (stands_for shape again.0 (last_state x ys) (holds.last again.0 again.1)) in
       let steady = is_steady shape x ys at.0 later.0 seq ranges.items honest holds at.1 later.1 (λ l long. at.2 l (long ∙ sym size0)) in
-      copied_is U second (g.looked s) shape x (honest1 honest steady) seen1 holds.first seq start taken count failures u after tells copies
+      copied_is U second (g.looked s) shape x (honest1 honest steady) seen1 holds.first seq start taken count failures u after states copies
 
 -- a case that is not answered is not there
 pub no_number : {D : Type 0} (a : Parts D) (seq : ℕ) (f : ArchiveFault) → CaseReply a seq (Err f) → false ≡ has_number (state_of a) seq

@@ -13,7 +13,7 @@ use Rattle.intake.specs.Step.{FreeReply}
 use Rattle.intake.specs.declared.faults.ArchiveFault.TheVariants.{OutOfMemory}
 use Rattle.intake.specs.declared.space.Space.{Space}
 use Rattle.journal_layout.specs.Case.{Case}
-use Rattle.script_streams.specs.Telling.{IsDelivered}
+use Rattle.script_streams.specs.Printing.{IsDelivered}
 use Rattle.script_streams.specs.declared.streams.StreamFault.{StreamFault}
 use Rattle.shared_disk.specs.Looks.{under}
 use Rattle.shared_disk.specs.declared.shared.SharedDisk as shared

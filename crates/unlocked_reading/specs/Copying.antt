@@ -17,7 +17,7 @@ use Rattle.unlocked_reading.specs.Opening.{RefusesAgain, RefusesOpening}
 use Rattle.unlocked_reading.specs.declared.faults.UnlockedFault.{UnlockedFault}
 use Rattle.unlocked_reading.specs.declared.faults.UnlockedFault.TheVariants as fault
 
--- what holds whenever the disk is honest and holds an archive all the time
+-- a property that holds whenever the disk is honest and holds an archive all the time
 abbrev pub Meanwhile : {S : Type 0} → shared.Ghosts S → S → (Durable → List Durable → Type 0) → Type 0
 Meanwhile g s P = (shape : Shape) (x : Durable) (ys : List Durable) → IsTrue (g.is_honest s) → HoldsArchive g s shape x ys → P x ys
 

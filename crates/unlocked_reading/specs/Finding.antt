@@ -1,4 +1,4 @@
--- Where a case lies, and whether it is there, by an opening of a disk.
+-- The place of a case's image, and whether the case is there, by an opening of a disk.
 use Rattle.std.specs.Prelude.{◌≡◌, ℕ, Bool, false, is_some, Result, Ok, Err, Vec, if◌then◌else◌}
 use Rattle.std.specs.Global.{Global}
 use Rattle.disk_model.specs.declared.disk.Disk as disk
@@ -11,7 +11,7 @@ use Rattle.journal_layout.specs.Soundness.{case_numbered}
 use Rattle.unlocked_reading.specs.declared.faults.UnlockedFault.{UnlockedFault}
 use Rattle.unlocked_reading.specs.declared.faults.UnlockedFault.TheVariants as fault
 
--- where the image of a case lies, or why not
+-- the places of the image of a case, or why they are not known
 abbrev pub FindsPlaces : {D : Type 0} → disk.Ghosts D → D → ℕ → Result (Vec ByteRange Global) UnlockedFault → Type 0
 FindsPlaces {D} g before seq (Ok ranges) = (a : Parts D) × OpenCall g 0 before (Ok a) × Locates g a seq ranges.items
 FindsPlaces {D} g before seq (Err (fault.Open f)) = (after : D) × OpenCall g 0 before (Err (f, after))

@@ -1,4 +1,4 @@
--- Answers that no call gives if a case is gone at the next look, or if there is none, as statements.
+-- Answers that no call gives if a case is gone at the next look, or if no case is gone, as statements.
 use Rattle.std.specs.Prelude.{ℕ, List, Option, Ok, Err, IsTrue}
 use Rattle.std.specs.Io.KnownBytes.{Appends}
 use Rattle.disk_model.specs.declared.disk.Disk as disk

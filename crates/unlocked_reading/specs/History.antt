@@ -1,4 +1,4 @@
--- What others do to an archive from one look at its disk to the next.
+-- The changes that others make to an archive from one look at its disk to the next.
 use Rattle.std.specs.Prelude.{◌≡◌, ◌⊎◌, ℕ, List, [], ◌∷◌}
 use Rattle.std.specs.List.{AllByRecursion}
 use Rattle.intake.specs.Durable.{Durable, FoundCase}

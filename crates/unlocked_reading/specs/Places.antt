@@ -1,4 +1,4 @@
--- Where the images of several cases lie, and whether all of them are there.
+-- The places of the images of several cases, and whether all of these are there.
 use Rattle.std.specs.Prelude.{◌≡◌, ℕ, Bool, List, length, Result, Ok, Err}
 use Rattle.std.specs.List.{AllByRecursion, list_all}
 use Rattle.disk_model.specs.declared.disk.Disk as disk

@@ -19,10 +19,9 @@ use std::alloc::Global;
 ///
 /// # Errors
 ///
-/// `Open` if the archive could not be opened, and `Archive` if there is no memory for the places of the cases: nothing was written. `Life`
-/// if the output failed. `Look` and `Reopen` if nobody could say whether the cases are still there. `Gone` if one is not. The bytes that
-/// were
-/// written then are to be dropped.
+/// `Open` if the archive could not be opened, and `Archive` if there is no memory for the places of the
+/// cases: nothing was written. `Life` if the output failed. `Look` and `Reopen` if nobody could say whether
+/// the cases are still there. `Gone` if one is not. The bytes that were written then are to be dropped.
 pub fn ask_unlocked<S: SharedDisk + Drop, O: Output>(
     alloc: Global,
     looked: Looked<S>,

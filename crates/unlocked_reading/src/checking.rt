@@ -4,7 +4,7 @@ ghost use Rattle.std.specs.List.{flat_map};
 ghost use Rattle.intake.specs.Parts.{state_of};
 ghost use Rattle.intake.specs.Reading.{IsReadFault};
 ghost use Rattle.intake.specs.declared.faults.ArchiveFault.TheVariants.{OutOfMemory};
-ghost use Rattle.script_streams.specs.Replies.{TellsText, telling};
+ghost use Rattle.script_streams.specs.Replies.{PrintsText, printing};
 ghost use Rattle.shared_disk.specs.Looks.{shared_of};
 ghost use Rattle.archive_checks.specs.Checking.{cases_seen};
 ghost use Rattle.unlocked_reading.specs.Checking.{ChecksUnlocked, Examines, Holds, LooksBack, Reports, settled, told_line, told_words};
@@ -14,7 +14,7 @@ ghost use Rattle.unlocked_reading.specs.Images.{AreSeen, IsRead};
 use crate::faults::UnlockedCheckFault;
 use crate::finding::has_number;
 use crate::images::{SeenCase, see_images};
-use archive_checks::{Verdict, tell_facts, tell_gone, tell_verdict};
+use archive_checks::{Verdict, print_facts, print_gone, print_verdict};
 use disk_model::Disk;
 use intake::{
     Archive, ArchiveFault, Settings, Space, a_case_is_there_between, the_next_number_is_above,
@@ -195,28 +195,28 @@ fn report<O: Output>(
     ensures { Reports findings.now cases.now (O.taken output.old) (O.taken output.new) (O.failures output.old) (O.failures output.new) result }
 {
     let mut reply = Reply::new(output);
-    tell_facts(&mut reply, findings.version, findings.count, findings.space);
-    tell_cases(&mut reply, cases);
-    reply.tell(b"sound\n");
+    print_facts(&mut reply, findings.version, findings.count, findings.space);
+    print_cases(&mut reply, cases);
+    reply.print(b"sound\n");
     match reply.finish() {
         Ok(()) => Ok(()),
         Err(_) => Err(UnlockedCheckFault::Output),
     }
 }
 
-fn tell_cases<O: Output>(reply: &mut Reply<'_, O>, cases: &[ToldCase])
-    ensures { TellsText (telling O.Output reply.old reply.new) (flat_map told_line cases.now) }
+fn print_cases<O: Output>(reply: &mut Reply<'_, O>, cases: &[ToldCase])
+    ensures { PrintsText (printing O.Output reply.old reply.new) (flat_map told_line cases.now) }
 {
     for case in cases {
-        tell_case(reply, case.seq, case.verdict);
+        print_case(reply, case.seq, case.verdict);
     }
 }
 
-fn tell_case<O: Output>(reply: &mut Reply<'_, O>, seq: u32, verdict: Option<Verdict>)
-    ensures { TellsText (telling O.Output reply.old reply.new) (told_words seq verdict) }
+fn print_case<O: Output>(reply: &mut Reply<'_, O>, seq: u32, verdict: Option<Verdict>)
+    ensures { PrintsText (printing O.Output reply.old reply.new) (told_words seq verdict) }
 {
     match verdict {
-        Some(verdict) => tell_verdict(reply, seq, verdict),
-        None => tell_gone(reply, seq),
+        Some(verdict) => print_verdict(reply, seq, verdict),
+        None => print_gone(reply, seq),
     }
 }

@@ -37,7 +37,7 @@ pub enum AskFault {
     /// The question was not answered: the output failed.
     #[error(transparent)]
     Life(LifeFault),
-    /// There was no memory for where the cases lie. Nothing was written.
+    /// There was no memory for the places of the cases. Nothing was written.
     #[error(transparent)]
     Archive(ArchiveFault),
     /// The archive could not be looked at again, so nobody knows whether the cases are there.
@@ -51,7 +51,7 @@ pub enum AskFault {
     Gone,
 }
 
-/// Why a check was not made, or not told whole.
+/// Why a check was not made, or not printed whole.
 #[derive(Clone, Copy, Debug, Error)]
 pub enum UnlockedCheckFault {
     /// The archive could not be opened. Nothing was written.

@@ -1,4 +1,4 @@
-// Where a case lies, and whether it is there.
+// The place of a case's image, and whether the case is there.
 ghost use Rattle.std.specs.Prelude.{◌≡◌};
 ghost use Rattle.intake.specs.Parts.{state_of};
 ghost use Rattle.unlocked_reading.specs.Finding.{FindsCase, FindsPlaces, has_number};
@@ -8,7 +8,7 @@ use disk_model::Disk;
 use intake::{Archive, ByteRange, Settings};
 use std::alloc::Global;
 
-// Where the image of a case of the archive on a disk lies.
+// The places of the image of a case of the archive on a disk.
 pub(crate) fn find_places<D: Disk + Drop>(
     alloc: Global,
     disk: D,

@@ -8,7 +8,7 @@ use intake::{a_case_is_there_between, the_next_number_is_above};
 use journal_looks::what_is_seen_is_a_moment;
 use shared_disk::{SharedDisk, Unlocked};
 
-/// Where a case is gone at the next look, the look is not answered with `Ok`: so no question is done over it. And no question is refused
+/// If a case is gone at the next look, the look is not answered with `Ok`: so no question is done over it. And no question is refused
 /// as `Gone` while each case is there.
 pub fn gone_cases_are_noticed<S: SharedDisk + Drop>()
     ensures noticed { GoneCasesAreNoticed S.SharedDisk ⟦<Unlocked<'static, S> as Disk>⟧ }
@@ -32,9 +32,8 @@ pub fn checks_are_exact<S: SharedDisk + Drop>()
     ensures { ChecksAreExact S.SharedDisk ⟦<Unlocked<'static, S> as Disk>⟧ }
 {}
 
-/// The bytes that the looks of `look_lockless` saw, and the writes of the disk between them, are an archive all the time. So the promises
-/// of the
-/// calls above hold for the bytes that are read by such looks.
+/// The bytes that the looks of `look_lockless` saw, and the writes of the disk between them, are an archive
+/// all the time. So the promises of the calls above hold for the bytes that are read by such looks.
 pub fn looks_hold_an_archive<S: SharedDisk>()
     ensures { LooksHoldAnArchive S.SharedDisk }
 {

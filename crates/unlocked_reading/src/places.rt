@@ -1,4 +1,4 @@
-// The cases that a question may read: where their images lie, and whether they are there.
+// The cases that a question may read: the places of their images, and whether they are there.
 ghost use Rattle.std.specs.Prelude.{◌≡◌, false, IfErr, IfOk, OnOk};
 ghost use Rattle.std.specs.List.{list_all};
 ghost use Rattle.intake.specs.Parts.{state_of};
@@ -13,7 +13,7 @@ use intake::{Archive, ArchiveFault, ByteRange, Settings};
 use journal_layout::{Entry, Kind};
 use std::alloc::Global;
 
-/// Cases by their numbers, and where their images lie.
+/// Cases by their numbers, and the places of their images.
 #[derive(Drop)]
 pub struct Places {
     pub numbers: Vec<u32>,
@@ -33,7 +33,7 @@ pub enum Reads {
     All,
 }
 
-/// The cases that a question may read, and where their images lie.
+/// The cases that a question may read, and the places of their images.
 ///
 /// # Errors
 ///

@@ -1,4 +1,4 @@
--- The commands by which a debugger opens what is unpacked, in the folder where that is.
+-- The commands by which a debugger opens the unpacked files, in their directory.
 use Rattle.std.specs.Prelude.{ℕ, ◌-◌, Bool, List, [], ◌∷◌, ◌++◌, length, take, Option, None, Some, codes, if◌then◌else◌}
 use Rattle.std.specs.List.{list_any}
 use Rattle.std.specs.Str.{bytes_eq}
@@ -11,20 +11,20 @@ use Rattle.unpacked_places.specs.declared.places.Place.{Place}
 abbrev pub text_of : Place → List ℕ
 text_of p = place_text (place_said p)
 
--- the folder that a place is in: all components but the last
+-- the directory that a place is in: all components but the last
 abbrev pub folder_of : Place → List ℕ
 folder_of p = place_text (take (length (place_said p) - 1) (place_said p))
 
--- the folder of a path below `sysroot`
+-- the directory of a path below `sysroot`
 abbrev pub folder_below : List (List ℕ) → List ℕ
 folder_below parts = place_text (codes "sysroot" ∷ take (length parts - 1) parts)
 
--- a folder below `sysroot`, or `sysroot` itself
+-- a directory below `sysroot`, or `sysroot` itself
 abbrev pub below : Option (List ℕ) → List ℕ
 below None = codes "sysroot"
 below (Some folder) = codes "sysroot/" ++ folder
 
--- the folder of a place, if none of those before is in it
+-- the directory of a place, if none of those before is in it
 abbrev pub new_folder : List ℕ → List Place → Place → List ℕ
 new_folder separator before p = if list_any (λ q. bytes_eq (folder_of q) (folder_of p)) before then [] else separator ++ folder_of p
 
@@ -32,7 +32,7 @@ abbrev pub more_folders : List ℕ → List Place → List Place → List ℕ
 more_folders separator before [] = []
 more_folders separator before (p ∷ ps) = new_folder separator before p ++ more_folders separator (before ++ p ∷ []) ps
 
--- A line with the folders of places, each once, in the order of the first place in it. There is none if there is no place.
+-- A line with the directories of places, each once, in the order of the first place in it. Without places there is no line.
 abbrev pub folders_line : List ℕ → List ℕ → List Place → List ℕ
 folders_line command separator [] = []
 folders_line command separator (p ∷ ps) = command ++ (folder_of p ++ (more_folders separator (p ∷ []) ps ++ codes "\n"))

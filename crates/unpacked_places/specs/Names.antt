@@ -1,11 +1,11 @@
--- Names of files that may stand below a folder: absolute paths of bytes that no shell and no debugger takes for anything else, with
--- components that are names of files.
+-- Names of files that may stand below a directory: absolute paths of bytes that
+-- no shell and no debugger interprets, with components that are names of files.
 use Rattle.std.specs.Prelude.{ℕ, ◌-◌, ◌==◌, Bool, not, ◌&&◌, ◌||◌, nat_eq, nat_le, nat_lt, List, [], ◌∷◌, length, take, Option, None, Some, codes, if◌then◌else◌}
 use Rattle.std.specs.Char.{is_ascii_alphanumeric}
 use Rattle.std.specs.List.{ends_with, list_all, list_any, slice_split}
 use Rattle.std.specs.Str.{bytes_eq}
 
--- what a component may have besides letters and digits
+-- the characters that a component may have besides letters and digits
 abbrev pub marks : List ℕ
 marks = codes "._+@,=%^-"
 
@@ -17,7 +17,7 @@ is_plain_byte c = is_ascii_alphanumeric c || list_any (λ mark. mark == c) marks
 abbrev pub is_component : List ℕ → Bool
 is_component c = nat_lt 0 (length c) && nat_le (length c) 255 && not (bytes_eq c (codes ".")) && not (bytes_eq c (codes "..")) && list_all is_plain_byte c
 
--- what stands between slashes
+-- the texts between slashes
 abbrev pub components : List ℕ → List (List ℕ)
 components path = slice_split (λ b. b == 47) path
 
@@ -25,7 +25,7 @@ components path = slice_split (λ b. b == 47) path
 abbrev pub without_deleted : List ℕ → List ℕ
 without_deleted name = if ends_with nat_eq name (codes " (deleted)") then take (length name - 10) name else name
 
--- what follows the slash, if these are components
+-- the components after the slash, if they are valid
 abbrev pub behind_root : List ℕ → Option (List ℕ)
 behind_root [] = None
 behind_root (b ∷ path) = if b == 47 && list_all is_component (components path) then Some path else None

@@ -1,4 +1,4 @@
--- What holds of places.
+-- Laws of places.
 use Rattle.std.specs.Prelude.{◌≡◌, ◌≢◌, ◌⊎◌, ℕ, ◌<◌, ◌^◌, true, false, ◌||◌, ◌==◌, List, [], ◌∷◌, ◌++◌, length, Option, Some, codes}
 use Rattle.std.specs.List.{list_all, slice_get}
 use Rattle.unpacked_places.specs.Names.{is_component, is_plain_byte}
@@ -17,13 +17,13 @@ PlacesAreInside = (files : List FileSaid) (places : List (List (List ℕ))) → 
     → (k : ℕ) (f : FileSaid) (p : List (List ℕ)) → slice_get files k ≡ Some f → slice_get places k ≡ Some p → f.case < 2 ^ 32
     → IsInside p × (list_all (λ b. b == 47 || is_plain_byte b) (place_text p) ≡ true)
 
--- two files that are one image: of one case, and where the images are whose names can't be places
+-- two files that are one image: of one case, and both at the place for images whose names can't be places
 pub record AreOneImage (f g : FileSaid) (p q : List (List ℕ)) : Type 0 where
   pub case : g.case ≡ f.case
   pub first : p ≡ other_place f.case
   pub second : q ≡ other_place f.case
 
--- No place is the place of a second file, or a folder on its path, but where both are of one case and in `other`.
+-- No place is the place of a second file, or a directory on its path, except if both are of one case and in `other`.
 abbrev pub PlacesAreApart : Type 0
 PlacesAreApart = (files : List FileSaid) (places : List (List (List ℕ))) → ArePlaces files places
     → (j k : ℕ) (f g : FileSaid) (p q more : List (List ℕ)) → j ≢ k

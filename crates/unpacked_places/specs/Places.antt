@@ -1,4 +1,4 @@
--- Where the files of a core are unpacked. A place is a list of components, below the folder of the core.
+-- The places where the files of a core are unpacked. A place is a list of components, below the directory of the core.
 use Rattle.std.specs.Prelude.{◌≡◌, ℕ, Bool, List, [], ◌∷◌, length, take, Option, None, Some, codes, decimal, if◌then◌else◌}
 use Rattle.std.specs.List.{join_with_byte, list_all, list_any, slice_get, zip}
 use Rattle.std.specs.Option.{option_map}
@@ -14,15 +14,15 @@ pub record FileSaid : Type 0 where
 abbrev pub below_root : List ℕ → List (List ℕ)
 below_root path = codes "sysroot" ∷ components path
 
--- where a debugger looks for a file of that name, if the name is plain
+-- the place at which a debugger looks for a file of that name, if the name is plain
 abbrev pub own_place : List ℕ → Option (List (List ℕ))
 own_place name = option_map below_root (plain_path name)
 
--- where the image of a case is if it can't be there
+-- the place of the image of a case if it can't be there
 abbrev pub other_place : ℕ → List (List ℕ)
 other_place case = codes "other" ∷ decimal case ∷ []
 
--- Their components are the same as far as both go: one of them is the other, or a folder on its path.
+-- Their components are the same as far as both go: one of them is the other, or a directory on its path.
 abbrev pub meet : List (List ℕ) → List (List ℕ) → Bool
 meet p q = list_all (λ (c : List ℕ × List ℕ). bytes_eq c.0 c.1) (zip p q)
 

@@ -1,9 +1,9 @@
-//! The commands by which a debugger opens what is unpacked.
+//! The commands by which a debugger opens the unpacked files.
 ghost use Rattle.std.specs.Prelude.{◌≡◌, drop, take};
 ghost use Rattle.std.specs.List.{list_any};
 ghost use Rattle.std.specs.Option.{option_map};
 ghost use Rattle.std.specs.Str.{bytes_eq};
-ghost use Rattle.script_streams.specs.Replies.{TellsText, telling};
+ghost use Rattle.script_streams.specs.Replies.{PrintsText, printing};
 ghost use Rattle.unpacked_places.specs.Commands as spec;
 ghost use Rattle.unpacked_places.specs.Names.{components};
 
@@ -11,12 +11,12 @@ use crate::places::Place;
 use memchr::memrchr;
 use script_streams::{Output, Reply};
 
-/// What is unpacked, by what a debugger has to know of it.
+/// The unpacked files, by the facts that a debugger needs.
 #[derive(Clone, Copy, Debug)]
 pub struct Unpacked<'p> {
-    /// Where the program is, if it is there.
+    /// The place of the program, if it is there.
     pub program: Option<Place<'p>>,
-    /// Where the other executables are.
+    /// The places of the other executables.
     pub others: &'p [Place<'p>],
     /// A core is there, as `core`.
     pub has_core: bool,
@@ -24,103 +24,103 @@ pub struct Unpacked<'p> {
     pub has_debug: bool,
 }
 
-/// Tells the commands by which GDB opens what is unpacked. They are for a GDB that runs in its folder.
-pub fn tell_gdb<O: Output>(reply: &mut Reply<'_, O>, unpacked: &Unpacked<'_>)
-    ensures { TellsText (telling O.Output reply.old reply.new) (spec.gdb_text unpacked.now) }
+/// Prints the commands by which GDB opens the unpacked files. They are for a GDB that runs in their directory.
+pub fn print_gdb<O: Output>(reply: &mut Reply<'_, O>, unpacked: &Unpacked<'_>)
+    ensures { PrintsText (printing O.Output reply.old reply.new) (spec.gdb_text unpacked.now) }
 {
-    reply.tell(b"set auto-load off\nset sysroot sysroot\n");
-    tell_folders(reply, b"set solib-search-path ", b":", unpacked.others);
-    tell_when(
+    reply.print(b"set auto-load off\nset sysroot sysroot\n");
+    print_folders(reply, b"set solib-search-path ", b":", unpacked.others);
+    print_when(
         reply,
         unpacked.has_debug,
         b"set debug-file-directory debug\n",
     );
-    tell_program(reply, b"file ", unpacked.program, b"\n");
-    tell_when(reply, unpacked.has_core, b"core-file core\n");
+    print_program(reply, b"file ", unpacked.program, b"\n");
+    print_when(reply, unpacked.has_core, b"core-file core\n");
 }
 
-/// Tells the commands by which LLDB opens what is unpacked. They are for an LLDB that runs in its folder.
-pub fn tell_lldb<O: Output>(reply: &mut Reply<'_, O>, unpacked: &Unpacked<'_>)
-    ensures { TellsText (telling O.Output reply.old reply.new) (spec.lldb_text unpacked.now) }
+/// Prints the commands by which LLDB opens the unpacked files. They are for an LLDB that runs in their directory.
+pub fn print_lldb<O: Output>(reply: &mut Reply<'_, O>, unpacked: &Unpacked<'_>)
+    ensures { PrintsText (printing O.Output reply.old reply.new) (spec.lldb_text unpacked.now) }
 {
-    tell_folders(
+    print_folders(
         reply,
         b"settings set target.exec-search-paths ",
         b" ",
         unpacked.others,
     );
-    reply.tell(b"target create");
-    tell_program(reply, b" ", unpacked.program, b"");
-    tell_when(reply, unpacked.has_core, b" --core core");
-    reply.tell(b"\n");
+    reply.print(b"target create");
+    print_program(reply, b" ", unpacked.program, b"");
+    print_when(reply, unpacked.has_core, b" --core core");
+    reply.print(b"\n");
 }
 
-fn tell_when<O: Output>(reply: &mut Reply<'_, O>, is_so: bool, text: &[u8])
-    ensures { TellsText (telling O.Output reply.old reply.new) (spec.when is_so text.now) }
+fn print_when<O: Output>(reply: &mut Reply<'_, O>, is_so: bool, text: &[u8])
+    ensures { PrintsText (printing O.Output reply.old reply.new) (spec.when is_so text.now) }
 {
     if is_so {
-        reply.tell(text);
+        reply.print(text);
     }
 }
 
-fn tell_program<O: Output>(
+fn print_program<O: Output>(
     reply: &mut Reply<'_, O>,
     front: &[u8],
     program: Option<Place<'_>>,
     end: &[u8],
 )
-    ensures { TellsText (telling O.Output reply.old reply.new) (spec.with_program front.now end.now program.entry) }
+    ensures { PrintsText (printing O.Output reply.old reply.new) (spec.with_program front.now end.now program.entry) }
 {
     if let Some(place) = program {
-        reply.tell(front);
-        place.tell(reply);
-        reply.tell(end);
+        reply.print(front);
+        place.print(reply);
+        reply.print(end);
     }
 }
 
-// Tells a command with the folders of these places.
-fn tell_folders<O: Output>(
+// Prints a command with the directories of these places.
+fn print_folders<O: Output>(
     reply: &mut Reply<'_, O>,
     command: &[u8],
     separator: &[u8],
     places: &[Place<'_>],
 )
-    ensures { TellsText (telling O.Output reply.old reply.new) (spec.folders_line command.now separator.now places.now) }
+    ensures { PrintsText (printing O.Output reply.old reply.new) (spec.folders_line command.now separator.now places.now) }
 {
     let Some(first) = places.first() else {
         return;
     };
-    reply.tell(command);
-    tell_folder(reply, *first);
-    tell_more(reply, separator, places);
-    reply.tell(b"\n");
+    reply.print(command);
+    print_folder(reply, *first);
+    print_more(reply, separator, places);
+    reply.print(b"\n");
 }
 
-// Tells the folders of the places behind the first.
-fn tell_more<O: Output>(reply: &mut Reply<'_, O>, separator: &[u8], places: &[Place<'_>])
-    ensures { TellsText (telling O.Output reply.old reply.new) (spec.more_folders separator.now (take 1 places.now) (drop 1 places.now)) }
+// Prints the directories of the places after the first.
+fn print_more<O: Output>(reply: &mut Reply<'_, O>, separator: &[u8], places: &[Place<'_>])
+    ensures { PrintsText (printing O.Output reply.old reply.new) (spec.more_folders separator.now (take 1 places.now) (drop 1 places.now)) }
 {
     for at in 1..places.len() {
-        tell_new(reply, separator, &places[..at], places[at]);
+        print_new(reply, separator, &places[..at], places[at]);
     }
 }
 
-// Tells the folder of a place, if none of those before is in it.
-fn tell_new<O: Output>(
+// Prints the directory of a place, if none of those before is in it.
+fn print_new<O: Output>(
     reply: &mut Reply<'_, O>,
     separator: &[u8],
     before: &[Place<'_>],
     place: Place<'_>,
 )
-    ensures { TellsText (telling O.Output reply.old reply.new) (spec.new_folder separator.now before.now place.entry) }
+    ensures { PrintsText (printing O.Output reply.old reply.new) (spec.new_folder separator.now before.now place.entry) }
 {
     if !has_folder(before, place) {
-        reply.tell(separator);
-        tell_folder(reply, place);
+        reply.print(separator);
+        print_folder(reply, place);
     }
 }
 
-// Whether one of these places is in the folder of another.
+// Whether one of these places is in the directory of another.
 fn has_folder(places: &[Place<'_>], other: Place<'_>) -> bool
     ensures { result ≡ list_any (λ p. bytes_eq (spec.folder_of p) (spec.folder_of other.entry)) places.now }
 {
@@ -128,22 +128,22 @@ fn has_folder(places: &[Place<'_>], other: Place<'_>) -> bool
 }
 
 #[tactic(auto, using(crate::proofs::FolderLemmas::folder_is))]
-fn tell_folder<O: Output>(reply: &mut Reply<'_, O>, place: Place<'_>)
-    ensures { TellsText (telling O.Output reply.old reply.new) (spec.folder_of place.entry) }
+fn print_folder<O: Output>(reply: &mut Reply<'_, O>, place: Place<'_>)
+    ensures { PrintsText (printing O.Output reply.old reply.new) (spec.folder_of place.entry) }
 {
     match place {
-        Place::Own(path) => tell_below(reply, folder_in(path)),
-        Place::Other(_) => reply.tell(b"other"),
+        Place::Own(path) => print_below(reply, folder_in(path)),
+        Place::Other(_) => reply.print(b"other"),
     }
 }
 
-fn tell_below<O: Output>(reply: &mut Reply<'_, O>, folder: Option<&[u8]>)
-    ensures { TellsText (telling O.Output reply.old reply.new) (spec.below (option_map (λ folder. folder.now) folder.entry)) }
+fn print_below<O: Output>(reply: &mut Reply<'_, O>, folder: Option<&[u8]>)
+    ensures { PrintsText (printing O.Output reply.old reply.new) (spec.below (option_map (λ folder. folder.now) folder.entry)) }
 {
-    reply.tell(b"sysroot");
+    reply.print(b"sysroot");
     if let Some(folder) = folder {
-        reply.tell(b"/");
-        reply.tell(folder);
+        reply.print(b"/");
+        reply.print(folder);
     }
 }
 
@@ -168,7 +168,7 @@ fn are_one(folder: Option<&[u8]>, other: Option<&[u8]>) -> bool
     }
 }
 
-// The folder on a path that has one, without a slash before it.
+// The directory on a path that has one, without a slash before it.
 #[tactic(auto, using(crate::proofs::FolderLemmas::folder_at, crate::proofs::FolderLemmas::folder_none))]
 fn folder_in(path: &[u8]) -> Option<&[u8]>
     ensures { spec.below (option_map (λ folder. folder.now) result) ≡ spec.folder_below (components path.now) }

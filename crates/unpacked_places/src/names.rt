@@ -1,13 +1,13 @@
-//! Names of files that may stand below a folder.
+//! Names of files that may stand below a directory.
 ghost use Rattle.std.specs.Prelude.{◌≡◌, ◌==◌};
 ghost use Rattle.std.specs.List.{list_all, list_any};
 ghost use Rattle.std.specs.Option.{option_map};
 ghost use Rattle.unpacked_places.specs.Names as spec;
 
-// What the kernel puts behind the name of a file that was unlinked.
+// The text that the kernel puts after the name of a file that was unlinked.
 const DELETED: &[u8] = b" (deleted)";
 
-// What a component may have besides letters and digits.
+// The characters that a component may have besides letters and digits.
 static MARKS: [u8; 9] = [b'.', b'_', b'+', b'@', b',', b'=', b'%', b'^', b'-'];
 
 // The most bytes of a component: NAME_MAX of Linux.
@@ -33,7 +33,7 @@ fn without_deleted(name: &[u8]) -> &[u8]
     }
 }
 
-// Whether what stands between the slashes are names of files.
+// Whether the texts between the slashes are names of files.
 fn has_components(path: &[u8]) -> bool
     ensures { result ≡ list_all spec.is_component (spec.components path.now) }
 {

@@ -1,7 +1,7 @@
-//! Where files are unpacked.
+//! The places where files are unpacked.
 ghost use Rattle.std.specs.Prelude.{◌≡◌, ◌++◌, IfOk, codes, map};
 ghost use Rattle.std.specs.List.{list_any};
-ghost use Rattle.script_streams.specs.Replies.{TellsText, telling};
+ghost use Rattle.script_streams.specs.Replies.{PrintsText, printing};
 ghost use Rattle.unpacked_places.specs.Names.{components};
 ghost use Rattle.unpacked_places.specs.Places as spec;
 ghost use Rattle.unpacked_places.specs.PlaceViews.{file_said, place_said};
@@ -19,7 +19,7 @@ pub struct NamedCase<'a> {
     pub case: u32,
 }
 
-/// Where a file is unpacked.
+/// The place where a file is unpacked.
 #[derive(Clone, Copy, Debug)]
 pub enum Place<'a> {
     /// In `sysroot`, at this path, which has no slash before it.
@@ -70,16 +70,16 @@ fn meet(path: &[u8], other: &[u8]) -> bool
         .all(|(part, others)| part == others)
 }
 
-// Tells a path below `sysroot`.
-fn tell_own<O: Output>(reply: &mut Reply<'_, O>, path: &[u8])
-    ensures { TellsText (telling O.Output reply.old reply.new) (codes "sysroot/" ++ path.now) }
+// Prints a path below `sysroot`.
+fn print_own<O: Output>(reply: &mut Reply<'_, O>, path: &[u8])
+    ensures { PrintsText (printing O.Output reply.old reply.new) (codes "sysroot/" ++ path.now) }
 {
-    reply.tell(b"sysroot/");
-    reply.tell(path);
+    reply.print(b"sysroot/");
+    reply.print(path);
 }
 
 impl<'a> Place<'a> {
-    // Whether the place at a path is this, or one of them is a folder on the path of the other.
+    // Whether the place at a path is this, or one of them is a directory on the path of the other.
     fn meets(self, path: &[u8]) -> bool
         ensures { result ≡ spec.meet (spec.below_root path.now) (place_said self.entry) }
     {
@@ -89,16 +89,16 @@ impl<'a> Place<'a> {
         }
     }
 
-    /// Tells how the place is written, from the folder on below which it is.
+    /// Prints the text of the place, as a path from the directory below which it is.
     #[tactic(auto, using(crate::proofs::PathLemmas::below_text))]
-    pub fn tell<O: Output>(self, reply: &mut Reply<'_, O>)
-        ensures { TellsText (telling O.Output reply.old reply.new) (spec.place_text (place_said self.entry)) }
+    pub fn print<O: Output>(self, reply: &mut Reply<'_, O>)
+        ensures { PrintsText (printing O.Output reply.old reply.new) (spec.place_text (place_said self.entry)) }
     {
         match self {
-            Place::Own(path) => tell_own(reply, path),
+            Place::Own(path) => print_own(reply, path),
             Place::Other(case) => {
-                reply.tell(b"other/");
-                reply.tell_decimal(u128::from(case));
+                reply.print(b"other/");
+                reply.print_decimal(u128::from(case));
             }
         }
     }

@@ -1,4 +1,4 @@
-//! Notes of a core that are not read as they are meant, so that people are told.
+//! Notes of a core that can't be read as intended, as warnings for people.
 #![tactic(auto)]
 
 mod notes;

@@ -25,7 +25,7 @@ use Rattle.frame_rows.specs.declared.rows.Rule.TheVariants.{Undefined, Same, Off
 use Rattle.symbols.specs.Offsets.{address_of}
 use Rattle.unwind.specs.ByCall as calls
 use Rattle.unwind.specs.ByEntry as led
-use Rattle.unwind.specs.ByEntry.{is_compressed}
+use Rattle.unwind.specs.ByEntry.{is_unread}
 use Rattle.unwind.specs.ByTrampoline as trampolines
 use Rattle.unwind.specs.Code.{CodeFile, CodeView, ProcessView, code_at, code_of, has_path, looked_up, missing, missing_by}
 use Rattle.unwind.specs.FrameWords.{frames_left, stop_left}
@@ -328,20 +328,20 @@ found_none space start f code (Ok e) h = absurd (covering_not space start f code
 found_none space start f code (Err (Faulty fault)) h = absurd cc
 found_none space start f code (Err Uncovered) h = refl
 
--- nor is one compressed
+-- and all are read
 plain_by : (t : Bool) (o : Option Frame) → checked o (cond t stops.Compressed stops.NoEntry) (λ g. Ok g) ≡ Err stops.NoEntry → t ≡ false
 plain_by true None h = absurd cc
 plain_by false o h = refl
 plain_by true (Some g) h = absurd cc
 
-found_plain : (space : Space) (start : Option ℕ) (f : Frame) (code : CodeView) (r : Result EntryView none.NoEntry) → led.by_found space start f code r ≡ Err stops.NoEntry → is_compressed code ≡ false
+found_plain : (space : Space) (start : Option ℕ) (f : Frame) (code : CodeView) (r : Result EntryView none.NoEntry) → led.by_found space start f code r ≡ Err stops.NoEntry → is_unread code ≡ false
 found_plain space start f code (Ok e) h = absurd (covering_not space start f code.address e h)
 found_plain space start f code (Err (Faulty fault)) h = absurd cc
-found_plain space start f code (Err Uncovered) h = plain_by (is_compressed code) (calls.by_stub code f) h
+found_plain space start f code (Err Uncovered) h = plain_by (is_unread code) (calls.by_stub code f) h
 
 abbrev HasNoEntry : ProcessView → Frame → Type 0
 HasNoEntry p f =
-    (code : CodeView) × (code_of p f ≡ Ok code) × (entry_of code.image code.debug code.address ≡ Err Uncovered) × (is_compressed code ≡ false)
+    (code : CodeView) × (code_of p f ≡ Ok code) × (entry_of code.image code.debug code.address ≡ Err Uncovered) × (is_unread code ≡ false)
 
 entry_none : (p : ProcessView) (f : Frame) → led.by_entry p f ≡ Err stops.NoEntry → HasNoEntry p f
 unfolding led.by_entry led.by_code

@@ -52,7 +52,7 @@ is_unmapped space a = is_none (spot_of a (entry_at space.files a))
 abbrev pub flags_at : Space → ℕ → Option ℕ
 flags_at space a = option_map (λ (d : ℕ × SegmentView). d.1.flags) (decider space a)
 
--- No code is at an address: the segment that decides it can't be executed, or there is none, and no file is mapped there.
+-- No code is at an address: the segment that decides it can't be executed, or no segment does, and no file is mapped there.
 abbrev pub is_without_code : Space → ℕ → Option ℕ → Bool
 is_without_code space a None = is_unmapped space a
 is_without_code space a (Some flags) = lacks_code flags

@@ -1,10 +1,9 @@
 -- The caller of a frame by call frame information (DWARF 5, 6.4).
-use Rattle.std.specs.Prelude.{ℕ, ◌==◌, ◌&&◌, ◌||◌, not, nat_lt, if◌then◌else◌, Bool, true, false, Option, None, Some, unwrap_or, Result, Ok, Err}
-use Rattle.std.specs.Option.{option_map}
+use Rattle.std.specs.Prelude.{ℕ, ◌==◌, ◌&&◌, ◌||◌, not, nat_lt, if◌then◌else◌, Bool, true, false, Option, None, Some, Result, Ok, Err}
 use Rattle.address_space.specs.Source.{Space}
-use Rattle.call_frames.specs.Compressed.{has_compressed}
 use Rattle.call_frames.specs.Entry.{EntryView}
 use Rattle.call_frames.specs.Finding.{entry_of}
+use Rattle.call_frames.specs.Unread.{have_unread_frames}
 use Rattle.call_frames.specs.declared.faults.NoEntry as entries
 use Rattle.call_frames.specs.declared.faults.NoEntry.TheVariants.{Uncovered, Faulty}
 use Rattle.frame_rows.specs.Execution.{row_of}
@@ -32,7 +31,7 @@ row_or i (Err f) = Err (FaultyRow (record { «field» = f; index = i }))
 unfoldable pub row_at : EntryView → ℕ → Result Row Stop
 row_at e v = row_or e.index (row_of e v)
 
--- The CFA is below that of the callee, or it is the same and so is the pc.
+-- The CFA is below that of the callee, or both the CFA and the pc are the same.
 abbrev pub is_below : Option Callee → ℕ → ℕ → Bool
 is_below None pc cfa = false
 is_below (Some c) pc cfa = nat_lt cfa c.cfa || (cfa == c.cfa && pc == c.pc)
@@ -59,7 +58,7 @@ by_cfa space f row r cfa =
     stop_if (is_below f.callee f.pc cfa) NotRising (
     and_then (return_by space f.registers cfa r.column (rule_of row.rules r.column)) (by_return space f row r cfa))
 
--- the frame that a row leads to, or the first reason why there is none
+-- the frame that a row leads to, or the first reason why there is no such frame
 unfoldable pub by_row : Space → Frame → Return → Row → Result Frame Stop
 by_row space f r row =
     stop_if (is_undefined (rule_of row.rules r.column)) Outermost (
@@ -72,15 +71,15 @@ return_in e = record { column = e.cie.column; signal = e.cie.signal }
 abbrev pub by_covering : Space → Option ℕ → Frame → ℕ → EntryView → Result Frame Stop
 by_covering space start f v e = stop_if (holds_start start f v e) Outermost (and_then (row_at e v) (by_row space f (return_in e)))
 
--- an executable, or its debug file, has call frame information that is compressed
-abbrev pub is_compressed : CodeView → Bool
-is_compressed code = has_compressed code.image || unwrap_or (option_map has_compressed code.debug) false
+-- an executable, or its debug file, has call frame information that is compressed and not read
+abbrev pub is_unread : CodeView → Bool
+is_unread code = have_unread_frames code.image code.debug
 
--- why no entry covers the code: those that are compressed are not read
+-- why no entry covers the code: one that is not read may
 abbrev pub no_entry : CodeView → Stop
-no_entry code = if is_compressed code then Compressed else NoEntry
+no_entry code = if is_unread code then Compressed else NoEntry
 
--- by the entry that covers an address; where none does, and none is at fault, a stub of the procedure linkage table may be
+-- by the entry that covers an address; if no entry does, and no entry has a fault, it may be a stub of the procedure linkage table
 abbrev pub by_found : Space → Option ℕ → Frame → CodeView → Result EntryView entries.NoEntry → Result Frame Stop
 by_found space start f code (Ok e) = by_covering space start f code.address e
 by_found space start f code (Err (Faulty fault)) = Err (FaultyEntry fault)

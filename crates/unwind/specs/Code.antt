@@ -17,8 +17,8 @@ pub record CodeFile : Type 0 where
 abbrev pub has_path : List ℕ → CodeFile → Bool
 has_path path x = is_named path x.file
 
--- a process: its memory, the executables that are attached for mapped files, those that are stored under the name of one and are not attached, since they
--- are of another build, and where the program begins, if that is told
+-- a process: its memory, the executables that are attached for mapped files, those that are stored under the name of one and are not attached, since
+-- they have another build, and the address at which the program begins, if it is known
 pub record ProcessView : Type 0 where
   pub space : Space
   pub executables : List CodeFile
@@ -35,7 +35,7 @@ pub record CodeView : Type 0 where
   pub debug : Option (List ℕ)
   pub address : ℕ
 
--- why none is attached for a file: an executable of another build is stored under its name, or none is
+-- why no executable is attached for a file: one of another build is stored under its name, or no executable is
 abbrev pub missing_by : Option ExecutableView → Stop
 missing_by None = NoExecutable
 missing_by (Some other) = OtherBuild

@@ -1,4 +1,4 @@
--- What the code's frames that are still to come mean.
+-- The meaning of the code's frames that are still to come.
 use Rattle.std.specs.Prelude.{◌≡◌, ◌<◌, ℕ, List, [], ◌∷◌, Option, Result, Ok, Err}
 use Rattle.address_space.specs.declared.attached.Attached.{Attached}
 use Rattle.seen_memory.specs.Seen.{IsImageOf, IsWanted, space_by}
@@ -34,13 +34,13 @@ pub record HaveEnded (p : ProcessView) (f : Frames) (s : Stop) : Type 0 where
   pub frames : frames_left p f ≡ []
   pub stop : stop_left p f ≡ s
 
--- what a call of `next` does, in each process that this one can be; or a byte is wanted
+-- the result of a call of `next`, in each process that this one can be; or a byte is wanted
 abbrev pub NextFrame : SeenMemory → List UnwoundExecutable → List Attached → Option ℕ → Frames → Result (Result Frame Stop) Unread → Frames → Type 0
 NextFrame m xs others start old (Ok (Ok f)) new = (image : List ℕ) → IsImageOf m image → GivesFrame (process_with (space_by m image) xs others start) old f new
 NextFrame m xs others start old (Ok (Err stop)) new = (p : ProcessView) → HaveEnded p old stop
 NextFrame m xs others start old (Err u) new = IsWanted m u
 
--- Where a frame is given, fewer may come; else nothing has changed.
+-- If a frame is given, fewer may come; else nothing has changed.
 abbrev pub ComeFewer : Frames → Result (Result Frame Stop) Unread → Frames → Type 0
 ComeFewer old (Ok (Ok f)) new = most_left new < most_left old
 ComeFewer old (Ok (Err stop)) new = new ≡ old

@@ -1,5 +1,5 @@
--- What no two calls of `Frames::next` answer, one after the other, as statements. In each process that the memory can be of, what one answers is `GivesFrame` or
--- `HaveEnded` (`NextFrame`).
+-- Rules about the results of two calls of `Frames::next`, one after the other, as statements. In each process that can have the memory, the result of
+-- one call is `GivesFrame` or `HaveEnded` (`NextFrame`).
 use Rattle.std.specs.Prelude.{◌≡◌, ◌<◌, ◌≤◌, ◌+◌, ◌⊎◌, ℕ, false, find, All, Contains, None, Some, Ok, Err}
 use Rattle.address_space.specs.Source.{SpotView, entry_at, spot_of}
 use Rattle.call_frames.specs.Entry as entries
@@ -15,7 +15,7 @@ use Rattle.frame_rows.specs.declared.rows.Row.{Row}
 use Rattle.frame_rows.specs.declared.rows.Rule.TheVariants.{Register, Same}
 use Rattle.symbols.specs.Offsets.{address_of}
 use Rattle.unwind.specs.ByCall.{is_no_code}
-use Rattle.unwind.specs.ByEntry.{is_compressed}
+use Rattle.unwind.specs.ByEntry.{is_unread}
 use Rattle.unwind.specs.ByTrampoline.{is_trampoline}
 use Rattle.unwind.specs.Code.{CodeFile, CodeView, ProcessView, code_of, has_path}
 use Rattle.unwind.specs.FrameWords.{GivesFrame, HaveEnded}
@@ -34,7 +34,7 @@ pub record GiveInTurn (p : ProcessView) (f g : Frame) : Type 0 where
   pub first : GivesFrame p old f mid
   pub second : GivesFrame p mid g new
 
--- one call gives frame f, and the next one tells why it is the last
+-- one call gives frame f, and the next one says why it is the last
 pub record GiveLast (p : ProcessView) (f : Frame) (stop : Stop) : Type 0 where
   pub old : Frames
   pub new : Frames
@@ -62,7 +62,7 @@ HasNone t v = All (λ e. HasAddress e v → ⊥) (entries_of t)
 abbrev pub IsUncovered : CodeView → Type 0
 IsUncovered code = HasNone (eh_frame_of code.image) code.address × HasNone (debug_frame_of code.image code.debug) code.address
 
--- Frame g is told by an FDE that has the last byte of the call that f made. The pc of f is the address behind that byte.
+-- Frame g comes from an FDE that has the last byte of the call that f made. The pc of f is the address behind that byte.
 pub record IsOfTheCall (p : ProcessView) (f g : Frame) (last : ℕ) (code : CodeView) (e : EntryView) : Type 0 where
   pub behind : f.pc ≡ last + 1
   pub at : IsCodeAt p last code
@@ -71,7 +71,8 @@ pub record IsOfTheCall (p : ProcessView) (f g : Frame) (last : ℕ) (code : Code
   pub cfa : ℕ
   pub told : IsReturn p f g code e row cfa
 
--- The frame after a caller that is at no trampoline is told by an FDE that has the call, and not by one that begins where the call returns to.
+-- The frame after a caller that is at no trampoline comes from an FDE that
+-- has the call, and not from one that begins at the call's return address.
 abbrev pub CallersAreOfTheirCalls : Type 0
 CallersAreOfTheirCalls =
     (p : ProcessView) (f g : Frame) → f.exact ≡ false → is_trampoline p.space f.pc ≡ false → GiveInTurn p f g
@@ -87,16 +88,16 @@ NoNextFunctionIsACaller =
 abbrev pub HasFault : TableView → Type 0
 HasFault t = (s : Spot) × (fault : CfiField) × Contains (spots_of t.bytes) s × (entries.entry_at t s ≡ Err fault)
 
--- an entry has a fault, so it may be the one that is sought; and it is told that there is none
+-- an entry has a fault, so it may be the one that is wanted; and the answer is that no FDE has the address
 abbrev pub NoFaultIsHidden : Type 0
 NoFaultIsHidden =
     (p : ProcessView) (f : Frame) (code : CodeView) → code_of p f ≡ Ok code → HasFault (eh_frame_of code.image) ⊎ HasFault (debug_frame_of code.image code.debug)
     → GiveLast p f NoEntry → ⊥
 
--- where it is told that no FDE has the address, none has, and none is compressed
+-- if the answer is that no FDE has the address, then no FDE has it, and all are read
 abbrev pub NoEntryIsPassedOver : Type 0
 NoEntryIsPassedOver =
-    (p : ProcessView) (f : Frame) → GiveLast p f NoEntry → (code : CodeView) × (code_of p f ≡ Ok code) × IsUncovered code × (is_compressed code ≡ false)
+    (p : ProcessView) (f : Frame) → GiveLast p f NoEntry → (code : CodeView) × (code_of p f ≡ Ok code) × IsUncovered code × (is_unread code ≡ false)
 
 -- A call led from g to f, whose code an FDE covers: it wrote its return address to column c.
 pub record IsWritten (p : ProcessView) (f g : Frame) (c : ℕ) : Type 0 where
@@ -120,7 +121,7 @@ pub record IsStillThere (p : ProcessView) (g : Frame) (c : ℕ) : Type 0 where
   pub executed : row_of entry code.address ≡ Ok row
   pub rule : (rule_of row.rules c ≡ Same) ⊎ (rule_of row.rules c ≡ Register c)
 
--- what a call wrote over is not known of the frame that made it
+-- the register that a call wrote over is not known of the frame that made the call
 abbrev pub ReturnAddressesAreUnknown : Type 0
 ReturnAddressesAreUnknown = (p : ProcessView) (f g : Frame) (c : ℕ) → IsWritten p f g c → known g.registers c ≡ None
 

@@ -13,7 +13,7 @@ ra = 1
 abbrev pub sp : ℕ
 sp = 2
 
--- what is known of a register: nothing of one that is not among them
+-- the known value of a register: nothing is known of one that is not among them
 unfoldable pub known : Registers → ℕ → Option ℕ
 known rs c = if nat_lt c 32 then slice_index_or rs c None else None
 

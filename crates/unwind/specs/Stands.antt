@@ -1,4 +1,4 @@
--- By what each frame follows another: one of three rules.
+-- The rule by which each frame follows another: one of three.
 use Rattle.std.specs.Prelude.{◌≡◌, ◌<◌, ◌≤◌, ◌⊎◌, ⊤, ℕ, true, false, List, [], ◌∷◌, None, Some, Ok, Err, IfSome}
 use Rattle.call_frames.specs.Entry.{EntryView}
 use Rattle.call_frames.specs.Finding.{entry_of}
@@ -15,7 +15,7 @@ use Rattle.unwind.specs.Values.{cfa_by, register_by, value_by}
 use Rattle.unwind.specs.declared.frame.Callee.{Callee}
 use Rattle.unwind.specs.declared.frame.Frame.{Frame}
 
--- The frame is at a trampoline, and the other has what the signal saved at the stack pointer.
+-- The frame is at a trampoline, and the other has the registers that the signal saved at the stack pointer.
 pub record IsInterrupted (p : ProcessView) (f g : Frame) (s : ℕ) : Type 0 where
   pub trampoline : is_trampoline p.space f.pc ≡ true
   pub stack : known f.registers sp ≡ Some s
@@ -23,7 +23,7 @@ pub record IsInterrupted (p : ProcessView) (f g : Frame) (s : ℕ) : Type 0 wher
   pub stood : g.exact ≡ true
   pub registers : g.registers ≡ saved_registers p.space s
 
--- a stub of the procedure linkage table that no FDE covers, and none that has a fault may
+-- a stub of the procedure linkage table that no FDE covers, and that no FDE with a fault may cover
 abbrev pub IsBareStub : CodeView → Type 0
 IsBareStub code = (entry_of code.image code.debug code.address ≡ Err Uncovered) × (is_stub code ≡ true)
 
@@ -39,9 +39,9 @@ pub record IsCaller (p : ProcessView) (f g : Frame) : Type 0 where
   pub returns : g.exact ≡ false
   pub registers : g.registers ≡ without f.registers ra
 
--- The pc of the other is the value of the return column by its rule, in the row of the first FDE that covers the address that
--- is looked up for the frame. So is each of its registers, but that of the return column after a call, which wrote it. A signal
--- came where the CIE says so. The program does not begin in the code of that FDE.
+-- The pc of the other is the value of the return column by its rule, in the row of the first FDE that covers the address that is looked up
+-- for the frame. Each of its registers is also given by its rule in that row, but that of the return column after a call, which wrote it. A
+-- signal came there if the CIE says so. The program does not begin in the code of that FDE.
 pub record IsReturn (p : ProcessView) (f g : Frame) (code : CodeView) (e : EntryView) (row : Row) (a : ℕ) : Type 0 where
   pub looked_up : code_of p f ≡ Ok code
   pub covers : entry_of code.image code.debug code.address ≡ Ok e
@@ -60,7 +60,7 @@ IsReturnOf p f g = (code : CodeView) × (e : EntryView) × (row : Row) × (a : �
 abbrev pub StandsOn : ProcessView → Frame → Frame → Type 0
 StandsOn p f g = ((s : ℕ) × IsInterrupted p f g s) ⊎ (IsCaller p f g ⊎ IsReturnOf p f g)
 
--- so does each of the frames after a frame
+-- each of the frames after a frame stands on one too
 abbrev pub EachStands : ProcessView → Frame → List Frame → Type 0
 EachStands p f [] = ⊤
 EachStands p f (g ∷ gs) = StandsOn p f g × EachStands p g gs

@@ -1,4 +1,4 @@
--- Where the program begins: at the address that the kernel tells it (getauxval(3), AT_ENTRY). Nothing called the code there.
+-- The start of the program: the address that the kernel gives for it (getauxval(3), AT_ENTRY). Nothing called the code there.
 use Rattle.std.specs.Prelude.{ℕ, ◌+◌, ◌-◌, ◌%◌, ◌^◌, Bool, false, Option, None, Some}
 use Rattle.call_frames.specs.Covering.{covers}
 use Rattle.call_frames.specs.Entry.{EntryView}

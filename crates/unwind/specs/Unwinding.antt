@@ -26,11 +26,11 @@ abbrev pub bounded : ℕ → Result Frame Stop → Result Frame Stop
 bounded n (Ok g) = if n == 0 then Err Limit else Ok g
 bounded n (Err stop) = Err stop
 
--- What comes after a frame, where n more may come: another, or the first reason why there is none.
+-- The frame after a frame, if n more may come; or the first reason why no frame does.
 unfoldable pub next : ProcessView → ℕ → Frame → Result Frame Stop
 next p n f = bounded n (by_rules p f)
 
--- The frames after a frame, where n more may come: the last of all has a reason to be it, and each other is followed by its next.
+-- The frames after a frame, if n more may come: the last of all has a reason to be it, and each other is followed by its next.
 abbrev pub IsUnwoundFrom : ProcessView → ℕ → Frame → List Frame → Stop → Type 0
 IsUnwoundFrom p n f [] stop = next p n f ≡ Err stop
 IsUnwoundFrom p n f (g ∷ gs) stop = (next p n f ≡ Ok g) × IsUnwoundFrom p (n - 1) g gs stop

@@ -1,4 +1,4 @@
--- What the code's executables, processes and places mean.
+-- The meaning of the code's executables, processes and places.
 use Rattle.std.specs.Prelude.{ℕ, List, map, Option, Result, Ok, Err}
 use Rattle.std.specs.Option.{option_map}
 use Rattle.elf_view.specs.ViewWords.{image_of}
@@ -14,7 +14,7 @@ use Rattle.unwind.specs.declared.faults.Stop.{Stop}
 abbrev pub executable_view : UnwoundExecutable → CodeFile
 executable_view x = record { file = record { path = x.path.now; image = image_of x.elf }; debug = option_map image_of x.debug }
 
--- the process of a memory, with these executables, and these of another build, and where the program begins
+-- the process of a memory, with these executables, and these of another build, and the address at which the program begins
 abbrev pub process_with : Space → List UnwoundExecutable → List Attached → Option ℕ → ProcessView
 process_with space executables others start = record {
   space = space;

@@ -37,7 +37,7 @@ fn callee_of(frame: &Frame) -> Option<Callee>
     Some(Callee { cfa, pc: frame.pc })
 }
 
-/// The frame that made the call, if execution was where it led.
+/// The frame that made the call, if execution was at the address that the call led to.
 fn caller_of(frame: &Frame) -> Option<Frame>
     ensures { result ≡ spec.caller_of frame.now }
 {

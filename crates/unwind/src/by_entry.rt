@@ -16,11 +16,11 @@ use crate::faults::{RowFault, Stop};
 use crate::frame::{Callee, Frame, Registers, without};
 use crate::start::holds_start;
 use crate::values::{cfa_by, is_undefined, registers_by, unknown_by, value_by};
-use call_frames::{Entry, NoEntry, has_compressed};
+use call_frames::{Entry, NoEntry};
 use frame_rows::{Row, Rule};
 use seen_memory::{SeenMemory, Unread};
 
-/// What of an entry leads on.
+/// The part of an entry that leads to the next frame.
 #[derive(Clone, Copy, Debug)]
 pub(crate) struct Return {
     /// The column of the return address.
@@ -43,7 +43,7 @@ fn row_at(entry: &Entry<'_>, address: u64) -> Result<Row, Stop>
     }
 }
 
-/// Whether a CFA is below that of the callee, or the same where the pc is the same.
+/// Whether a CFA is below that of the callee, or the same with the same pc.
 fn is_below(callee: Option<Callee>, pc: u64, cfa: u64) -> bool
     ensures { result ≡ spec.is_below callee pc cfa }
 {
@@ -171,30 +171,17 @@ fn by_covering(
 }
 
 /// The entry of an executable, or of its debug file, that covers an address.
-fn entry_at<'a>(executable: &UnwoundExecutable<'_, 'a>, address: u64) -> Result<Entry<'a>, NoEntry>
+fn entry_at<'e>(executable: &UnwoundExecutable<'e, '_>, address: u64) -> Result<Entry<'e>, NoEntry>
     ensures { found result ≡ entry_of (image_of executable.now.elf) (option_map image_of executable.now.debug) address }
 {
     executable.frames.find(address)
-}
-
-/// Whether an executable, or its debug file, has call frame information that is compressed.
-fn is_compressed(code: &Code<'_, '_>) -> bool
-    ensures { result ≡ spec.is_compressed (code_view code.now) }
-{
-    if has_compressed(&code.executable.elf) {
-        return true;
-    }
-    match &code.executable.debug {
-        Some(debug) => has_compressed(debug),
-        None => false,
-    }
 }
 
 /// Why no entry covers code.
 fn no_entry(code: &Code<'_, '_>) -> Stop
     ensures { result ≡ spec.no_entry (code_view code.now) }
 {
-    if is_compressed(code) {
+    if code.executable.frames.has_unread() {
         Stop::Compressed
     } else {
         Stop::NoEntry

@@ -12,8 +12,8 @@ use seen_memory::{SeenMemory, Unread};
 /// `li a7, 139` (rt_sigreturn) and `ecall`.
 const INSTRUCTIONS: u64 = 0x0000_0073_08b0_0893;
 
-/// Where the registers are saved, from the stack pointer on: after a siginfo of 128 bytes and the 176 of a ucontext that
-/// come before them.
+/// The place of the saved registers, from the stack pointer on: after a
+/// siginfo of 128 bytes and the 176 of a ucontext that come before them.
 const SAVED: u64 = 304;
 
 /// Whether the two instructions are at an address.

@@ -14,8 +14,8 @@ use address_space::{Attached, FileSpot};
 use seen_memory::SeenMemory;
 use symbols::vaddr_of_offset;
 
-/// A process: its memory, the executables that are attached for mapped files, those that are not, since they are of another build,
-/// and where the program begins, if that is told.
+/// A process: its memory, the executables that are attached for mapped files, those that are not, since they have another build,
+/// and the address at which the program begins, if it is known.
 #[derive(Clone, Copy)]
 pub(crate) struct Process<'s, 'c, 'e, 'a> {
     pub(crate) memory: SeenMemory<'s, 'c>,
@@ -90,7 +90,7 @@ pub(crate) fn looked_up(frame: &Frame) -> Option<u64>
     }
 }
 
-/// Where a frame's code lies in the file that is mapped there.
+/// The place of a frame's code in the file that is mapped there.
 fn spot_of<'c>(memory: &SeenMemory<'_, 'c>, frame: &Frame) -> Option<FileSpot<'c>>
     ensures { option_map spot_view result
         ≡ option_and_then (λ a. source.spot_of a (source.entry_at (space_of memory.now.space.now).files a)) (spec.looked_up frame.now) }

@@ -5,7 +5,7 @@ use frame_rows::RowField;
 /// The fault of the instructions of an entry.
 #[derive(Clone, Copy, Debug, PartialEq, Eq)]
 pub struct RowFault {
-    /// What its first instruction that can't be executed is refused for.
+    /// The field for which its first instruction that can't be executed is refused.
     pub field: RowField,
     /// The number of the entry in its section, from 0 on.
     pub index: u64,
@@ -14,7 +14,7 @@ pub struct RowFault {
 /// Why no frame comes after a frame.
 #[derive(Clone, Copy, Debug, PartialEq, Eq)]
 pub enum Stop {
-    /// No mapped file is told of at the address.
+    /// No mapped file is known at the address.
     NoFile,
     /// No executable is attached for the file that is mapped there.
     NoExecutable,
@@ -24,7 +24,8 @@ pub enum Stop {
     NoAddress,
     /// No entry covers the address.
     NoEntry,
-    /// No entry that is read covers the address, and the executable has call frame information that is compressed, which is not read.
+    /// No entry that is read covers the address, and the executable, or its debug file, has call frame information that is compressed and
+    /// can't be read.
     Compressed,
     /// No entry without a fault covers the address. This is the first fault.
     FaultyEntry(CfiFault),
@@ -32,11 +33,11 @@ pub enum Stop {
     FaultyRow(RowFault),
     /// The return address is undefined, or the program begins in this code: nothing called it.
     Outermost,
-    /// A DWARF expression would tell the CFA or the return address.
+    /// The CFA or the return address needs a DWARF expression.
     Expression,
     /// A register that is needed is not known.
     Undefined,
-    /// The CFA is below that of the frame before, or it is the same and so is the pc.
+    /// The CFA is below that of the frame before, or both the CFA and the pc are the same.
     NotRising,
     /// A word that is needed is not there.
     Unreadable,

@@ -21,7 +21,7 @@ pub struct Callee {
 /// A frame of a stack.
 #[derive(Clone, Copy, Debug)]
 pub struct Frame {
-    /// Where execution is or was, or the address to which a call returns.
+    /// The address at which execution is or was, or to which a call returns.
     pub pc: u64,
     /// Its registers.
     pub registers: Registers,
@@ -31,7 +31,7 @@ pub struct Frame {
     pub callee: Option<Callee>,
 }
 
-/// What is known of a register.
+/// The known value of a register.
 #[tactic(auto, unfolding(crate::specs::Registers::known))]
 pub(crate) fn known(registers: &Registers, column: u64) -> Option<u64>
     ensures { result ≡ spec.known registers.now column }
@@ -79,14 +79,14 @@ fn registers_of(thread: &Thread<'_>) -> Registers
 }
 
 impl Frame {
-    /// What is known of a register by its number: 0 to 31 are x0 to x31. Of others nothing is.
+    /// The known value of a register by its number: 0 to 31 are x0 to x31. Nothing is known of others.
     pub fn register(&self, column: u64) -> Option<u64>
         ensures { result ≡ spec.known self.now.registers column }
     {
         known(&self.registers, column)
     }
 
-    /// The frame of a thread where it stopped.
+    /// The frame in which a thread stopped.
     pub(crate) fn first(thread: &Thread<'_>) -> Frame
         ensures { result ≡ unwinding.first_frame (thread_bytes thread.now) }
     {

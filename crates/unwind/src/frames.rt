@@ -28,7 +28,7 @@ pub struct Frames {
 }
 
 impl<'s, 'c, 'e, 'a> Process<'s, 'c, 'e, 'a> {
-    /// What the rules tell of the frame after one.
+    /// The frame after one by the rules, or why they give no frame.
     #[tactic(auto, unfolding(crate::specs::Unwinding::by_rules))]
     fn by_rules(&self, frame: &Frame) -> Result<Result<Frame, Stop>, Unread>
         ensures { ForEach self.now.memory (λ space. spec.by_rules (process_with space self.now.executables.now self.now.others.now self.now.start) frame.now) result }
@@ -42,7 +42,7 @@ impl<'s, 'c, 'e, 'a> Process<'s, 'c, 'e, 'a> {
         }
     }
 
-    /// The frame after one, or the first reason why there is none. So many frames may come.
+    /// The frame after one, or the first reason why no frame comes. So many frames may come.
     #[tactic(auto, unfolding(crate::specs::Unwinding::next))]
     fn next(&self, more: u64, frame: &Frame) -> Result<Result<Frame, Stop>, Unread>
         ensures told { ForEach self.now.memory (λ space. spec.next (process_with space self.now.executables.now self.now.others.now self.now.start) more frame.now) result }
@@ -73,8 +73,8 @@ impl Frames {
         }
     }
 
-    /// The next frame, or why none comes. The executables are attached for the mapped files of their paths, of two with one path
-    /// the first. The others are not, since they are of another build. The program begins at `start`, if that is told. The error is a
+    /// The next frame, or why no frame comes. The executables are attached for the mapped files of their paths, of two with one path
+    /// the first. The others are not, since they have another build. The program begins at `start`, if that is known. The error is a
     /// byte of the core's image that is not at hand. Then nothing has changed, and the call can be made again once it is.
     pub fn next(
         &mut self,

@@ -1,4 +1,4 @@
-// Where the program begins.
+// The start of the program.
 ghost use Rattle.std.specs.Prelude.{◌≡◌};
 ghost use Rattle.call_frames.specs.Covering.{covers};
 ghost use Rattle.call_frames.specs.EntryWords.{entry_view};

@@ -1,4 +1,4 @@
--- What is known of a new file after each call.
+-- The known facts about a new file after each call.
 use Rattle.std.specs.Prelude.{Bool, true, false, not, ◌&&◌}
 use Rattle.whole_files.specs.declared.facts.FileFacts.{FileFacts}
 use Rattle.whole_files.specs.declared.facts.Looks.{Looks}
@@ -58,7 +58,7 @@ seen_at_path there f = record f { looks = record no_looks { is_at_path = there }
 abbrev pub seen_old : Bool → FileFacts → FileFacts
 seen_old there f = record f { looks = record no_looks { is_old_at_path = there } }
 
--- It was to get a second name. Both name one file then: what PATH.part was seen to name.
+-- It was to get a second name. Both name one file then: the one that PATH.part was seen to name.
 abbrev pub linked_so : Linked → FileFacts → FileFacts
 linked_so Named f = record f { is_named = true; looks = record no_looks { is_at_part = true } }
 linked_so Taken f = unlooked f
@@ -76,6 +76,6 @@ replaced_if good f = record (unlooked f) { is_named = good; is_let_go = good; ha
 abbrev pub removed : FileFacts → FileFacts
 removed f = record (unlooked f) { is_let_go = true }
 
--- its folder was synced, and this is whether that succeeded
+-- its directory was synced, and this is whether that succeeded
 abbrev pub folder_synced_if : Bool → FileFacts → FileFacts
 folder_synced_if good f = record (unlooked f) { is_durable = good && f.is_named }

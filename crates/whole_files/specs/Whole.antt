@@ -1,4 +1,4 @@
--- What is promised of a file that is made.
+-- The promises about a file that is made.
 use Rattle.std.specs.Prelude.{◌≡◌, Bool, true, false, ◌&&◌, Result, Ok, Err}
 use Rattle.whole_files.specs.declared.facts.FileFacts.{FileFacts}
 use Rattle.whole_files.specs.declared.faults.NameFault.{NameFault}
@@ -46,14 +46,14 @@ pub record IsExchanged (takes_place : Bool) (f : FileFacts) : Type 0 where
   pub gone : f.is_let_go ≡ true
   pub replaced : f.has_replaced ≡ (f.is_named && takes_place)
 
--- What is known of a file after it was to get its name, in the place of another file or not.
+-- The facts about a file after the attempt to give it its name, with or without replacing another file.
 abbrev pub EndsSo : Bool → Result (Unit {0}) NameFault → FileFacts → Type 0
 EndsSo takes_place (Ok u) f = IsWhole takes_place f
 EndsSo takes_place (Err (Unnamed fault)) f = IsGone f
 EndsSo takes_place (Err Exchanged) f = IsExchanged takes_place f
 EndsSo takes_place (Err (Named number)) f = IsNamed takes_place f
 
--- The same after the rename in the place of another file. If that was not made, the file has no name but PATH.part.
+-- The same after the rename that replaces another file. If that was not made, the file has no name but PATH.part.
 abbrev pub IsRenamedSo : Result (Unit {0}) NameFault → FileFacts → Type 0
 IsRenamedSo (Ok u) f = IsNamed true f
 IsRenamedSo (Err (Unnamed fault)) f = IsUnnamed f

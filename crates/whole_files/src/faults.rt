@@ -13,8 +13,8 @@ pub enum NameFault {
     Unnamed(FileFault),
     /// Another file is under its name, or under PATH.part.
     Exchanged,
-    /// It has it, and is whole there. The removal of its other name or the sync of its folder failed, with this number of the system's error
-    /// (errno(3)), if there is one.
+    /// It has it, and is whole there. The removal of its other name or the sync of its
+    /// directory failed, with this number of the system's error (errno(3)), if there is one.
     Named(Option<i32>),
 }
 

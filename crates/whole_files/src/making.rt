@@ -8,8 +8,8 @@ use disk_model::FileFault;
 use std::io;
 use std::io::ErrorKind;
 
-/// Sees to it that a file can be made: PATH must not exist, and what a process that ended has left under PATH.part is removed. A
-/// process that still writes it keeps its lock: then the file is busy.
+/// Makes sure that a file can be made: PATH must not exist, and a file that an ended process has left under PATH.part is
+/// removed. A process that still writes it keeps its lock: then the file is busy.
 pub fn clear<P: NewFile>(file: &mut P) -> Result<(), FileFault> {
     if file.is_taken() {
         return Err(FileFault::Exists);
@@ -17,8 +17,8 @@ pub fn clear<P: NewFile>(file: &mut P) -> Result<(), FileFault> {
     clear_part(file)
 }
 
-/// Removes what a process that ended has left under PATH.part. A process that still writes it keeps its lock: then the file is busy. A
-/// link, a pipe or a device is refused, and stays.
+/// Removes a file that an ended process has left under PATH.part. A process that still writes it keeps its lock: then the file is
+/// busy. A link, a pipe or a device is refused, and stays.
 pub fn clear_part<P: NewFile>(file: &mut P) -> Result<(), FileFault> {
     let Some(looked) = if_there(file.look_left())? else {
         return Ok(());
@@ -35,7 +35,7 @@ pub fn clear_part<P: NewFile>(file: &mut P) -> Result<(), FileFault> {
     }
 }
 
-// What is answered of a file, if there is one.
+// The answer about a file, or `None` if the file does not exist.
 fn if_there<T>(asked: io::Result<T>) -> Result<Option<T>, FileFault> {
     match asked {
         Ok(found) => Ok(Some(found)),
@@ -58,7 +58,7 @@ pub fn make<P: NewFile>(file: &mut P) -> Result<(), FileFault>
     ensures made { OnOk result (P.facts file.new ≡ just_made) }
 {
     file.create()?;
-    // The mode that a file is made with loses what the process masks.
+    // A new file's mode lacks the bits that the process masks.
     file.own_alone().map_err(|_| FileFault::Length)
 }
 

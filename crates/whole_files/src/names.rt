@@ -1,4 +1,4 @@
-// Names of files, and what is under them.
+// Names of files, and the files under them.
 use disk_model::FileFault;
 use std::fs::{File, Metadata};
 use std::io::ErrorKind;
@@ -7,7 +7,7 @@ use std::path::Path;
 use std::rt::Files;
 use std::{fs, io};
 
-/// The folder that a path has its file in.
+/// The directory that a path has its file in.
 pub fn folder_of(path: &str) -> Path<'_> {
     match Path::new(path).parent() {
         Some(folder) if !folder.as_os_str().is_empty() => folder,
@@ -28,7 +28,7 @@ pub fn is_named<R: Files<File = File>>(rt: &R, path: &str, file: &File) -> Resul
 }
 
 /// Opens a regular file that was looked at, for reading and adding to it. No call waits, whatever has come under the path meanwhile: it
-/// is opened for both, which does not wait at a pipe. What is open then is refused unless it is the file that was looked at.
+/// is opened for both, which does not wait at a pipe. The open file is refused unless it is the file that was looked at.
 ///
 /// # Errors
 ///

@@ -70,9 +70,9 @@ fn keep_name<P: NewFile>(file: &mut P, removed: io::Result<()>) -> Result<(), Na
     }
 }
 
-/// Puts a file that is open and whole in the place of another one that is open, and makes that durable. It gets the other's owner
-/// and what rights that one's owner has; nobody else gets a right. A stop leaves the one or the other under PATH. A third file that has
-/// come under PATH meanwhile stays.
+/// Replaces an open file by another one that is open and whole, and makes that durable. The new file gets the other's owner and the
+/// rights that this owner has; nobody else gets a right. A stop leaves the one or the other under PATH. A third file that has come
+/// under PATH meanwhile stays.
 #[tactic(auto, using(crate::proofs::EndLemmas::let_go))]
 pub fn take_place<P: NewFile>(file: &mut P, old: &File) -> Result<(), NameFault>
     requires made { IsMade (P.facts file.old) }

@@ -9,7 +9,7 @@ use std::alloc::Global;
 use std::fs::{File, Metadata};
 use std::io;
 
-/// What came of giving a file a second name.
+/// The outcome of giving a file a second name.
 #[derive(Clone, Copy)]
 pub enum Linked {
     /// It has it.
@@ -21,16 +21,16 @@ pub enum Linked {
 }
 
 /// A file that is made under PATH.part and is called PATH only once it is whole. Each method is one call of the operating system, or one look
-/// at a name, which compares what is under the name with what is open. A `requires` says what has to have come before the call, and a clause
-/// what is known of the file after it. So whoever makes a file by these calls can't make them in another order.
+/// at a name, which compares the file under the name with the open one. A `requires` names the calls that must come before, and a clause
+/// gives the known facts about the file after the call. So code that makes a file by these calls can't make them in another order.
 pub trait NewFile {
-    /// What is known of the file.
+    /// The known facts about the file.
     ghost facts: { Self → FileFacts };
 
-    /// Whether there is a file under PATH, or what a link there names.
+    /// Whether there is a file under PATH; if PATH is a link, whether the file that the link names exists.
     fn is_taken(&self) -> bool;
 
-    /// Looks at what is under PATH.part. No link is followed.
+    /// Looks at the file under PATH.part. No link is followed.
     fn look_left(&self) -> io::Result<Metadata>;
 
     /// Opens the file under PATH.part that was looked at. Answers `InvalidInput` if another one is there.
@@ -53,7 +53,7 @@ pub trait NewFile {
     fn set_length(&mut self, length: u64) -> io::Result<()>
         ensures facts { facts self.new ≡ written (facts self.old) };
 
-    /// Lends the file to whoever writes it. One that is synced is not written any more.
+    /// Gives the file to its writer. Once it is synced it is not written any more.
     fn writer(&self) -> io::Result<&File>
         requires unsynced { (facts self.now).is_synced ≡ false };
 
@@ -70,16 +70,17 @@ pub trait NewFile {
         requires good { (facts self.old).has_failed_sync ≡ false }
         ensures facts { facts self.new ≡ synced_if (is_ok result) (facts self.old) };
 
-    /// Makes durable what was written by the disk in it. If the disk has written nothing since its last sync, no call is made.
+    /// Makes durable the bytes that the disk in it has written. If the
+    /// disk has written nothing since its last sync, no call is made.
     fn sync_disk(&mut self, disk: &mut FileDisk) -> Result<(), DiskFault>
         requires good { (facts self.old).has_failed_sync ≡ false }
         ensures facts { facts self.new ≡ synced_if (is_ok result) (facts self.old) };
 
-    /// Gives it the owner and the group that are told of another file.
+    /// Gives it the owner and the group of another file.
     fn give_owner(&mut self, about: &Metadata) -> io::Result<()>
         ensures facts { facts self.new ≡ written (facts self.old) };
 
-    /// Gives its owner what rights are told of the owner of another file, and nobody else one.
+    /// Gives its owner the rights that the owner of another file has, and nobody else any right.
     fn give_rights(&mut self, about: &Metadata) -> io::Result<()>
         ensures facts { facts self.new ≡ written (facts self.old) };
 
@@ -101,7 +102,7 @@ pub trait NewFile {
         requires looked { (facts self.old).looks.is_at_part ≡ true }
         ensures facts { facts self.new ≡ linked_so result (facts self.old) };
 
-    /// Renames the file under PATH.part to PATH, where there are no links and no file had the name.
+    /// Renames the file under PATH.part to PATH, on a file system without links, if no file had the name.
     fn rename(&mut self) -> io::Result<()>
         requires synced { (facts self.old).is_synced ≡ true }
         requires free { (facts self.old).looks.is_path_free ≡ true }
@@ -114,13 +115,13 @@ pub trait NewFile {
         requires looked { (facts self.old).looks.is_at_part ≡ true }
         ensures facts { facts self.new ≡ replaced_if (is_ok result) (facts self.old) };
 
-    /// Removes the name PATH.part. A file that was not made here has to be locked: else another process may still write it.
+    /// Removes the name PATH.part. A file that was not made here must be locked: else another process may still write it.
     fn remove_part(&mut self) -> io::Result<()>
         requires looked { (facts self.old).looks.is_at_part ≡ true }
         requires own { ((facts self.old).is_made || (facts self.old).is_locked) ≡ true }
         ensures facts { facts self.new ≡ removed (facts self.old) };
 
-    /// Makes the names in its folder durable.
+    /// Makes the names in its directory durable.
     fn sync_folder(&mut self) -> io::Result<()>
         ensures facts { facts self.new ≡ folder_synced_if (is_ok result) (facts self.old) };
 }

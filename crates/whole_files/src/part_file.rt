@@ -1,5 +1,5 @@
-// A file of the operating system that is made. No clause says what a call of the system does: so this file has to be read. Each method
-// makes one call, or looks at one name, and notes what is known then.
+// A file of the operating system that is made. No clause can describe a call of the system, so this file must be read with care. Each
+// method makes one call, or looks at one name, and notes the facts that are known then.
 ghost use Rattle.std.specs.Prelude.{◌≡◌, ◌++◌, IfOk, codes, string_bytes};
 ghost use Rattle.whole_files.specs.Part.{lock_of, alone_if};
 
@@ -43,8 +43,8 @@ const OPENED: FileFacts = FileFacts {
 
 /// A file that is made under PATH.part, once it is there.
 ///
-/// Whoever may write the folder may put another file, a link or a pipe under a name at any time. So what is done to the file is done to it as
-/// it is open, and a look at a name follows no link.
+/// Anyone who may write the directory may put another file, a link or a pipe under a name at any time. So each change of the file is made
+/// through the open file, and a look at a name follows no link.
 #[derive(Drop)]
 pub struct PartFile<'a, R: Files<File = File>> {
     rt: &'a R,
@@ -88,7 +88,7 @@ impl<'a, R: Files<File = File>> PartFile<'a, R> {
     }
 }
 
-// Whether a path names a file itself. What can't be looked at is not named.
+// Whether a path names a file itself. A file that can't be examined is not named.
 fn names<R: Files<File = File>>(rt: &R, path: &str, file: &File) -> bool {
     let Ok(opened) = file.metadata() else {
         return false;

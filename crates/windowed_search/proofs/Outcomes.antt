@@ -49,10 +49,10 @@ no_values : (space : Space) (a n : ℕ) → n ≡ 0 → values_from space a n �
 unfolding values_from
 no_values space a n is = ap (values_from space a) is
 
-telling : (image : List ℕ) (space : Space) (steps : List Step) (p a q b : ℕ) → Leads image space p a steps q b → (a ≤ b) × (told_by image p steps ≡ values_from space a (b - a))
-telling image space [] p a q b leads = let same = leads.1 in (omega (arith, same), sym (no_values space a (b - a) (omega (arith, same))))
-telling image space (s ∷ ss) p a q b leads =
-    let rest = telling image space ss (place_after p s) (a + count_of s) q b leads.2 in
+printing : (image : List ℕ) (space : Space) (steps : List Step) (p a q b : ℕ) → Leads image space p a steps q b → (a ≤ b) × (told_by image p steps ≡ values_from space a (b - a))
+printing image space [] p a q b leads = let same = leads.1 in (omega (arith, same), sym (no_values space a (b - a) (omega (arith, same))))
+printing image space (s ∷ ss) p a q b leads =
+    let rest = printing image space ss (place_after p s) (a + count_of s) q b leads.2 in
     let low = rest.0 in
     let whole : count_of s + (b - (a + count_of s)) ≡ b - a = omega (arith, low) in (
       omega (arith, low),
@@ -60,11 +60,11 @@ telling image space (s ∷ ss) p a q b leads =
           ∙ sym (values_split space a (count_of s) (b - (a + count_of s))) ∙ ap (values_from space a) whole,
     )
 
-telling_all : (image : List ℕ) (space : Space) (steps : List Step) (q b : ℕ) → Leads image space 0 0 steps q b → told_by image 0 steps ≡ values_from space 0 b
-telling_all image space steps q b leads = let all : b - 0 ≡ b = omega arith in (telling image space steps 0 0 q b leads).1 ∙ ap (values_from space 0) all
+printing_all : (image : List ℕ) (space : Space) (steps : List Step) (q b : ℕ) → Leads image space 0 0 steps q b → told_by image 0 steps ≡ values_from space 0 b
+printing_all image space steps q b leads = let all : b - 0 ≡ b = omega arith in (printing image space steps 0 0 q b leads).1 ∙ ap (values_from space 0) all
 
 pub told : PlansTellTheValues
-told image space steps way = telling_all image space steps way.0 (2 ^ 64 - 1) way.1
+told image space steps way = printing_all image space steps way.0 (2 ^ 64 - 1) way.1
 
 -- each text before an address is whole
 one_more : (space : Space) (a : ℕ) (more : List (ℕ × ℕ)) (u : Bool) → IsText space a (text_len space a (2 ^ 64 - a)) → AllByRecursion (λ (x : ℕ × ℕ). IsText space x.0 x.1) more

@@ -1,4 +1,4 @@
--- What a search of a memory has found.
+-- The state of a search of a memory.
 use Rattle.std.specs.Prelude.{◌≡◌, ℕ, ◌+◌, List, ◌++◌, filter, length}
 use Rattle.std.specs.List.{range_with_len}
 use Rattle.address_space.specs.Occurrence.{occurs}
@@ -15,8 +15,8 @@ needle_of m = m.search.needle.now
 abbrev pub address_of : MemorySearch → ℕ
 address_of m = m.address
 
--- The search was told of all addresses below the next. The last of them, from `base` on, have values in a row, which it was fed; of
--- those before, it has found each at which the needle occurs.
+-- The search was given all addresses below the next. The last of them, from `base` on, have values in a row, which it was fed; of those
+-- before, it has found each at which the needle occurs.
 pub record HasSearched (space : Space) (m : MemorySearch) : Type 0 where
   pub base : ℕ
   pub run : List ℕ

@@ -1,4 +1,4 @@
--- Where bytes occur in other bytes, which begin at an address.
+-- The places where bytes occur in other bytes, which begin at an address.
 use Rattle.std.specs.Prelude.{ℕ, ◌+◌, ◌-◌, ◌<◌, ◌==◌, ◌&&◌, ◌++◌, if◌then◌else◌, Bool, true, false, List, [], ◌∷◌, drop, length}
 use Rattle.std.specs.List.{Contains}
 

@@ -1,4 +1,4 @@
--- What is sought in a memory, and what is found.
+-- The aim of a search of a memory, and its result.
 use Rattle.std.specs.Prelude.{◌≡◌, ◌<◌, ℕ, List, filter, length}
 use Rattle.std.specs.List.{range_with_len}
 use Rattle.address_space.specs.Occurrence.{occurs}
@@ -21,12 +21,12 @@ abbrev pub aim_of : Sought → Aim
 aim_of (sought.Bytes bytes) = for_bytes bytes.now
 aim_of (sought.Texts least) = for_texts least
 
--- nothing that is empty is sought
+-- the aim is not empty
 abbrev pub IsAim : Aim → Type 0
 IsAim (for_bytes bytes) = 0 < length bytes
 IsAim (for_texts least) = 0 < least
 
--- what a search is for
+-- the aim of a search
 abbrev pub aimed_at : MemoryScan → Aim
 aimed_at (scan.Bytes m) = for_bytes (needle_of m)
 aimed_at (scan.Texts m) = for_texts m.least
@@ -36,12 +36,12 @@ abbrev pub next_address : MemoryScan → ℕ
 next_address (scan.Bytes m) = address_of m
 next_address (scan.Texts m) = m.address
 
--- it was told of all addresses below the next
+-- it was given all addresses below the next
 abbrev pub HasScanned : Space → MemoryScan → Type 0
 HasScanned space (scan.Bytes m) = HasSearched space m
 HasScanned space (scan.Texts m) = HasTexts space m
 
--- all that is sought and begins before an address
+-- all matches of the aim that start before an address
 abbrev pub IsFound : Space → Aim → ℕ → Found → Type 0
 IsFound space (for_bytes bytes) past (found.Addresses v) = v.items ≡ filter (occurs space bytes) (range_with_len 0 past)
 IsFound space (for_texts least) past (found.Texts t) = AreTexts space least past t

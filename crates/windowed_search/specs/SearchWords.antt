@@ -1,4 +1,4 @@
--- What a search that is fed window by window has seen.
+-- The values that a search that is fed window by window has seen.
 use Rattle.std.specs.Prelude.{◌≡◌, ℕ, ◌+◌, ◌-◌, List, length}
 use Rattle.windowed_search.specs.Places.{last_of}
 use Rattle.windowed_search.specs.declared.search.Search.{Search}

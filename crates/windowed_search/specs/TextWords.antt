@@ -1,4 +1,4 @@
--- What a search of a memory for texts has found.
+-- The texts that a search of a memory has found.
 use Rattle.std.specs.Prelude.{◌≡◌, ◌≤◌, ◌<◌, ◌⊎◌, ℕ, ◌+◌, ◌-◌, ◌^◌, true, false, List, ◌++◌, filter, length, map}
 use Rattle.std.specs.List.{AllByRecursion, flat_map, range_with_len}
 use Rattle.address_space.specs.Coverage.{IsText}
@@ -21,8 +21,8 @@ texts_before space least a = filter (is_long least) (map (text_from space) (filt
 abbrev pub text_values : Space → ℕ × ℕ → List ℕ
 text_values space x = values_from space x.0 x.1
 
--- The search was told of all addresses below the next. Those before `start` have these texts, with these bytes; those from there on
--- have bytes of text, and no such byte is right before them.
+-- The search was given all addresses below the next. Those before `start` have these texts, with these bytes; those from there on have
+-- bytes of text, and no such byte is right before them.
 pub record HasTexts (space : Space) (m : MemoryTexts) : Type 0 where
   pub start : ℕ
   pub kept : List ℕ

@@ -1,4 +1,4 @@
-// What the definitions that the contracts cite say together.
+// Consequences of the definitions that the contracts cite.
 ghost use Rattle.std.specs.Prelude.{◌≡◌, ◌+◌, ◌-◌, ◌^◌, ◌<◌, ◌++◌, ℕ, List, drop, filter, length};
 ghost use Rattle.std.specs.List.{range_with_len};
 ghost use Rattle.address_space.specs.Occurrence.{occurrences, occurs, strings_of};
@@ -21,8 +21,8 @@ pub fn a_match_across_windows_is_found()
     ensures { MatchesAcrossAreFound }
 {}
 
-/// A plan tells the values of a memory, one after another, and no others: bytes of another place of the image are not told. It does
-/// nothing.
+/// A plan gives the values of a memory, one after another, and no others: bytes
+/// of other places of the image are left out. This function does nothing.
 pub fn a_plan_tells_the_values()
     ensures { PlansTellTheValues }
 {}
@@ -39,7 +39,8 @@ pub fn places_are_occurrences()
         → filter (occurs space needle) (range_with_len a (length xs)) ≡ places needle a xs }
 {}
 
-/// Where the segments rise, the addresses at which bytes occur are in the order of the addresses, and so are the texts. It does nothing.
+/// If the segments rise, the addresses at which bytes occur are in the order of the addresses, and the texts are too. This function does
+/// nothing.
 pub fn a_rising_memory_is_searched_by_address()
     ensures occurrences { (space : Space) (needle : List ℕ) → 0 < length needle → IsRising 0 space.segments
         → occurrences space needle ≡ filter (occurs space needle) (range_with_len 0 (2 ^ 64 - 1)) }

@@ -1,4 +1,4 @@
-// A search of a memory, whatever is sought.
+// A search of a memory, for either aim.
 ghost use Rattle.std.specs.Prelude.{◌≡◌, ◌+◌, ◌^◌, ◌<◌, [], OnOk, IfOk, None, length};
 ghost use Rattle.address_space.specs.Source.{Space, value_at};
 ghost use Rattle.windowed_search.specs.Runs.{values_from};
@@ -7,7 +7,7 @@ use crate::memory_search::MemorySearch;
 use crate::memory_texts::{FoundTexts, MemoryTexts};
 use std::alloc::{AllocError, Global};
 
-/// What is sought in a memory.
+/// The aim of a search of a memory.
 #[derive(Clone, Copy, Debug)]
 pub enum Sought<'n> {
     /// These bytes.
@@ -16,7 +16,7 @@ pub enum Sought<'n> {
     Texts(u64),
 }
 
-/// What was found in a memory.
+/// The result of a search of a memory.
 #[derive(Drop)]
 pub enum Found {
     /// The addresses at which the bytes are.
@@ -25,8 +25,8 @@ pub enum Found {
     Texts(FoundTexts),
 }
 
-/// A search of a memory. It is told of the addresses in rising order: it is fed the values of those that have one, and passes those that
-/// have none. It holds what it finds.
+/// A search of a memory. It is given the addresses in rising order: it is fed the values of those that have one, and passes those that
+/// have no value. It keeps the matches that it finds.
 #[derive(Drop)]
 pub enum MemoryScan<'n> {
     /// A search for bytes.
@@ -38,7 +38,7 @@ pub enum MemoryScan<'n> {
 impl<'n> MemoryScan<'n> {
     ghost use Rattle.windowed_search.specs.ScanWords.{HasScanned, IsAim, IsFound, aim_of, aimed_at, next_address};
 
-    /// A search that was told of no address.
+    /// A search that was given no address yet.
     pub fn new(alloc: Global, sought: Sought<'n>) -> MemoryScan<'n>
         requires { IsAim (aim_of sought) }
         ensures aim { aimed_at result ≡ aim_of sought.entry }
@@ -83,7 +83,7 @@ impl<'n> MemoryScan<'n> {
         }
     }
 
-    /// All that is sought and begins at an address that it was told of, if the next has no value. The error is that there is no memory.
+    /// All matches that start at an address that it was given, if the next has no value. The only error is that there is no memory.
     pub fn end(self) -> Result<Found, AllocError>
         ensures { (space : Space) → HasScanned space self.entry → value_at space (next_address self.entry) ≡ None
             → IfOk result (IsFound space (aimed_at self.entry) (next_address self.entry)) }

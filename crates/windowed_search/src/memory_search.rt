@@ -8,14 +8,14 @@ ghost use Rattle.windowed_search.specs.Runs.{values_from};
 use crate::search::Search;
 use std::alloc::{AllocError, Global};
 
-/// A search of a memory for a needle. It is told of the addresses in rising order: it is fed the values of those that have one, and
-/// passes those that have none. It takes 8 bytes for each address at which it finds the needle.
+/// A search of a memory for a needle. It is given the addresses in rising order: it is fed the values of those that have one, and
+/// passes those that have no value. It takes 8 bytes for each address at which it finds the needle.
 #[derive(Drop)]
 pub struct MemorySearch<'n> {
     pub(crate) search: Search<'n>,
     // The next address.
     pub(crate) address: u64,
-    // Where it was found.
+    // The addresses at which it was found.
     pub(crate) found: Vec<u64>,
     ghost placed: { search.first + length search.tail.items ≡ address },
 }
@@ -23,7 +23,7 @@ pub struct MemorySearch<'n> {
 impl<'n> MemorySearch<'n> {
     ghost use Rattle.windowed_search.specs.MemoryWords.{HasSearched, needle_of, address_of};
 
-    /// A search that was told of no address.
+    /// A search that was given no address yet.
     pub fn new(alloc: Global, needle: &'n [u8]) -> MemorySearch<'n>
         requires { 0 < length needle.now }
         ensures needle { needle_of result ≡ needle.now }
@@ -72,7 +72,7 @@ impl<'n> MemorySearch<'n> {
         self.search.restart(self.address);
     }
 
-    /// Each address of those that it was told of at which the needle occurs, if the next has no value.
+    /// Each address at which the needle occurs, of those that it was given, if the next has no value.
     pub fn end(self) -> Vec<u64>
         ensures { (space : Space) → HasSearched space self.entry → value_at space (address_of self.entry) ≡ None
             → result.items ≡ filter (occurs space (needle_of self.entry)) (range_with_len 0 (address_of self.entry)) }

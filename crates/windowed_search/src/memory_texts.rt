@@ -16,8 +16,8 @@ pub struct FoundTexts {
     pub bytes: Vec<u8>,
 }
 
-/// A search of a memory for texts. It is told of the addresses in rising order: it is fed the values of those that have one, and passes
-/// those that have none. It takes 16 bytes for each text that is long enough, and the bytes of it.
+/// A search of a memory for texts. It is given the addresses in rising order: it is fed the values of those that have one, and passes
+/// those that have no value. It takes 16 bytes for each text that is long enough, and the bytes of it.
 #[derive(Drop)]
 pub struct MemoryTexts {
     pub(crate) least: u64,
@@ -68,7 +68,7 @@ fn front_len(bytes: &[u8], text: bool) -> usize
 impl MemoryTexts {
     ghost use Rattle.windowed_search.specs.TextWords.{AreTexts, HasTexts, NoText};
 
-    /// A search for texts of at least that many bytes, which was told of no address.
+    /// A search for texts of at least that many bytes, which was given no address yet.
     pub fn new(alloc: Global, least: u64) -> MemoryTexts
         requires { 0 < least }
         ensures least { result.least ≡ least }
@@ -130,7 +130,8 @@ impl MemoryTexts {
         Ok(())
     }
 
-    // Goes on with the first of these values: with those that are text, and those after them that are none. Says how many there were.
+    // Continues with the first of these values: with those that are text,
+    // and those after them that are no text. Returns how many there were.
     fn feed_some(&mut self, values: &[u8]) -> Result<u64, AllocError>
         requires some { 0 < length values.now }
         requires fits { self.old.address + length values.now < 2 ^ 64 }
@@ -173,7 +174,8 @@ impl MemoryTexts {
         self.leave(count)
     }
 
-    /// Each text that begins at an address that it was told of, if the next has no value. The error is that there is no memory.
+    /// Each text that starts at an address that it was given, if the
+    /// next has no value. The only error is that there is no memory.
     pub fn end(mut self) -> Result<FoundTexts, AllocError>
         ensures { (space : Space) → HasTexts space self → value_at space self.address ≡ None
             → IfOk result (AreTexts space self.least self.address) }

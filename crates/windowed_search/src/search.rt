@@ -40,7 +40,7 @@ impl<'n> Search<'n> {
         }
     }
 
-    /// Begins anew: what is fed next begins at place `base`.
+    /// Starts anew: the bytes that are fed next start at place `base`.
     pub fn restart(&mut self, base: u64)
         ensures needle { self.new.needle ≡ self.old.needle }
         ensures fed { WasFed self.new base [] }

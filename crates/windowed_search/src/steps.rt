@@ -12,7 +12,7 @@ use address_space::{AddressSpace, Stretch, StretchKind};
 use elf_view::{Elf, a_sound_front_is_enough};
 use std::alloc::{AllocError, Global};
 
-/// What is at the next addresses.
+/// The content of the next addresses.
 #[derive(Clone, Copy, Debug)]
 pub enum Step<'a> {
     /// Bytes of the image.
@@ -31,7 +31,7 @@ pub enum Step<'a> {
     },
 }
 
-// The step for the next stretch, if the image has its bytes from place `at` on.
+// The step for the next addresses of one place, if the image has their bytes from place `at` on.
 fn next_step<'a>(at: u64, stretch: Stretch<'a>) -> Option<Step<'a>>
     ensures step { IfSome result (IsNextStep at stretch.entry) }
 {

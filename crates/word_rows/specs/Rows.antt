@@ -1,4 +1,4 @@
--- Rows of words, with what each of them points to.
+-- Rows of words, each with the target that it points to.
 use Rattle.std.specs.Prelude.{ℕ, ◌+◌, if◌then◌else◌, List, [], ◌∷◌, ◌++◌, find, Option, None, Some, codes, decimal}
 use Rattle.std.specs.Int.{to_be_bytes, w64}
 use Rattle.address_replies.specs.At.{has_address}
@@ -47,11 +47,11 @@ abbrev pub pointer_text : List ℕ → Space → Option PlaceView → ℕ → Li
 pointer_text core space (Some place) a = codes "  " ++ place_words (Some place)
 pointer_text core space None a = unnamed_text core space a
 
--- what is at an address, by the functions of these files
+-- the target at an address, by the functions of these files
 abbrev pub target_text : List ℕ → Space → List NamedFile → ℕ → List ℕ
 target_text core space files a = pointer_text core space (function_of space.files files a (Some a)) a
 
--- a number of 64 bits by its sixteen digits, the greatest first
+-- a number of 64 bits by its sixteen digits, the most significant first
 abbrev pub digits_text : ℕ → List ℕ
 digits_text word = hex_of (to_be_bytes w64 word)
 

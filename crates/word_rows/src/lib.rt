@@ -1,6 +1,6 @@
-//! Words of the memory of a process as rows for people, with what each of them points to.
+//! Words of the memory of a process as rows for people, each with the target that it points to.
 #![tactic(auto)]
 
 mod rows;
 
-pub use rows::{WordMemory, tell_register, tell_word};
+pub use rows::{WordMemory, print_register, print_word};

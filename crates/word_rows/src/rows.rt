@@ -7,7 +7,7 @@ ghost use Rattle.core_notes.specs.FileWords.{file_view};
 ghost use Rattle.image_replies.specs.CoreWords.{core_bytes};
 ghost use Rattle.memory_replies.specs.NamedWords.{place_view};
 ghost use Rattle.memory_replies.specs.NamingWords.{named_file};
-ghost use Rattle.script_streams.specs.Replies.{TellsText, telling};
+ghost use Rattle.script_streams.specs.Replies.{PrintsText, printing};
 ghost use Rattle.thread_regs.specs.ThreadWords.{threads_left};
 ghost use Rattle.word_rows.specs.Rows as spec;
 
@@ -16,11 +16,11 @@ use address_space::{AddressSpace, Mapping};
 use case_screens::{file_place, map_at};
 use core_notes::FileMap;
 use image_replies::CoreImage;
-use memory_replies::{Location, NamedExecutable, function_of, tell_hex_word, tell_place};
+use memory_replies::{Location, NamedExecutable, function_of, print_hex_word, print_place};
 use script_streams::{Output, Reply};
 use thread_regs::{Reg, ThreadList};
 
-/// A memory, and what is known of its addresses.
+/// A memory, and the files that name its addresses.
 #[derive(Clone, Copy)]
 pub struct WordMemory<'m, 'a> {
     /// The core.
@@ -55,114 +55,114 @@ fn stack_in(mapping: &Mapping<'_>, threads: ThreadList<'_>) -> Option<u128>
     None
 }
 
-// Tells that an address is of a thread's stack, or that it is mapped.
-fn tell_mapping<O: Output>(reply: &mut Reply<'_, O>, core: &CoreImage<'_>, mapping: &Mapping<'_>)
-    ensures { TellsText (telling O.Output reply.old reply.new) (spec.mapping_text (core_bytes core.now) (mapping_view mapping.now)) }
+// Prints that an address belongs to a thread's stack, or that it is mapped.
+fn print_mapping<O: Output>(reply: &mut Reply<'_, O>, core: &CoreImage<'_>, mapping: &Mapping<'_>)
+    ensures { PrintsText (printing O.Output reply.old reply.new) (spec.mapping_text (core_bytes core.now) (mapping_view mapping.now)) }
 {
     match stack_in(mapping, threads_of(core)) {
         Some(thread) => {
-            reply.tell(b"  stack of thread ");
-            reply.tell_decimal(thread);
+            reply.print(b"  stack of thread ");
+            reply.print_decimal(thread);
         }
-        None => reply.tell(b"  mapped"),
+        None => reply.print(b"  mapped"),
     }
 }
 
-// Tells the file of an address that has no function; or its mapping; or nothing, if it has none.
-fn tell_unnamed<O: Output>(reply: &mut Reply<'_, O>, memory: WordMemory<'_, '_>, address: u64)
-    ensures { TellsText (telling O.Output reply.old reply.new) (spec.unnamed_text (core_bytes memory.entry.core.now) (space_of memory.entry.space.now) address) }
+// Prints the file of an address that has no function; or its mapping; or nothing, if it has no mapping.
+fn print_unnamed<O: Output>(reply: &mut Reply<'_, O>, memory: WordMemory<'_, '_>, address: u64)
+    ensures { PrintsText (printing O.Output reply.old reply.new) (spec.unnamed_text (core_bytes memory.entry.core.now) (space_of memory.entry.space.now) address) }
 {
     match (
         file_at(memory.core, address),
         mapping_at(memory.space, address),
     ) {
         (Some(map), _) => {
-            reply.tell(b"  ");
-            reply.tell_text(&file_place(&map, address).text);
+            reply.print(b"  ");
+            reply.print_text(&file_place(&map, address).text);
         }
-        (None, Some(mapping)) => tell_mapping(reply, memory.core, &mapping),
+        (None, Some(mapping)) => print_mapping(reply, memory.core, &mapping),
         (None, None) => {}
     }
 }
 
-// Tells what is at an address, after two spaces; nothing, if no mapping has it.
-fn tell_pointer<O: Output>(
+// Prints the target at an address, after two spaces; nothing, if no mapping has it.
+fn print_pointer<O: Output>(
     reply: &mut Reply<'_, O>,
     memory: WordMemory<'_, '_>,
     place: Option<Location<'_>>,
     address: u64,
 )
-    ensures { TellsText (telling O.Output reply.old reply.new) (spec.pointer_text (core_bytes memory.entry.core.now) (space_of memory.entry.space.now) (option_map place_view place.entry) address) }
+    ensures { PrintsText (printing O.Output reply.old reply.new) (spec.pointer_text (core_bytes memory.entry.core.now) (space_of memory.entry.space.now) (option_map place_view place.entry) address) }
 {
     match place {
         Some(place) => {
-            reply.tell(b"  ");
-            tell_place(reply, Some(place));
+            reply.print(b"  ");
+            print_place(reply, Some(place));
         }
-        None => tell_unnamed(reply, memory, address),
+        None => print_unnamed(reply, memory, address),
     }
 }
 
-// Tells what is at an address, by the executables that are attached.
-fn tell_target<O: Output>(reply: &mut Reply<'_, O>, memory: WordMemory<'_, '_>, address: u64)
-    ensures { TellsText (telling O.Output reply.old reply.new)
+// Prints the target at an address, by the executables that are attached.
+fn print_target<O: Output>(reply: &mut Reply<'_, O>, memory: WordMemory<'_, '_>, address: u64)
+    ensures { PrintsText (printing O.Output reply.old reply.new)
         (spec.target_text (core_bytes memory.entry.core.now) (space_of memory.entry.space.now) (map named_file memory.entry.named.now) address) }
 {
     let place = function_of(memory.space, memory.named, address, Some(address));
-    tell_pointer(reply, memory, place, address);
+    print_pointer(reply, memory, place, address);
 }
 
-// Tells the eight bytes of a word as its sixteen digits.
-fn tell_digits<O: Output>(reply: &mut Reply<'_, O>, word: u64)
-    ensures { TellsText (telling O.Output reply.old reply.new) (spec.digits_text word) }
+// Prints the eight bytes of a word as its sixteen digits.
+fn print_digits<O: Output>(reply: &mut Reply<'_, O>, word: u64)
+    ensures { PrintsText (printing O.Output reply.old reply.new) (spec.digits_text word) }
 {
-    reply.tell_hex(&word.to_be_bytes());
+    reply.print_hex(&word.to_be_bytes());
 }
 
-// Tells a word and what it points to; or a minus, if the memory does not have it.
-fn tell_known<O: Output>(reply: &mut Reply<'_, O>, memory: WordMemory<'_, '_>, word: Option<u64>)
-    ensures { TellsText (telling O.Output reply.old reply.new)
+// Prints a word and the target that it points to; or a minus, if the memory does not have it.
+fn print_known<O: Output>(reply: &mut Reply<'_, O>, memory: WordMemory<'_, '_>, word: Option<u64>)
+    ensures { PrintsText (printing O.Output reply.old reply.new)
         (spec.known_text (core_bytes memory.entry.core.now) (space_of memory.entry.space.now) (map named_file memory.entry.named.now) word) }
 {
     match word {
         Some(word) => {
-            tell_digits(reply, word);
-            tell_target(reply, memory, word);
+            print_digits(reply, word);
+            print_target(reply, memory, word);
         }
-        None => reply.tell(b"-"),
+        None => reply.print(b"-"),
     }
 }
 
-/// Prints a row: the address of a word, the word by its sixteen digits, and what it points to: the function, or the place in the mapped file,
-/// or the thread whose stack pointer is in the same mapping, or that it is mapped. A word that the memory does not have is `-`.
-pub fn tell_word<O: Output>(
+/// Prints a row: the address of a word, the word by its sixteen digits, and the target that it points to: the function, or the place in the
+/// mapped file, or the thread whose stack pointer is in the same mapping, or that it is mapped. A word that the memory does not have is `-`.
+pub fn print_word<O: Output>(
     reply: &mut Reply<'_, O>,
     memory: WordMemory<'_, '_>,
     address: u64,
     word: Option<u64>,
 )
-    ensures is_row { TellsText (telling O.Output reply.old reply.new)
+    ensures is_row { PrintsText (printing O.Output reply.old reply.new)
         (spec.word_row (core_bytes memory.entry.core.now) (space_of memory.entry.space.now) (map named_file memory.entry.named.now) address word) }
 {
-    tell_hex_word(reply, address);
-    reply.tell(b" ");
-    tell_known(reply, memory, word);
-    reply.tell(b"\n");
+    print_hex_word(reply, address);
+    reply.print(b" ");
+    print_known(reply, memory, word);
+    reply.print(b"\n");
 }
 
-/// Prints a row: the name of a register, its value, and what it points to, as the row of a word has it.
-pub fn tell_register<O: Output>(
+/// Prints a row: the name of a register, its value, and the target that it points to, as in the row of a word.
+pub fn print_register<O: Output>(
     reply: &mut Reply<'_, O>,
     memory: WordMemory<'_, '_>,
     name: &[u8],
     value: u64,
 )
-    ensures is_row { TellsText (telling O.Output reply.old reply.new)
+    ensures is_row { PrintsText (printing O.Output reply.old reply.new)
         (spec.register_row (core_bytes memory.entry.core.now) (space_of memory.entry.space.now) (map named_file memory.entry.named.now) name.now value) }
 {
-    reply.tell(name);
-    reply.tell(b" ");
-    reply.tell_hexadecimal(u128::from(value));
-    tell_target(reply, memory, value);
-    reply.tell(b"\n");
+    reply.print(name);
+    reply.print(b" ");
+    reply.print_hexadecimal(u128::from(value));
+    print_target(reply, memory, value);
+    reply.print(b"\n");
 }

@@ -1,4 +1,4 @@
-//! Tests of the streams of a script, of the lines that may be asked, of policies, of how far a command is, and of what is mounted.
+//! Tests of the streams of a script, of the lines that may be asked, of policies, of progress lines, and of the mount table.
 #![tactic(auto)]
 
 #[cfg(test)]

@@ -30,7 +30,7 @@ static SUBVOLUMES: &[u8] =
 41 25 253:1 / /srv rw,relatime shared:21 - ext4 /dev/mapper/srv rw
 ";
 
-// What is none of a mount's lines, before one that is: too few fields, no hyphen, one that is not alone, and bytes that are no text.
+// Lines that are no mount's, before one that is: too few fields, no hyphen, a hyphen that is not alone, and bytes that are no text.
 static BROKEN: &[u8] =
     b"\n28\n28 1 8:2 / / rw\n28 1 8:2 / / rw shared:1 ext4 /dev/sda2 rw\n28 1 8:2 / / rw -ext4 x rw\n28 1 8:2 / / -\n\xff\xfe 1 9:8 / /\xff rw - xfs x rw
 28 1 8:2 / / rw shared:1 - f2fs /dev/sda2 rw";
@@ -70,7 +70,7 @@ static IN_SUBVOLUMES: [Found; 3] = [
 
 static IN_BROKEN: [Found; 1] = [(b"8:2", b"/archive", Some(b"f2fs"))];
 
-// What is found in a text.
+// The mounts that are found in a text.
 fn finds<R: Abort>(rt: &R, text: &[u8], all: &[Found]) {
     for (device, path, wanted) in all {
         assert_eq!(rt; kind_of(text, device, path), *wanted);

@@ -1,4 +1,4 @@
-//! A policy that is decided again after memory was refused. What policies decide is shown by rows of `examples/rows`.
+//! A policy that is decided again after memory was refused. Rows of `examples/rows` show the decisions of policies.
 ghost use Rattle.std.specs.Prelude.{◌≡◌, ◌<◌};
 
 use retention::{Brief, Decision, Policy, decide};
@@ -18,7 +18,7 @@ fn case(seq: u32, time: u8, pinned: bool) -> Brief
     }
 }
 
-// What is decided of three cases.
+// The decision about three cases.
 fn decided(
     alloc: Global,
     cases: (Brief, Brief, Brief),
@@ -45,7 +45,7 @@ fn drops(rt: &impl Abort, decision: &Decision, dropped: &[u32], unmet: bool) {
     assert_eq!(rt; decision.unmet, unmet);
 }
 
-// What is decided, asked again where memory is refused.
+// The decision, asked for again if memory is refused.
 fn decided_again(
     alloc: Global,
     cases: (Brief, Brief, Brief),

@@ -1,8 +1,9 @@
-//! How far a command is: what is shown on a terminal, and when; and that each byte that passes is told once.
+//! The progress of a command: the text that is shown on a terminal,
+//! and when; and that each byte that passes is reported once.
 use diagnostics::{Call, Onlooker, Trouble};
 use disk_model::{Disk, DiskFault, MemDisk};
 use script_streams::{Output, Reply, WriteOutput};
-use shown_progress::{CountedDisk, CountedInput, CountedOutput, Listener, Meter, Work, tell_work};
+use shown_progress::{CountedDisk, CountedInput, CountedOutput, Listener, Meter, Work, print_work};
 use std::alloc::Global;
 use std::cell::Cell;
 use std::io::Read;
@@ -27,7 +28,7 @@ impl Clock for Hand {
     }
 }
 
-// What an onlooker heard.
+// The reports that an onlooker got.
 #[derive(Default, Drop)]
 struct Heard {
     works: u32,
@@ -59,7 +60,7 @@ const TROUBLE: Trouble = Trouble {
     errno: Some(28),
 };
 
-// A piece of work, the milliseconds since it began, and what is told of it.
+// A piece of work, the milliseconds since it began, and the text for it.
 type Row = (&'static str, Option<u64>, u64, u64, &'static str);
 
 static ROWS: [Row; 8] = [
@@ -115,11 +116,11 @@ static ROWS: [Row; 8] = [
     ),
 ];
 
-// What is told of a piece of work.
+// The text for a piece of work.
 fn told(alloc: Global, work: Work, millis: u64) -> Result<Vec<u8>, Fail> {
     let mut output = WriteOutput::new(Vec::new(alloc));
     let mut reply = Reply::new(&mut output);
-    tell_work(&mut reply, work, millis);
+    print_work(&mut reply, work, millis);
     reply.finish()?;
     Ok(output.into_inner())
 }

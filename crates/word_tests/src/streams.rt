@@ -74,7 +74,7 @@ struct Script<'a> {
 
 // The next line, which is kept.
 fn next_line(script: &mut Script<'_>) -> Result<LineEnding, ReadStop> {
-    tell_and_read(script, b"")
+    print_and_read(script, b"")
 }
 
 // The next bytes of a part, and how many there are.
@@ -189,34 +189,34 @@ fn output_that_fails(rt: HostRuntime) -> Result<(), Fail> {
         failures: 0,
     };
     let mut reply = Reply::new(&mut output);
-    reply.tell(b"ok\n");
+    reply.print(b"ok\n");
     assert_eq!(rt; reply.finish(), Ok(()));
-    reply.tell(b"no");
+    reply.print(b"no");
     assert_eq!(rt; reply.finish(), Err(StreamFault));
-    reply.tell(b"more");
+    reply.print(b"more");
     assert_eq!(rt; reply.finish(), Err(StreamFault));
     assert_eq!(rt; (output.last, output.failures), (b'\n', 1));
     Ok(())
 }
 
-// What numbers and bytes are told as.
-fn tell_values<O: Output>(reply: &mut Reply<'_, O>) {
-    reply.tell_hexadecimal(16);
-    reply.tell_decimal(4);
-    reply.tell_signed(-1);
-    reply.tell_hex(b"\x0a\xbb");
+// The printed forms of numbers and bytes.
+fn print_values<O: Output>(reply: &mut Reply<'_, O>) {
+    reply.print_hexadecimal(16);
+    reply.print_decimal(4);
+    reply.print_signed(-1);
+    reply.print_hex(b"\x0a\xbb");
 }
 
-// Tells the script's output a text, and lets the reply go.
-fn tell(script: &mut Script<'_>, text: &[u8]) {
+// Prints a text to the script's output, and drops the reply.
+fn print(script: &mut Script<'_>, text: &[u8]) {
     let mut reply = Reply::new(&mut script.output);
-    reply.tell(text);
+    reply.print(text);
 }
 
-// Tells the script's output a text, and reads the next line.
-fn tell_and_read(script: &mut Script<'_>, text: &[u8]) -> Result<LineEnding, ReadStop> {
+// Prints a text to the script's output, and reads the next line.
+fn print_and_read(script: &mut Script<'_>, text: &[u8]) -> Result<LineEnding, ReadStop> {
     let mut reply = Reply::new(&mut script.output);
-    reply.tell(text);
+    reply.print(text);
     let line = &mut script.line;
     script.buffer.next_line(&mut script.input, line, &mut reply)
 }
@@ -226,9 +226,9 @@ fn replies_come_before_more_is_read(rt: HostRuntime) -> Result<(), Fail> {
     let mut script = script_of(b"list\nfree\n", 5, false);
     script.output = takes_at_most(3);
     next_line(&mut script)?;
-    tell(&mut script, b"ok\n");
+    print(&mut script, b"ok\n");
     let before = script.output.left;
-    tell_and_read(&mut script, b"ok\n")?;
+    print_and_read(&mut script, b"ok\n")?;
     assert_eq!(rt;
         (before, script.output.left, script.output.last),
         (3, 0, b'\n')
@@ -253,11 +253,11 @@ fn a_slice_is_an_input(rt: HostRuntime) -> Result<(), Fail> {
 fn a_vector_is_an_output(rt: HostRuntime) {
     let mut output = WriteOutput::new(Vec::new(rt.alloc()));
     let mut reply = Reply::new(&mut output);
-    reply.tell(b"free");
+    reply.print(b"free");
     for text in [b"".as_slice(), b"-", b"a b"] {
-        reply.tell_text(text);
+        reply.print_text(text);
     }
-    tell_values(&mut reply);
+    print_values(&mut reply);
     assert_eq!(rt; reply.finish(), Ok(()));
     let written = output.into_inner();
     assert_eq!(rt;
@@ -266,7 +266,7 @@ fn a_vector_is_an_output(rt: HostRuntime) {
     );
 }
 
-// A writer that takes nothing fails, and so does a reader that answers `Err`.
+// A writer that takes no byte fails, and a reader that answers `Err` too.
 #[derive(Drop)]
 struct Shut;
 

@@ -13,7 +13,7 @@ use Rattle.image_replies.specs.CoreWords.{core_bytes}
 use Rattle.intake.specs.Parts.{state_of}
 use Rattle.elf_view.specs.declared.faults.Want.TheVariants.{Core}
 use Rattle.case_info.specs.Fronts.{IsFront}
-use Rattle.case_info.specs.Screens.{shown_count}
+use Rattle.case_info.specs.Screens.{screen_lines, shown_count}
 use Rattle.case_info.proofs.ScreenLemmas.{asks_none, asks_some, bytes_in, front_again, front_short, has_still, says_same, sound_core}
 use Rattle.case_info.proofs.case.core_screen.Goals as goal
 
@@ -117,7 +117,7 @@ returns g c = λ plain.
       asks_some g.D.Disk old mid seq image all a said.core core new c.in-Ok.is
           record {
             told = told_view told.files;
-            tells = c.in_ok-told.ensures.told.told image sees.2;
+            states = c.in_ok-told.ensures.told.told image sees.2;
             executables = xs;
             read = read;
             collects = collects;
@@ -125,7 +125,7 @@ returns g c = λ plain.
             all = last;
             debugs = subst (λ (ys : List ExecutableView). CollectsAll g.D.Disk read (debugs_by (told_or_none (told_view told.files)) ys (state_of read).cases) (Ok ds) last) (ap (map executable_view) c.deref-2.ensures.value) debugs;
             facts = facts;
-            says = says_same g.D.Disk old new seq o.front.now (core_bytes core) size _ (told_view told.files) _ (xs ++ ds) _ _ facts lent (sym sees.2.0.0) both count found;
+            says = says_same g.D.Disk old new seq o.front.now (core_bytes core) size _ (told_view told.files) _ (xs ++ ds) _ _ screen_lines facts lent (sym sees.2.0.0) both count found;
             are = record { unwound = c.deref-5.ensures.value; builds = c.builds_in.ensures };
           },
       c.in_ok-put_core-2.ensures plain,

@@ -98,13 +98,13 @@ returns-clause-sees g c = λ old has seen.
         asks_builds g.D.Disk old mid seq image new _ c.core_in.result.core core says.notes_are c.in-Ok.is
             record {
               told = told_view told.files;
-              tells = c.in_ok-told.ensures.told.told image sees.2;
+              states = c.in_ok-told.ensures.told.told image sees.2;
               executables = xs;
               read = read;
               collects = c.in_ok-executables.ensures.collects;
               again = found.image;
               seen = found.seen;
-              still = found.tells;
+              still = found.states;
               values_are = refl;
             },
       ),

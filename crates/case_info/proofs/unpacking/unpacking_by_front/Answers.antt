@@ -93,7 +93,7 @@ returns g c = λ old has seen.
       asks_unpacked g.D.Disk old mid seq image _ c.core_in.result.core says.notes_are new core files c.in-Ok.is
           record {
             told = told_view told.files;
-            tells = c.in_ok-told.ensures.told.told image sees.2;
+            states = c.in_ok-told.ensures.told.told image sees.2;
             executables = xs;
             read = read;
             collects = collects;
@@ -102,7 +102,7 @@ returns g c = λ old has seen.
             debugs = subst (λ (ys : List ExecutableView). CollectsAll g.D.Disk read (debugs_by (told_or_none (told_view told.files)) ys (state_of read).cases) (Ok ds) last) (ap (map executable_view) c.deref.ensures.value) debugs;
             again = found.image;
             seen = found.seen;
-            still = found.tells;
+            still = found.states;
             files_are = refl;
           }
           record {

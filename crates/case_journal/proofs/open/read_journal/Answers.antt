@@ -4,7 +4,7 @@ use Rattle.journal_layout.specs.Case.{case_of}
 use Rattle.journal_layout.specs.Layout.{half_length}
 use Rattle.journal_layout.specs.Folding.{nothing_yet}
 use Rattle.journal_layout.specs.Stands.{AreRead, records_area}
-use Rattle.journal_records.specs.Said.{said_of, EndsIn, TellsFaulty}
+use Rattle.journal_records.specs.Said.{said_of, EndsIn, SaysFaulty}
 use Rattle.case_journal.proofs.KeptLemmas.{kept_read}
 use Rattle.case_journal.proofs.OpenLemmas.{both_shown, faulty_gives, read_gives}
 use Rattle.case_journal.proofs.SettleLemmas.{gates_low, low_after}
@@ -17,7 +17,7 @@ returns-in_err-read-clause-shows g c b view =
     let two = c.in_ok-bytes.ensures.shows one.shown one.view in
     let front = c.in_ok-front.front in
     let shown = both_shown g.D.Disk c.read_front.new.disk c.read_records.new.disk front c.in_ok-bytes.bytes.items b one two c.in_ok-bytes.ensures.long in
-    let tells = c.in_err-read.ensures.fault in
+    let states = c.in_err-read.ensures.fault in
     let made = err_from_is_err_and c.from_residual-in_err-read.result c.from_residual-in_err-read.ensures.1 in
     rw (made.1, made.2)
     (record {
@@ -25,7 +25,7 @@ returns-in_err-read-clause-shows g c b view =
       view = two.view;
       gives = faulty_gives g.D.Disk front c.in_ok-bytes.bytes.items two.shown (c.half_start-at.result + 32) c.in_err-read.field-0.0 shown
           (ap (λ (p : ℕ). p + 32) c.half_start-at.ensures)
-          (subst (λ (x : List ℕ). TellsFaulty front.shape.data_blocks front.version (c.half_start-at.result + 32) x c.in_err-read.field-0.0) c.deref.ensures.value tells);
+          (subst (λ (x : List ℕ). SaysFaulty front.shape.data_blocks front.version (c.half_start-at.result + 32) x c.in_err-read.field-0.0) c.deref.ensures.value states);
     })
 
 pub returns-clause-shows : goal.returns-clause-shows

@@ -26,8 +26,8 @@ foreseen cases policy before after count count' r d (Err fault) decides told is 
 pub returns-in-Ok-Some : goal.returns-in-Ok-Some
 returns-in-Ok-Some g c =
     let d = c.in-Ok-Some.decision in
-    let told = c.tell_decision.ensures in
+    let told = c.print_decision.ensures in
     let decides = subst (λ (o : Option Decision). IfSome o (λ x. IsDecision c.args.policy.now (map brief_of_entry c.in-Ok.cases.now) x.dropped.items x.unmet)) c.in-Ok-Some.field-0-is c.in-Ok-Some.ensures in
-    foreseen _ c.args.policy.now _ _ _ _ c.tell_decision.result d told.0
+    foreseen _ c.args.policy.now _ _ _ _ c.print_decision.result d told.0
     (subst (λ (bs : List Brief). IsDecision c.args.policy.now bs d.dropped.items d.unmet) (briefs_are c.in-Ok.cases.now ∙ ap (map brief_of) c.in-Ok.ensures.1) decides)
     told.1 told.2

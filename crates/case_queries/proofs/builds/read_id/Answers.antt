@@ -1,5 +1,5 @@
 use Rattle.std.proofs.Common.{Ok, subst, arith}
-use Rattle.build_ids.specs.Fronts.{TellsId}
+use Rattle.build_ids.specs.Fronts.{GivesId}
 use Rattle.case_queries.proofs.BuildLemmas.{begins_still, id_found, more_then, sees_kept}
 use Rattle.case_queries.proofs.builds.read_id.Goals as goal
 
@@ -11,8 +11,8 @@ pub returns-in-Ok-clause-id : goal.returns-in-Ok-clause-id
 returns-in-Ok-clause-id g c =
     let front = c.args.front in
     let so_far = c.loop-id.invariant in
-    let tells = subst (λ b. TellsId b front.count (Ok c.in-Ok.id)) c.deref.ensures.value c.in-Ok.ensures in
-    id_found c.args.image c.args.pieces.now.items c.loop-id.pieces.items front c.loop-id.bytes.items c.in-Ok.id c.kept_id.result so_far.more so_far.gathered so_far.few c.requires.within tells c.kept_id.ensures
+    let states = subst (λ b. GivesId b front.count (Ok c.in-Ok.id)) c.deref.ensures.value c.in-Ok.ensures in
+    id_found c.args.image c.args.pieces.now.items c.loop-id.pieces.items front c.loop-id.bytes.items c.in-Ok.id c.kept_id.result so_far.more so_far.gathered so_far.few c.requires.within states c.kept_id.ensures
 
 pub loop-id-preserved : goal.loop-id-preserved
 loop-id-preserved g c =

@@ -17,5 +17,5 @@ returns g c = λ before sees.
     let views = p.views
     ∙ ap (λ (ys : List StoredExecutable). map executable_view ys ++ map executable_view p.debug_files.now) c.in-Ok.ensures.stored
     ∙ ap (λ (ds : List StoredExecutable). map executable_view c.args.executables.now ++ map executable_view ds) c.in-Ok.ensures.debugs in
-    subst (λ (ys : List ExecutableView). SaysFacts g.D.Disk before o.seq o.front.now o.size (told_view c.args.told.files) ys c.args.threads c.in_ok-core_facts_with.field-0 c.core_facts_with.new.archive) views
+    subst (λ (ys : List ExecutableView). SaysFacts g.D.Disk before o.seq o.front.now o.size (told_view c.args.told.files) ys c.args.threads c.args.lines c.in_ok-core_facts_with.field-0 c.core_facts_with.new.archive) views
     (c.in_ok-core_facts_with.ensures before sees)

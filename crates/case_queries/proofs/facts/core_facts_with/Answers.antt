@@ -22,7 +22,7 @@ returns-in-Ok-unwind_threads g c = λ before sees.
     let views = prepared_views c.args.prepared.now in
     let found = c.in-Ok-unwind_threads.ensures in
     let seen = found.sees before sees in
-    let tells = c.requires.told.told seen.0 seen.2 in
+    let states = c.requires.told.told seen.0 seen.2 in
     let second = ap (map attached_view) c.deref-2.ensures.value in
     record {
       count = found.count;
@@ -30,6 +30,6 @@ returns-in-Ok-unwind_threads g c = λ before sees.
       image = seen.0;
       seen = seen.1;
       begins = seen.2.0;
-      tells = tells;
-      builds = ap (λ (t : Option (List NamedId)). option_map (values_of views) t) tells ∙ ap (λ (ys : List ExecutableView). option_map (values_of ys) told) (sym second) ∙ sym c.in-Ok-build_answers.ensures;
+      states = states;
+      builds = ap (λ (t : Option (List NamedId)). option_map (values_of views) t) states ∙ ap (λ (ys : List ExecutableView). option_map (values_of ys) told) (sym second) ∙ sym c.in-Ok-build_answers.ensures;
     }

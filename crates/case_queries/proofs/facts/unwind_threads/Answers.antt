@@ -26,7 +26,7 @@ loop-thread-init g c =
       walks = found.walks o (prepared_views c.args.prepared.now) c.requires.front c.requires.sound c.requires.told c.requires.chosen;
       pieces = ap (λ (v : Vec Part Global). v.items) found.pieces;
       sees = λ before seen. seen;
-      told = λ before seen. subst (λ (us : List (Option FramesAnswer)). AreFramesOf g.D.Disk before o.seq o.front.now o.size (told_view c.args.told.files) (prepared_views c.args.prepared.now) 0 us) (sym c.new-all.ensures.items) tt;
+      told = λ before seen. subst (λ (us : List (Option FramesAnswer)). AreFramesOf g.D.Disk before o.seq o.front.now o.size (told_view c.args.told.files) (prepared_views c.args.prepared.now) c.args.lines 0 us) (sym c.new-all.ensures.items) tt;
       count = search (rules, c.new-all.ensures.items);
     }
 
@@ -53,8 +53,8 @@ loop-thread-preserved g c =
       pieces = last.pieces ∙ so_far.pieces;
       sees = λ before seen. subst (λ ps. SeesPieces g.D.Disk before o ps new) so_far.pieces (last.sees before (now before seen));
       told = λ before seen.
-          subst (λ (us : List (Option FramesAnswer)). AreFramesOf g.D.Disk before o.seq o.front.now o.size (told_view told.files) xs 0 us) (sym c.in-Ok-push.ensures.items)
-          (frames_more g.D.Disk before o.seq o.front.now o.size (told_view told.files) xs 0 thread c.loop-thread.all.items c.in_ok-frames.frames (so_far.told before seen) (omega (arith, so_far.count))
+          subst (λ (us : List (Option FramesAnswer)). AreFramesOf g.D.Disk before o.seq o.front.now o.size (told_view told.files) xs c.args.lines 0 us) (sym c.in-Ok-push.ensures.items)
+          (frames_more g.D.Disk before o.seq o.front.now o.size (told_view told.files) xs c.args.lines 0 thread c.loop-thread.all.items c.in_ok-frames.frames (so_far.told before seen) (omega (arith, so_far.count))
           (last.told before (told_view told.files) xs so_far.walks (λ b begins. c.requires.told.told b (subst (λ ps. BeginsWith o ps b) so_far.pieces begins)) (now before seen)));
       count = search (rules, c.in-Ok-push.ensures.items, so_far.count);
     }

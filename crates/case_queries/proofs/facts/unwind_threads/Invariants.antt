@@ -16,6 +16,6 @@ invariant-loop-thread g l = record {
   pieces : l.found.pieces.items ≡ l.fn.told.pieces.items;
   sees : (before : Parts g.row.D.Denot) → SeesPieces g.D.Disk before l.image l.fn.told.pieces.items l.initial.archive → SeesPieces g.D.Disk before l.image l.fn.told.pieces.items l.archive;
   told : (before : Parts g.row.D.Denot) → SeesPieces g.D.Disk before l.image l.fn.told.pieces.items l.initial.archive
-      → AreFramesOf g.D.Disk before l.image.seq l.image.front.now l.image.size (told_view l.fn.told.files) (prepared_views l.prepared) 0 l.all.items;
+      → AreFramesOf g.D.Disk before l.image.seq l.image.front.now l.image.size (told_view l.fn.told.files) (prepared_views l.prepared) l.lines 0 l.all.items;
   count : length l.all.items ≡ l.thread;
 }

@@ -30,7 +30,7 @@ returns-in-Err-clause-answers g c = (
   no_reply (reason_of c.in-Err.fault),
   (Err c.in-Err.fault, c.see_front.new.archive, c.in-Err.ensures.seen, (refl, refl)),
   (reason_of c.in-Err.fault, refl),
-  rw c.reason.ensures at c.tell_no.ensures,
+  rw c.reason.ensures at c.print_no.ensures,
 )
 
 pub find_seen-outcome-requires-clause-runs : goal.find_seen-outcome-requires-clause-runs

@@ -71,7 +71,7 @@ returns-in-Err-clause-answers g c before reads =
       _,
       unread_asked g.D.Disk c.a_sound_front_names_the_files.ensures image c.requires.sound (aim_of c.args.sought) before now c.collect.new.archive f c.requires.has c.requires.short reads collects,
       rw c.refused_by.ensures (reason_of f, refl),
-      rw c.reason.ensures at c.tell_no.ensures,
+      rw c.reason.ensures at c.print_no.ensures,
     )
 
 pub returns-in-Err-clause-leaves : goal.returns-in-Err-clause-leaves

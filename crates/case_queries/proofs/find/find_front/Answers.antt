@@ -13,4 +13,4 @@ returns-in-Ok-clause-answers g c before kind reads =
 pub returns-in-Err-clause-answers : goal.returns-in-Err-clause-answers
 returns-in-Err-clause-answers g c before kind reads =
     let image = c.args.image in
-    (_, fault_asked g.D.Disk c.a_sound_front_answers.ensures.fault before c.args.archive.now image (asking_of c.args.asked) kind c.in-Err.fault c.requires.has c.requires.short c.requires.sound c.in-Err.ensures.fault reads, (core_reason c.in-Err.fault, refl), c.tell_core_fault.ensures)
+    (_, fault_asked g.D.Disk c.a_sound_front_answers.ensures.fault before c.args.archive.now image (asking_of c.args.asked) kind c.in-Err.fault c.requires.has c.requires.short c.requires.sound c.in-Err.ensures.fault reads, (core_reason c.in-Err.fault, refl), c.print_core_fault.ensures)

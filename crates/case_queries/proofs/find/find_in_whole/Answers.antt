@@ -11,7 +11,7 @@ use Rattle.case_queries.proofs.find.find_in_whole.Goals as goal
 pub returns-in_default : goal.returns-in_default
 returns-in_default g c before reads =
     let image = c.args.image in
-    (_, none_shown g.D.Disk before image c.args.archive.now _ (for_aim (aim_of c.args.sought)) c.requires.has c.requires.short reads, memory_outcome _ c.tell_no_memory.ensures.done, c.tell_no_memory.ensures.tells)
+    (_, none_shown g.D.Disk before image c.args.archive.now _ (for_aim (aim_of c.args.sought)) c.requires.has c.requires.short reads, memory_outcome _ c.print_no_memory.ensures.done, c.print_no_memory.ensures.states)
 
 pub find_in_bytes-requires-clause-clean : goal.find_in_bytes-requires-clause-clean
 find_in_bytes-requires-clause-clean g c =
@@ -44,4 +44,4 @@ returns g c before reads =
     let first : c.extend_from_slice.new.self.items ≡ front = items ∙ ap (λ (x : List ℕ). x ++ front) c.in-Ok.ensures.items in
     let bytes = c.read_up_to.new.image.items in
     let up = subst (λ f. ReadsUpTo g.D.Disk c.args.archive.now image.seq f image.size (Err c.in-Err.fault) bytes c.read_up_to.new.archive) first c.in-Err.ensures.read in
-    (_, whole_unread g.D.Disk before c.args.archive.now c.read_up_to.new.archive image (map attached_view c.args.attached.now) (for_aim (aim_of c.args.sought)) c.requires.has reads bytes c.in-Err.fault up, (reason_of c.in-Err.fault, refl), rw c.reason.ensures at c.tell_no.ensures)
+    (_, whole_unread g.D.Disk before c.args.archive.now c.read_up_to.new.archive image (map attached_view c.args.attached.now) (for_aim (aim_of c.args.sought)) c.requires.has reads bytes c.in-Err.fault up, (reason_of c.in-Err.fault, refl), rw c.reason.ensures at c.print_no.ensures)

@@ -8,4 +8,4 @@ use Rattle.case_queries.proofs.find.find_with.Goals as goal
 pub returns-in-Err : goal.returns-in-Err
 returns-in-Err g c before reads =
     let image = c.args.image in
-    (_, none_shown g.D.Disk before image c.args.archive.now (map executable_view c.args.executables.now) (for_aim (aim_of c.args.sought)) c.requires.has c.requires.short reads, memory_outcome _ c.tell_no_memory.ensures.done, c.tell_no_memory.ensures.tells)
+    (_, none_shown g.D.Disk before image c.args.archive.now (map executable_view c.args.executables.now) (for_aim (aim_of c.args.sought)) c.requires.has c.requires.short reads, memory_outcome _ c.print_no_memory.ensures.done, c.print_no_memory.ensures.states)

@@ -18,13 +18,13 @@ returns-in_default g c before sees =
     let image = c.args.image in
     let xs = map attached_view c.args.attached.now in
     let none = subst (λ b. state_of b c.args.thread ≡ None) c.requires.front c.in_default.ensures in
-    (_, missing_shown g.D.Disk before c.args.archive.now image c.args.told.pieces.items xs c.args.thread c.args.asked sees (missing_in c.a_sound_front_is_enough.ensures.notes image c.requires.sound c.args.thread sees.0 sees.2.0 none), (codes "NoThread", refl), c.tell_no.ensures)
+    (_, missing_shown g.D.Disk before c.args.archive.now image c.args.told.pieces.items xs c.args.thread c.args.asked sees (missing_in c.a_sound_front_is_enough.ensures.notes image c.requires.sound c.args.thread sees.0 sees.2.0 none), (codes "NoThread", refl), c.print_no.ensures)
 
 pub returns-in_default-of : goal.returns-in_default-of
-returns-in_default-of g c before sees = (_, (Ok sees.0, sees.1, (sees.2.0, inr refl)), memory_outcome _ c.tell_no_memory.ensures.done, c.tell_no_memory.ensures.tells)
+returns-in_default-of g c before sees = (_, (Ok sees.0, sees.1, (sees.2.0, inr refl)), memory_outcome _ c.print_no_memory.ensures.done, c.print_no_memory.ensures.states)
 
 pub returns-in_default-of-2 : goal.returns-in_default-of-2
-returns-in_default-of-2 g c before sees = (_, (Ok sees.0, sees.1, (sees.2.0, inr refl)), memory_outcome _ c.tell_no_memory-in_default-of-2.ensures.done, c.tell_no_memory-in_default-of-2.ensures.tells)
+returns-in_default-of-2 g c before sees = (_, (Ok sees.0, sees.1, (sees.2.0, inr refl)), memory_outcome _ c.print_no_memory-in_default-of-2.ensures.done, c.print_no_memory-in_default-of-2.ensures.states)
 
 pub returns-in-Ok-process_in_core : goal.returns-in-Ok-process_in_core
 returns-in-Ok-process_in_core g c before sees =
@@ -38,4 +38,4 @@ returns-in-Ok-process_in_core g c before sees =
     (told.0, subst (λ ps. ShowsTold g.D.Disk before o ps xs (for_frames c.args.thread c.args.asked) told.0 c.frames_of_walk.new.archive) same told.1, told.2, told.3)
 
 pub returns-in-Err : goal.returns-in-Err
-returns-in-Err g c before sees = (_, (Ok sees.0, sees.1, (sees.2.0, inr refl)), memory_outcome _ c.tell_no_memory-in-Err.ensures.done, c.tell_no_memory-in-Err.ensures.tells)
+returns-in-Err g c before sees = (_, (Ok sees.0, sees.1, (sees.2.0, inr refl)), memory_outcome _ c.print_no_memory-in-Err.ensures.done, c.print_no_memory-in-Err.ensures.states)

@@ -13,7 +13,7 @@ returns-in-Err-clause-answers g c = (
   inspected g.D.Disk c.args.archive.now c.args.seq (query_of c.args.query.now) (no_reply c.in-Err.reason.now) c.args.archive.now
       (reason_told g.D.Disk c.args.archive.now c.args.seq (query_of c.args.query.now) c.in-Err.reason.now (kind_asked (state_of c.args.archive.now) c.args.seq (query_of c.args.query.now)) c.in-Err.ensures.asked),
   (c.in-Err.reason.now, refl),
-  c.tell_no.ensures,
+  c.print_no.ensures,
 )
 
 pub returns-in-Image-clause-answers : goal.returns-in-Image-clause-answers

@@ -10,7 +10,7 @@ returns-in-Err-clause-answers g c image by =
       no_reply (core_reason c.in-Err.fault),
       fault_shown g.D.Disk c.args.archive.now c.args.kind image c.args.query.now c.in-Err.fault (c.in-Err.ensures.fault ∙ same),
       (core_reason c.in-Err.fault, refl),
-      c.tell_core_fault.ensures,
+      c.print_core_fault.ensures,
     )
 
 pub returns-in-Ok-clause-answers : goal.returns-in-Ok-clause-answers

@@ -18,5 +18,5 @@ returns-in-Err-clause-answers g c = (
   no_reply (core_reason c.in-Err.fault),
   rw (sym c.in-Err.ensures.fault) (refl, refl),
   (core_reason c.in-Err.fault, refl),
-  c.tell_core_fault.ensures,
+  c.print_core_fault.ensures,
 )

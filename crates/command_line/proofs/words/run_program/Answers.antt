@@ -13,5 +13,5 @@ returns-in-Ok-clause-quiet g c = λ zero. some_notes c.as_slice.result.now g.E.O
 
 pub returns-in-Err-clause-quiet : goal.returns-in-Err-clause-quiet
 returns-in-Err-clause-quiet g c = λ zero.
-    let same = c.tell_ending.ensures.quiet zero in
+    let same = c.print_ending.ensures.quiet zero in
     ([], (c.args.errors.now, inl refl, inl same, λ other. same))

@@ -37,4 +37,4 @@ returns-in-CountFree g c =
 pub returns-in-ListCases : goal.returns-in-ListCases
 returns-in-ListCases g c =
     let s = state_of c.args.archive.now in
-    rw c.in-ListCases.is (list_reply s.stopped s.version s.cases, (λ naming by_path. (refl, refl)), list_outcome s.stopped s.version s.cases _ c.answer_list.ensures.done, c.answer_list.ensures.tells)
+    rw c.in-ListCases.is (list_reply s.stopped s.version s.cases, (λ naming by_path. (refl, refl)), list_outcome s.stopped s.version s.cases _ c.answer_list.ensures.done, c.answer_list.ensures.states)

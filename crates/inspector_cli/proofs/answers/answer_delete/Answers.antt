@@ -7,5 +7,5 @@ returns g c =
     let call = c.delete-outcome.ensures in (
       plain_reply c.delete-outcome.result,
       ((c.delete-outcome.result, call, refl), c.is_ok-is_carried_out.ensures.value),
-      c.tell_outcome.ensures,
+      c.print_outcome.ensures,
     )

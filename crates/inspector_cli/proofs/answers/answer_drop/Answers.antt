@@ -11,5 +11,5 @@ returns g c =
         call,
         refl,
       ),
-      c.tell_outcome.ensures,
+      c.print_outcome.ensures,
     )

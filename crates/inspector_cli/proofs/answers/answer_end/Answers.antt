@@ -12,5 +12,5 @@ returns g c =
         refl,
         c.ok-stored.ensures.value,
       ),
-      c.tell_stored.ensures,
+      c.print_stored.ensures,
     )

@@ -8,5 +8,5 @@ returns g c =
     let call = subst (λ (text : List ℕ). LabelCall g.D.Disk c.args.archive.now c.args.seq text c.label-outcome.result c.label-outcome.new.self) c.as_slice.ensures.value c.label-outcome.ensures in (
       plain_reply c.label-outcome.result,
       ((c.label-outcome.result, call, refl), c.is_ok-is_carried_out.ensures.value),
-      c.tell_outcome.ensures,
+      c.print_outcome.ensures,
     )

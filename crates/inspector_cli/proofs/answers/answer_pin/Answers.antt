@@ -7,5 +7,5 @@ returns g c =
     let call = c.pin-outcome.ensures in (
       plain_reply c.pin-outcome.result,
       ((c.pin-outcome.result, call, refl), c.is_ok-is_carried_out.ensures.value),
-      c.tell_outcome.ensures,
+      c.print_outcome.ensures,
     )

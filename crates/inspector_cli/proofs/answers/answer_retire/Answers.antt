@@ -7,5 +7,5 @@ returns g c =
     let call = c.retire-outcome.ensures in (
       retire_reply c.retire-outcome.result,
       ((c.retire-outcome.result, call, refl), c.is_ok-is_carried_out.ensures.value),
-      c.tell_retired.ensures,
+      c.print_retired.ensures,
     )

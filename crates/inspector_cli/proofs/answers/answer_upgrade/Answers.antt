@@ -7,5 +7,5 @@ returns g c =
     let call = c.upgrade-outcome.ensures in (
       plain_reply c.upgrade-outcome.result,
       ((c.upgrade-outcome.result, call, refl), c.is_ok-is_carried_out.ensures.value),
-      c.tell_outcome.ensures,
+      c.print_outcome.ensures,
     )

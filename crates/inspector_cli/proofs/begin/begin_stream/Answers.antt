@@ -2,7 +2,7 @@ use Rattle.std.proofs.Common.{◌≤◌, length, refl, ap, subst, ◌∙◌, ari
 use Rattle.disk_model.specs.Places.{AreBytes}
 use Rattle.archive_replies.specs.Texts.{begin_reply}
 use Rattle.stream_names.specs.NameLaws.{is_name}
-use Rattle.script_streams.specs.TellLaws.{tells_as}
+use Rattle.script_streams.specs.PrintLaws.{prints_as}
 use Rattle.inspector_cli.proofs.begin.begin_stream.Goals as goal
 
 pub begin-outcome-requires : goal.begin-outcome-requires
@@ -21,5 +21,5 @@ returns g c = (
     refl,
     c.is_ok-is_begun.ensures.value,
   ),
-  tells_as (ap (λ t. begin_reply t c.begin-outcome.result) (c.as_slice-2.ensures.value ∙ (c.copied-shown.ensures.same ∙ c.as_slice.ensures.value))) c.tell_begun.ensures,
+  prints_as (ap (λ t. begin_reply t c.begin-outcome.result) (c.as_slice-2.ensures.value ∙ (c.copied-shown.ensures.same ∙ c.as_slice.ensures.value))) c.print_begun.ensures,
 )

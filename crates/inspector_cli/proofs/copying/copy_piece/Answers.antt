@@ -1,14 +1,14 @@
 use Rattle.std.proofs.Common.{[], refl, sym, ◌∙◌, arith, rules}
 use Rattle.std.proofs.lemmas.List.{append-nil}
 use Rattle.diagnostics.specs.CountLaws.{next_risen}
-use Rattle.script_streams.specs.TellLaws.{tells_nothing}
+use Rattle.script_streams.specs.PrintLaws.{prints_nothing}
 use Rattle.inspector_cli.proofs.CopyLemmas.{quiet_read}
 use Rattle.inspector_cli.proofs.copying.copy_piece.Goals as goal
 
 pub returns-in-Err : goal.returns-in-Err
 returns-in-Err g c = record {
   text = [];
-  told = tells_nothing;
+  told = prints_nothing;
   front = λ honest. (_, refl);
   quiet = quiet_read g.D.Disk c.args.disk.now c.read_at.new.self (g.met.D.Disk.only_now c.args.disk.now) c.in-Err.ensures.seen c.in-Err.ensures.crash c.in-Err.ensures.time c.in-Err.ensures.honesty c.in-Err.ensures.size;
   later = omega (arith, c.in-Err.ensures.cause.err);
@@ -19,7 +19,7 @@ returns-in-Err g c = record {
 pub returns-then-has_failed : goal.returns-then-has_failed
 returns-then-has_failed g c = record {
   text = c.read_at.new.into;
-  told = c.tell.ensures;
+  told = c.print.ensures;
   front = λ honest. ([], append-nil c.read_at.new.into ∙ c.in-Ok.ensures.bytes honest);
   quiet = quiet_read g.D.Disk c.args.disk.now c.read_at.new.self (g.met.D.Disk.only_now c.args.disk.now) c.in-Ok.ensures.seen c.in-Ok.ensures.crash c.in-Ok.ensures.time c.in-Ok.ensures.honesty c.in-Ok.ensures.size;
   later = omega (arith, c.in-Ok.ensures.cause.ok);
@@ -30,7 +30,7 @@ returns-then-has_failed g c = record {
 pub returns-else-has_failed : goal.returns-else-has_failed
 returns-else-has_failed g c = record {
   text = c.read_at.new.into;
-  told = c.tell.ensures;
+  told = c.print.ensures;
   front = λ honest. c.in-Ok.ensures.bytes honest;
   quiet = quiet_read g.D.Disk c.args.disk.now c.read_at.new.self (g.met.D.Disk.only_now c.args.disk.now) c.in-Ok.ensures.seen c.in-Ok.ensures.crash c.in-Ok.ensures.time c.in-Ok.ensures.honesty c.in-Ok.ensures.size;
   later = omega (arith, c.in-Ok.ensures.cause.ok);

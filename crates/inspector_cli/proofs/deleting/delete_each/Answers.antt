@@ -3,13 +3,13 @@ use Rattle.std.proofs.lemmas.List.{append-nil, take_all}
 use Rattle.std.proofs.lemmas.Result.{err_from_is_err_and}
 use Rattle.std.specs.List.{flat_map}
 use Rattle.archive_replies.specs.Texts.{dropped_line}
-use Rattle.script_streams.specs.TellLaws.{tells_as, tells_nothing, tells_then}
+use Rattle.script_streams.specs.PrintLaws.{prints_as, prints_nothing, prints_then}
 use Rattle.inspector_cli.specs.Deleting.{DeletesEach}
 use Rattle.inspector_cli.proofs.DeletingLemmas.{each_more, line_more, next_more, parted}
 use Rattle.inspector_cli.proofs.deleting.delete_each.Goals as goal
 
 pub loop-seq-init : goal.loop-seq-init
-loop-seq-init g c = record { gone = refl; told = tells_nothing }
+loop-seq-init g c = record { gone = refl; told = prints_nothing }
 
 pub loop-seq-preserved : goal.loop-seq-preserved
 loop-seq-preserved g c =
@@ -21,7 +21,7 @@ loop-seq-preserved g c =
     record {
       gone = subst (λ (ns : List ℕ). DeletesEach g.D.Disk c.args.archive.now ns c.delete_one.new.archive) next
           (each_more g.D.Disk (take i all) c.args.archive.now c.loop-seq.archive c.delete_one.new.archive n c.loop-seq.invariant.gone one.deletes);
-      told = tells_as (line_more (take i all) n ∙ ap (flat_map dropped_line) next) (tells_then c.loop-seq.invariant.told one.tells);
+      told = prints_as (line_more (take i all) n ∙ ap (flat_map dropped_line) next) (prints_then c.loop-seq.invariant.told one.states);
     }
 
 pub returns : goal.returns
@@ -30,7 +30,7 @@ returns g c =
     let whole = take_all c.loop-seq.seq-index all (omega (arith, c.loop-seq-test.false)) in (
       flat_map dropped_line all,
       (all, (refl, subst (λ (ns : List ℕ). DeletesEach g.D.Disk c.args.archive.now ns c.loop-seq.archive) whole c.loop-seq.invariant.gone), refl),
-      tells_as (ap (flat_map dropped_line) whole) c.loop-seq.invariant.told,
+      prints_as (ap (flat_map dropped_line) whole) c.loop-seq.invariant.told,
     )
 
 pub returns-in_err-delete_one : goal.returns-in_err-delete_one
@@ -42,5 +42,5 @@ returns-in_err-delete_one g c =
     rw (p.1, p.2) (
       flat_map dropped_line (take i all),
       (take i all, record { seq = get_or all i 0; rest = drop (i + 1) all; all = parted all i c.loop-seq-test.true; mid = c.loop-seq.archive; deleted = c.loop-seq.invariant.gone; refused = one.deletes }, refl),
-      tells_as (append-nil (flat_map dropped_line (take i all))) (tells_then c.loop-seq.invariant.told one.tells),
+      prints_as (append-nil (flat_map dropped_line (take i all))) (prints_then c.loop-seq.invariant.told one.states),
     )

@@ -1,6 +1,6 @@
 use Rattle.std.proofs.Common.{inl, inr, refl}
 use Rattle.intake.specs.Parts.{state_of}
-use Rattle.script_streams.specs.Telling.{sink}
+use Rattle.script_streams.specs.Printing.{sink}
 use Rattle.inspector_cli.proofs.FitLemmas.{room_none, one_gone, one_stuck}
 use Rattle.inspector_cli.proofs.SpentLemmas.{delete_serves, delete_refused}
 use Rattle.inspector_cli.proofs.fitting.drop_if_full.Goals as goal
@@ -19,8 +19,8 @@ returns-in_default-clause-served g c = (refl, inl (c.next_number.ensures.none c.
 
 pub returns-in-Ok-clause-goes : goal.returns-in-Ok-clause-goes
 returns-in-Ok-clause-goes g c = λ begun so_far gone takes.
-    one_gone g.D.Disk c.args.order begun so_far gone (sink g.O.Output c.args.reply.now) (sink g.O.Output c.tell_gone.new.reply) c.args.archive.now c.delete.new.self c.in-Some.seq takes c.in-Ok.field-0
-    (record { next = c.in-Some.ensures.next; needed = c.lacks_room.ensures.lacks c.if-not-lacks_room.false; deletes = c.in-Ok.ensures }) c.tell_gone.ensures
+    one_gone g.D.Disk c.args.order begun so_far gone (sink g.O.Output c.args.reply.now) (sink g.O.Output c.print_gone.new.reply) c.args.archive.now c.delete.new.self c.in-Some.seq takes c.in-Ok.field-0
+    (record { next = c.in-Some.ensures.next; needed = c.lacks_room.ensures.lacks c.if-not-lacks_room.false; deletes = c.in-Ok.ensures }) c.print_gone.ensures
 
 pub returns-in-Ok-clause-served : goal.returns-in-Ok-clause-served
 returns-in-Ok-clause-served g c = delete_serves c.args.order (state_of c.args.archive.now) (state_of c.delete.new.self) c.in-Some.seq c.in-Ok.field-0 c.in-Some.ensures.next c.in-Ok.ensures.step

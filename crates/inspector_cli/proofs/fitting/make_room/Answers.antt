@@ -1,7 +1,7 @@
 use Rattle.std.proofs.Common.{◌++◌, Ok, Err}
 use Rattle.std.proofs.lemmas.Result.{err_from_is_err_and}
 use Rattle.intake.specs.Parts.{state_of}
-use Rattle.script_streams.specs.Telling.{sink}
+use Rattle.script_streams.specs.Printing.{sink}
 use Rattle.inspector_cli.proofs.FitLemmas.{room_none, room_then}
 use Rattle.inspector_cli.proofs.SpentLemmas.{made_then, gone_then, stuck_then}
 use Rattle.inspector_cli.proofs.fitting.make_room.Goals as goal

@@ -1,9 +1,9 @@
 use Rattle.std.proofs.Common.{ℕ, ◌+◌, [], length, refl, sym, subst, ap, ◌∙◌, arith}
 use Rattle.std.proofs.KnownBytes.{Consumes-nil}
-use Rattle.script_streams.specs.TellLaws.{tells_nothing}
+use Rattle.script_streams.specs.PrintLaws.{prints_nothing}
 use Rattle.std.proofs.lemmas.Result.{err_from_is_err_and}
 use Rattle.intake.specs.Parts.{state_of}
-use Rattle.script_streams.specs.Telling.{sink}
+use Rattle.script_streams.specs.Printing.{sink}
 use Rattle.inspector_cli.specs.Stated.{HashesOn, IsHashed}
 use Rattle.inspector_cli.proofs.StatedLemmas.{hashed_at_end}
 use Rattle.inspector_cli.proofs.StoreLemmas.{file_went_on, file_ended, file_stopped, behind_after, behind_well, end_well, under_within, within_none}
@@ -34,7 +34,7 @@ returns-then-count-eq0-clause-all g c =
 pub loop-init : goal.loop-init
 loop-init g c = record {
   gone = [];
-  told = tells_nothing;
+  told = prints_nothing;
   raw = [];
   consumed = Consumes-nil (g.I.Input.remaining c.args.file.now);
   counted = omega arith;

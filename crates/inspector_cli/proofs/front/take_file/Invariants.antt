@@ -2,7 +2,7 @@ use Rattle.std.proofs.Common.{◌≡◌, ◌≤◌, ◌*◌, ℕ, false, true, L
 use Rattle.std.specs.List.{flat_map}
 use Rattle.std.specs.Io.KnownBytes.{Consumes}
 use Rattle.intake.specs.Parts.{state_of}
-use Rattle.script_streams.specs.Replies.{TellsText, telling}
+use Rattle.script_streams.specs.Replies.{PrintsText, printing}
 use Rattle.inspector_cli.specs.Fitting.{Going, IsServed, IsWithin, TakesWhile, going_text}
 use Rattle.inspector_cli.specs.Stated.{IsHashed}
 use Rattle.inspector_cli.proofs.front.take_file.Given as goal
@@ -10,7 +10,7 @@ use Rattle.inspector_cli.proofs.front.take_file.Given as goal
 abbrev pub invariant-loop : goal.invariant-loop
 invariant-loop g l = record {
   gone : List (Going _);
-  told : TellsText (telling g.O.Output l.fn.reply l.reply) (flat_map going_text gone);
+  told : PrintsText (printing g.O.Output l.fn.reply l.reply) (flat_map going_text gone);
   raw : List ℕ;
   consumed : Consumes (g.I.Input.remaining l.initial.file) (g.I.Input.remaining l.file) raw;
   counted : l.counter ≤ length raw;

@@ -1,4 +1,4 @@
-use Rattle.script_streams.specs.Telling.{sink}
+use Rattle.script_streams.specs.Printing.{sink}
 use Rattle.inspector_cli.specs.declared.store.TakeStop.TheVariants.{Cut, Differs}
 use Rattle.inspector_cli.specs.declared.stated.Difference.TheVariants.{Long}
 use Rattle.inspector_cli.specs.Stated.{HashesOn}

@@ -3,14 +3,14 @@ use Rattle.std.proofs.lemmas.Result.{err_from_is_err_and}
 use Rattle.std.specs.Prelude.{codes}
 use Rattle.script_streams.specs.Replies.{no_reply}
 use Rattle.archive_replies.specs.Texts.{plain_reply}
-use Rattle.script_streams.specs.TellLaws.{tells_then}
+use Rattle.script_streams.specs.PrintLaws.{prints_then}
 use Rattle.inspector_cli.proofs.parts.answer_part.Goals as goal
 
 pub returns-in_err-missing-clause-answers : goal.returns-in_err-missing-clause-answers
 returns-in_err-missing-clause-answers g c = λ naming.
     let p = err_from_is_err_and c.from_residual.result c.from_residual.ensures.1 in
     let ends = c.in_err-missing.ensures.takes in
-    rw p.1 (ends.0, ends.1, ends.2, ends.3, (ends.4, ends.5), c.in_err-missing.ensures.tells)
+    rw p.1 (ends.0, ends.1, ends.2, ends.3, (ends.4, ends.5), c.in_err-missing.ensures.states)
 
 pub returns-then-missing-eq0-clause-answers : goal.returns-then-missing-eq0-clause-answers
 returns-then-missing-eq0-clause-answers g c = λ naming.
@@ -19,7 +19,7 @@ returns-then-missing-eq0-clause-answers g c = λ naming.
       ends.0,
       size,
       ends.2,
-      (plain_reply c.in_ok-missing.verdict, (c.in_ok-missing.verdict, ends.4, refl), tells_then c.in_ok-missing.ensures.tells c.tell_outcome.ensures),
+      (plain_reply c.in_ok-missing.verdict, (c.in_ok-missing.verdict, ends.4, refl), prints_then c.in_ok-missing.ensures.states c.print_outcome.ensures),
     )
 
 pub returns-clause-answers : goal.returns-clause-answers
@@ -39,5 +39,5 @@ returns-clause-answers g c = λ naming.
         c.abandon.ensures,
         refl,
       ),
-      tells_then c.in_ok-missing.ensures.tells c.tell_no.ensures,
+      prints_then c.in_ok-missing.ensures.states c.print_no.ensures,
     )

@@ -2,7 +2,7 @@ use Rattle.std.proofs.Common.{◌++◌, [], arith, refl, ◌∙◌}
 use Rattle.std.proofs.lemmas.Result.{err_from_is_err_and}
 use Rattle.inspector_cli.proofs.FeedLemmas.{fed_none}
 use Rattle.inspector_cli.proofs.GiveLemmas.{gives_nothing, gives_then, gives_then_none, joined_length}
-use Rattle.script_streams.specs.TellLaws.{tells_nothing, tells_then}
+use Rattle.script_streams.specs.PrintLaws.{prints_nothing, prints_then}
 use Rattle.inspector_cli.proofs.parts.take_part.Goals as goal
 
 pub loop-missing-init : goal.loop-missing-init
@@ -12,7 +12,7 @@ loop-missing-init g c = record {
   gives = gives_nothing _ _;
   takes =
       fed_none g.D.Disk c.args.archive.now c.advance-verdict.new.self c.args.slot c.advance-verdict.result c.advance-verdict.ensures;
-  told = tells_nothing;
+  told = prints_nothing;
   failures = refl;
 }
 
@@ -45,12 +45,12 @@ loop-missing-preserved g c =
       counted = omega (arith, size, few, so_far.counted);
       gives = gives_then _ _ _ _ _ _ so_far.raw piece.0 so_far.gives piece.3;
       takes = piece.5;
-      told = tells_then so_far.told c.in_ok-taken.ensures.tells;
+      told = prints_then so_far.told c.in_ok-taken.ensures.states;
       failures = c.in_ok-taken.ensures.stops ∙ so_far.failures;
     }
 
-pub returns-in_err-taken-clause-tells : goal.returns-in_err-taken-clause-tells
-returns-in_err-taken-clause-tells g c = tells_then c.loop-missing.invariant.told c.in_err-taken.ensures.tells
+pub returns-in_err-taken-clause-states : goal.returns-in_err-taken-clause-states
+returns-in_err-taken-clause-states g c = prints_then c.loop-missing.invariant.told c.in_err-taken.ensures.states
 
-pub returns-then-taken-eq0-clause-tells : goal.returns-then-taken-eq0-clause-tells
-returns-then-taken-eq0-clause-tells g c = tells_then c.loop-missing.invariant.told c.in_ok-taken.ensures.tells
+pub returns-then-taken-eq0-clause-states : goal.returns-then-taken-eq0-clause-states
+returns-then-taken-eq0-clause-states g c = prints_then c.loop-missing.invariant.told c.in_ok-taken.ensures.states

@@ -1,6 +1,6 @@
 use Rattle.std.proofs.Common.{◌≡◌, ℕ, ◌+◌, List, [], length}
 use Rattle.script_streams.specs.Reading.{Gives}
-use Rattle.script_streams.specs.Replies.{TellsText, telling}
+use Rattle.script_streams.specs.Replies.{PrintsText, printing}
 use Rattle.inspector_cli.specs.Reply.{Takes}
 use Rattle.inspector_cli.proofs.parts.take_part.Given as goal
 
@@ -10,7 +10,7 @@ invariant-loop-missing g l = record {
   counted : length raw + l.missing ≡ l.fn.count;
   gives : Gives (g.I.Input.remaining l.initial.input) (g.I.Input.remaining l.input) l.initial.buffer l.buffer raw;
   takes : Takes g.D.Disk l.fn.archive l.slot raw l.verdict l.archive;
-  told : TellsText (telling g.O.Output l.initial.reply l.reply) [];
+  told : PrintsText (printing g.O.Output l.initial.reply l.reply) [];
   failures : g.I.Input.failures l.input ≡ g.I.Input.failures l.initial.input;
 }
 

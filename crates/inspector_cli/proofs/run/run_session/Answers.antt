@@ -1,5 +1,5 @@
 use Rattle.std.proofs.Common.{sym, subst, Err, rules}
-use Rattle.script_streams.specs.Telling.{sink}
+use Rattle.script_streams.specs.Printing.{sink}
 use Rattle.inspector_cli.specs.Session.{SessionEnds, streams_of}
 use Rattle.inspector_cli.specs.declared.session.SessionFault.{SessionFault}
 use Rattle.inspector_cli.proofs.SessionLemmas.{ended, read_stopped, write_failed}

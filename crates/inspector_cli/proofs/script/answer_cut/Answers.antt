@@ -18,7 +18,7 @@ returns-then-count-eq0 g c = λ naming.
         fed_none g.D.Disk old new c.args.slot c.advance-verdict.result call,
         refl,
       ),
-      c.tell_outcome.ensures,
+      c.print_outcome.ensures,
     )
 
 pub returns : goal.returns
@@ -36,5 +36,5 @@ returns g c = λ naming.
         c.abandon.ensures,
         refl,
       ),
-      c.tell_no.ensures,
+      c.print_no.ensures,
     )

@@ -1,4 +1,4 @@
-use Rattle.script_streams.specs.Replies.{telling}
+use Rattle.script_streams.specs.Replies.{printing}
 use Rattle.std.proofs.Common.{subst}
 use Rattle.script_lines.specs.Said.{Said, said}
 use Rattle.inspector_cli.specs.Answering.{LastAnswers}
@@ -10,7 +10,7 @@ returns-in-Part-clause-answers g c = λ text keeps.
     subst
     (λ (w : Said).
     LastAnswers g.D.Disk c.args.naming.now
-    (telling g.O.Output c.args.reply.now c.answer_cut.new.reply)
+    (printing g.O.Output c.args.reply.now c.answer_cut.new.reply)
     c.args.archive.now w c.answer_cut.new.archive)
     (c.in-Part.ensures text keeps) (c.answer_cut.ensures c.args.naming.now)
 

@@ -1,4 +1,4 @@
-use Rattle.script_streams.specs.Replies.{telling}
+use Rattle.script_streams.specs.Replies.{printing}
 use Rattle.std.proofs.Common.{subst}
 use Rattle.script_lines.specs.Said.{Said, said}
 use Rattle.inspector_cli.specs.Answering.{PartAnswers}
@@ -16,7 +16,7 @@ returns-in-Part-clause-answers g c = λ text keeps.
       buffer = c.args.buffer.now;
       buffer' = c.answer_part.new.buffer;
     })
-    (telling g.O.Output c.args.reply.now c.answer_part.new.reply)
+    (printing g.O.Output c.args.reply.now c.answer_part.new.reply)
     c.args.archive.now w c.answer_part.new.archive c.answer_part.result)
     (c.in-Part.ensures text keeps) (c.answer_part.ensures.answers c.args.naming.now)
 

@@ -1,4 +1,4 @@
-use Rattle.script_streams.specs.Telling.{sink}
+use Rattle.script_streams.specs.Printing.{sink}
 use Rattle.std.proofs.Common.{refl, ◌∙◌}
 use Rattle.std.proofs.lemmas.Result.{err_from_is_err_and}
 use Rattle.inspector_cli.proofs.RunLemmas.{begun, goes_along, stops_as}

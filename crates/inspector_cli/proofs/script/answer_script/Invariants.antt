@@ -1,4 +1,4 @@
-use Rattle.script_streams.specs.Replies.{telling}
+use Rattle.script_streams.specs.Replies.{printing}
 use Rattle.std.proofs.Common.{◌≡◌, ◌+◌, cond, List}
 use Rattle.intake.specs.Durable.{Durable}
 use Rattle.script_streams.specs.Reading.{steps_left}
@@ -13,7 +13,7 @@ invariant-loop-goes_on g l = record {
   along :
       (before : List Durable) → Along g.D.Disk l.naming
       (record { before = g.I.Input.remaining l.initial.input; after = g.I.Input.remaining l.input; buffer = l.initial.buffer; buffer' = l.buffer })
-      (telling g.O.Output l.initial.reply l.reply)
+      (printing g.O.Output l.initial.reply l.reply)
       (stage_of l.initial.archive before) l.archive l.goes_on;
   failures : g.I.Input.failures l.input ≡ g.I.Input.failures l.initial.input;
   kept : IsKept g.D.Disk l.archive l.images.kept;

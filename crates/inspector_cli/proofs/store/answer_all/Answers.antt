@@ -1,4 +1,4 @@
-use Rattle.script_streams.specs.Telling.{sink}
+use Rattle.script_streams.specs.Printing.{sink}
 use Rattle.stream_names.specs.Commands.{stream_found}
 use Rattle.inspector_cli.specs.Storing.{options_asked}
 use Rattle.inspector_cli.proofs.StoreLemmas.{stores_all}

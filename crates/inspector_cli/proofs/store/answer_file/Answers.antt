@@ -7,7 +7,7 @@ use Rattle.intake.specs.Parts.{state_of}
 use Rattle.inspector_cli.specs.Storing.{difference_reason}
 use Rattle.script_streams.specs.Replies.{no_reply}
 use Rattle.archive_replies.specs.Reasons.{reason_of}
-use Rattle.script_streams.specs.TellLaws.{tells_as, tells_then}
+use Rattle.script_streams.specs.PrintLaws.{prints_as, prints_then}
 use Rattle.inspector_cli.proofs.SpentLemmas.{ended_spent, file_unspent, difference_unspent, refused_spent}
 use Rattle.inspector_cli.proofs.store.answer_file.Goals as goal
 
@@ -16,7 +16,7 @@ returns-in-Err-File g c =
     let t = rw c.in-Err-File.field-0-is at c.in-Err-File.ensures.all in (
       flat_map going_text t.0 ++ no_reply (codes "File"),
       (t.0, None, c.fill_stream.new.archive, no_reply (codes "File"), refl, t.3, (Err File, t.2, (refl, refl, refl), refl), λ fits was. file_unspent c.args.order (state_of c.fill_stream.new.archive), t.4),
-      tells_then t.1 c.tell_no.ensures,
+      prints_then t.1 c.print_no.ensures,
     )
 
 pub returns-in-Err-Refused : goal.returns-in-Err-Refused
@@ -34,7 +34,7 @@ returns-in-Err-Refused g c =
         λ fits was. refused_spent c.args.order c.in-Err-Refused.fault (state_of c.fill_stream.new.archive) (rw c.in-Err-Refused.field-0-is at (c.in-Err-Refused.ensures.served fits was)),
         t.4,
       ),
-      tells_then t.1 (tells_as (ap no_reply c.reason.ensures) c.tell_no-in-Err-Refused.ensures),
+      prints_then t.1 (prints_as (ap no_reply c.reason.ensures) c.print_no-in-Err-Refused.ensures),
     )
 
 pub returns-in-Err-Differs : goal.returns-in-Err-Differs
@@ -52,7 +52,7 @@ returns-in-Err-Differs g c =
         λ fits was. difference_unspent c.args.order c.in-Err-Differs.fault (state_of c.fill_stream.new.archive),
         t.4,
       ),
-      tells_then t.1 (tells_as (ap no_reply c.difference_reason.ensures) c.tell_no-in-Err-Differs.ensures),
+      prints_then t.1 (prints_as (ap no_reply c.difference_reason.ensures) c.print_no-in-Err-Differs.ensures),
     )
 
 pub returns-in-Ok : goal.returns-in-Ok
@@ -71,7 +71,7 @@ returns-in-Ok g c =
             rw e.2 (ended_spent c.args.order (state_of c.fill_stream.new.archive) (state_of c.answer_end.new.archive) e.0 s.0 s.1 e.1.step)),
         t.4,
       ),
-      tells_then t.1 c.answer_end.ensures.2,
+      prints_then t.1 c.answer_end.ensures.2,
     )
 
 pub returns-in-Err-Cut : goal.returns-in-Err-Cut
@@ -91,5 +91,5 @@ returns-in-Err-Cut g c =
             rw e.2 (ended_spent c.args.order (state_of c.fill_stream.new.archive) (state_of c.answer_front.new.archive) e.0 s.0 s.1 e.1.step)),
         t.4,
       ),
-      tells_then t.1 a.2,
+      prints_then t.1 a.2,
     )

@@ -1,5 +1,5 @@
-use Rattle.script_streams.specs.Replies.{telling}
-use Rattle.script_streams.specs.Telling.{sink}
+use Rattle.script_streams.specs.Replies.{printing}
+use Rattle.script_streams.specs.Printing.{sink}
 use Rattle.std.proofs.Common.{Bool, subst}
 use Rattle.stream_names.specs.Commands.{stream_found}
 use Rattle.inspector_cli.specs.Reply.{Begins}
@@ -9,7 +9,7 @@ use Rattle.inspector_cli.proofs.store.answer_store.Goals as goal
 pub returns-then-not-is_begun : goal.returns-then-not-is_begun
 returns-then-not-is_begun g c =
     stores_none g.D.Disk c.args.order c.args.fit c.args.cut c.args.stated (stream_found c.args.found) (g.I.Input.remaining c.args.file.now) (g.I.Input.failures c.args.file.now)
-    (telling g.O.Output c.args.reply.now c.answer_first-is_begun.new.reply)
+    (printing g.O.Output c.args.reply.now c.answer_first-is_begun.new.reply)
     c.args.archive.now c.answer_first-is_begun.new.archive
     (let first = c.answer_first-is_begun.ensures.first in (
       first.0,

@@ -1,14 +1,14 @@
 use Rattle.std.proofs.Common.{Ok, Err}
 use Rattle.std.proofs.lemmas.Result.{err_from_is_err_and}
-use Rattle.script_streams.specs.Replies.{telling}
-use Rattle.script_streams.specs.Telling.{sink}
+use Rattle.script_streams.specs.Replies.{printing}
+use Rattle.script_streams.specs.Printing.{sink}
 use Rattle.inspector_cli.proofs.StoreLemmas.{filled_as, room_at_cut, room_at_end}
 use Rattle.inspector_cli.proofs.store.fill_stream.Goals as goal
 
 pub returns-then-not-fit-clause-all : goal.returns-then-not-fit-clause-all
 returns-then-not-fit-clause-all g c =
     filled_as g.D.Disk c.args.order c.args.fit c.args.cut c.args.stated (g.I.Input.remaining c.args.file.now) (g.I.Input.remaining c.take_asked.new.file) (g.I.Input.failures c.args.file.now) (g.I.Input.failures c.take_asked.new.file)
-    (telling g.O.Output c.args.reply.now c.take_asked.new.reply) c.args.archive.now c.take_asked.new.archive c.take_asked.result c.take_asked.ensures.all c.take_asked.ensures.well
+    (printing g.O.Output c.args.reply.now c.take_asked.new.reply) c.args.archive.now c.take_asked.new.archive c.take_asked.result c.take_asked.ensures.all c.take_asked.ensures.well
 
 pub returns-in-Ok-clause-all : goal.returns-in-Ok-clause-all
 returns-in-Ok-clause-all g c =

@@ -1,9 +1,9 @@
 use Rattle.std.proofs.Common.{ℕ, List, Result, rules, subst}
 use Rattle.intake.specs.Parts.{state_of}
 use Rattle.intake.specs.State.{StreamFacts}
-use Rattle.script_streams.specs.Replies.{TellsReply}
+use Rattle.script_streams.specs.Replies.{PrintsReply}
 use Rattle.inspector_cli.specs.Bursts.{admitted}
-use Rattle.script_streams.specs.Telling.{sink}
+use Rattle.script_streams.specs.Printing.{sink}
 use Rattle.stream_names.specs.Commands.{stream_found}
 use Rattle.inspector_cli.specs.Storing.{Stores, options_asked}
 use Rattle.inspector_cli.proofs.StoreLemmas.{store_written, store_failed}
@@ -14,7 +14,7 @@ pub returns-in_default-clause-ends : goal.returns-in_default-clause-ends
 returns-in_default-clause-ends g c = λ doubts.
     let found : Result StreamFacts (List ℕ) = admitted c.args.options.now.burst (state_of c.args.archive.now).stopped (state_of c.args.archive.now).cases (stream_found c.args.found) in
     let told = subst
-    (λ (f : Result StreamFacts (List ℕ)). TellsReply (record { before = sink g.O.Output c.new-reply.result; after = sink g.O.Output c.answer_all-outcome.new.reply })
+    (λ (f : Result StreamFacts (List ℕ)). PrintsReply (record { before = sink g.O.Output c.new-reply.result; after = sink g.O.Output c.answer_all-outcome.new.reply })
     (λ text. Stores g.D.Disk (g.I.Input.remaining c.args.file.now) (g.I.Input.remaining c.answer_all-outcome.new.file) (g.I.Input.failures c.args.file.now) (g.I.Input.failures c.answer_all-outcome.new.file)
     c.args.archive.now c.args.policy f (options_asked c.args.options.now) text c.answer_all-outcome.new.archive c.answer_all-outcome.result)) c.admitted-found.ensures c.answer_all-outcome.ensures
     in
@@ -33,7 +33,7 @@ pub returns-clause-ends : goal.returns-clause-ends
 returns-clause-ends g c = λ doubts.
     let found : Result StreamFacts (List ℕ) = admitted c.args.options.now.burst (state_of c.args.archive.now).stopped (state_of c.args.archive.now).cases (stream_found c.args.found) in
     let told = subst
-    (λ (f : Result StreamFacts (List ℕ)). TellsReply (record { before = sink g.O.Output c.new-reply.result; after = sink g.O.Output c.answer_all-outcome.new.reply })
+    (λ (f : Result StreamFacts (List ℕ)). PrintsReply (record { before = sink g.O.Output c.new-reply.result; after = sink g.O.Output c.answer_all-outcome.new.reply })
     (λ text. Stores g.D.Disk (g.I.Input.remaining c.args.file.now) (g.I.Input.remaining c.answer_all-outcome.new.file) (g.I.Input.failures c.args.file.now) (g.I.Input.failures c.answer_all-outcome.new.file)
     c.args.archive.now c.args.policy f (options_asked c.args.options.now) text c.answer_all-outcome.new.archive c.answer_all-outcome.result)) c.admitted-found.ensures c.answer_all-outcome.ensures
     in

@@ -1,6 +1,6 @@
 use Rattle.std.proofs.Common.{true}
 use Rattle.intake.specs.Parts.{state_of}
-use Rattle.script_streams.specs.Telling.{sink}
+use Rattle.script_streams.specs.Printing.{sink}
 use Rattle.inspector_cli.specs.Stated.{HashesOn}
 use Rattle.inspector_cli.proofs.FitLemmas.{next_alone}
 use Rattle.inspector_cli.proofs.SpentLemmas.{free_serves}

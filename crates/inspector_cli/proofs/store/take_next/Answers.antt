@@ -1,6 +1,6 @@
 use Rattle.std.proofs.Common.{sym, ◌∙◌}
 use Rattle.std.proofs.lemmas.Bool.{false≢true}
-use Rattle.script_streams.specs.Telling.{sink}
+use Rattle.script_streams.specs.Printing.{sink}
 use Rattle.inspector_cli.specs.Stated.{HashesOn}
 use Rattle.inspector_cli.proofs.FitLemmas.{next_alone, next_as}
 use Rattle.inspector_cli.proofs.store.take_next.Goals as goal

@@ -1,7 +1,7 @@
 use Rattle.std.proofs.Common.{ℕ, true, Ok, Err}
 use Rattle.std.proofs.lemmas.Result.{err_from_is_err_and}
 use Rattle.intake.specs.Parts.{state_of}
-use Rattle.script_streams.specs.Telling.{sink}
+use Rattle.script_streams.specs.Printing.{sink}
 use Rattle.inspector_cli.specs.Stated.{HashesOn}
 use Rattle.inspector_cli.proofs.FitLemmas.{next_alone, next_then}
 use Rattle.inspector_cli.proofs.SpentLemmas.{one_serves, stop_serves, end_serves, room_serves, stop_as}

@@ -2,7 +2,7 @@ use Rattle.std.proofs.Common.{◌≡◌, ◌+◌, ◌*◌, ◌++◌, true, lengt
 use Rattle.std.specs.Option.{option_map}
 use Rattle.journal_layout.specs.declared.faults.Field.TheVariants as named
 use Rattle.journal_layout.specs.Checks.{damaged, is_bad_run}
-use Rattle.journal_records.specs.Head.{TellsFault}
+use Rattle.journal_records.specs.Head.{SaysFault}
 use Rattle.journal_records.specs.Taken.{fault_of_runs}
 use Rattle.journal_records.proofs.ByteLemmas.{run_at}
 use Rattle.journal_records.proofs.RunLemmas.{so_far_bad, so_far_step, so_far_end}
@@ -18,7 +18,7 @@ returns-then-not-take_run-clause-taken c = λ used accounts.
     ap (λ n. is_bad_run n (used ++ l.list) l.end (run_at rest (48 + 8 * l.index))) (sym l.invariant.size)
     ∙ ap (is_bad_run (length l.free) (used ++ l.list) l.end) (sym c.run_at-run.ensures)
     ∙ c.if-not-take_run.ensures.taken (used ++ l.list) so.accounts in
-    subst (TellsFault (fault_of_runs limit c.args.at rest used)) (sym c.damaged.ensures)
+    subst (SaysFault (fault_of_runs limit c.args.at rest used)) (sym c.damaged.ensures)
     (ap (option_map (damaged c.args.at named.Run)) (so_far_bad limit used rest c.u32_at-index-end.result l.index l.end l.list l.blocks l.free so c.loop-index-test.true bad))
 
 pub loop-index-preserved : goal.loop-index-preserved

@@ -3,6 +3,6 @@ use Rattle.plain_replies.proofs.plain.send_plain.Goals as goal
 
 pub returns : goal.returns
 returns g c =
-    let all = c.tell_plain.ensures _ _ _ [] c.new-reply.ensures.told in
+    let all = c.print_plain.ensures _ _ _ [] c.new-reply.ensures.told in
     let taken = c.finish.ensures.delivered _ _ _ _ all in
     search (all.same, c.finish.ensures.same, taken, rules)

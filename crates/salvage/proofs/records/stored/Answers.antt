@@ -2,7 +2,7 @@ use Rattle.std.proofs.Common.{◌∙◌, ◌-◌, List, sym, subst, arith, slice
 use Rattle.std.specs.Vec.{vec_len}
 use Rattle.journal_layout.specs.Folding.{nothing_yet}
 use Rattle.journal_layout.specs.Stands.{AreRead}
-use Rattle.journal_records.specs.Said.{TellsFaulty, said_of}
+use Rattle.journal_records.specs.Said.{SaysFaulty, said_of}
 use Rattle.salvage.proofs.AloneLemmas.{faulty_stored, popped_stored}
 use Rattle.salvage.proofs.records.stored.Goals as goal
 
@@ -19,4 +19,4 @@ pub returns-clause-stored : goal.returns-clause-stored
 returns-clause-stored c =
     faulty_stored c.args.blocks c.args.rest.now c.args.length (omega (arith, c.if-blocks-gt-MOST_BLOCKS.false)) c.requires
     c.in-Err.fault c.in_ok-not_found-in-Err.field-0 c.in-Ok.record.items (sym c.not_found.ensures ∙ c.in_ok-not_found-in-Err.was) c.in-Ok.ensures.is
-    (subst (λ (bytes : List _). TellsFaulty c.args.blocks 2 0 bytes c.in-Err.fault) c.deref.ensures.value c.in-Err.ensures.fault)
+    (subst (λ (bytes : List _). SaysFaulty c.args.blocks 2 0 bytes c.in-Err.fault) c.deref.ensures.value c.in-Err.ensures.fault)

@@ -5,7 +5,7 @@ use Rattle.journal_layout.specs.Record.{Drop}
 use Rattle.journal_layout.specs.Folding.{after}
 use Rattle.journal_records.specs.Kept.{said_by}
 use Rattle.journal_records.proofs.LiveLemmas.{numbered_up}
-use Rattle.journal_records.proofs.FaultLemmas.{handed_on, tells, drop_only, reads_as}
+use Rattle.journal_records.proofs.FaultLemmas.{handed_on, states, drop_only, reads_as}
 use Rattle.journal_records.proofs.cases.Cases.read_drop.Goals as goal
 
 pub check_drop-requires-clause-numbered : goal.check_drop-requires-clause-numbered
@@ -17,7 +17,7 @@ returns-in_err-check_drop c =
     let rest = c.args.rest.now in
     let fault = drop_fault c.args.at rest (said_by old) in
     handed_on fault (after (Drop (drop_seqs rest)) (said_by old)) (length old.free) c.from_residual.result old c.in_err-check_drop.field-0.0 c.from_residual.ensures.1
-    (tells fault c.in_err-check_drop.field-0.0 (drop_only c.args.at rest (said_by old)) (c.in_err-check_drop.ensures.fault (said_by old)))
+    (states fault c.in_err-check_drop.field-0.0 (drop_only c.args.at rest (said_by old)) (c.in_err-check_drop.ensures.fault (said_by old)))
 
 pub returns : goal.returns
 returns c =

@@ -8,7 +8,7 @@ use Rattle.journal_records.specs.Kept.{said_by, Says}
 use Rattle.journal_records.specs.Live.{with_text, changed_in}
 use Rattle.journal_records.specs.declared.cases.Cases.{Cases}
 use Rattle.journal_records.proofs.LiveLemmas.{numbered_up}
-use Rattle.journal_records.proofs.FaultLemmas.{handed_on, tells, label_only}
+use Rattle.journal_records.proofs.FaultLemmas.{handed_on, states, label_only}
 use Rattle.journal_records.proofs.SaysLemmas.{label_says}
 use Rattle.journal_records.proofs.cases.Cases.read_label.Goals as goal
 
@@ -21,7 +21,7 @@ returns-in_err-check_label c =
     let rest = c.args.rest.now in
     let fault = label_fault c.args.at rest (said_by old) in
     handed_on fault (after (Label (field rest 8 4) (label_at rest)) (said_by old)) (length old.free) c.from_residual.result old c.in_err-check_label.field-0.0 c.from_residual.ensures.1
-    (tells fault c.in_err-check_label.field-0.0 (label_only c.args.at rest (said_by old)) (c.in_err-check_label.ensures.fault (said_by old)))
+    (states fault c.in_err-check_label.field-0.0 (label_only c.args.at rest (said_by old)) (c.in_err-check_label.ensures.fault (said_by old)))
 
 pub returns : goal.returns
 returns c =

@@ -5,7 +5,7 @@ use Rattle.journal_layout.specs.Record.{Next}
 use Rattle.journal_layout.specs.Folding.{after}
 use Rattle.journal_records.specs.Kept.{said_by}
 use Rattle.journal_records.specs.declared.cases.Cases.{Cases}
-use Rattle.journal_records.proofs.FaultLemmas.{handed_on, tells, checks_only}
+use Rattle.journal_records.proofs.FaultLemmas.{handed_on, states, checks_only}
 use Rattle.journal_records.proofs.SaysLemmas.{next_says}
 use Rattle.journal_records.proofs.cases.Cases.read_next.Goals as goal
 
@@ -15,7 +15,7 @@ returns-in_err-self c =
     let rest = c.args.rest.now in
     let fault = first_failing c.args.at (next_checks rest (said_by old)) in
     handed_on fault (after (Next (field rest 8 8)) (said_by old)) (length old.free) c.from_residual.result old c.in_err-self.field-0.0 c.from_residual.ensures.1
-    (tells fault c.in_err-self.field-0.0 (checks_only c.args.at (next_checks rest (said_by old))) (c.in_err-self.ensures.fault (said_by old)))
+    (states fault c.in_err-self.field-0.0 (checks_only c.args.at (next_checks rest (said_by old))) (c.in_err-self.ensures.fault (said_by old)))
 
 pub returns : goal.returns
 returns c =

@@ -7,7 +7,7 @@ use Rattle.journal_records.specs.Kept.{said_by}
 use Rattle.journal_records.specs.Live.{with_flag, changed_in}
 use Rattle.journal_records.specs.declared.cases.Cases.{Cases}
 use Rattle.journal_records.proofs.LiveLemmas.{numbered_up}
-use Rattle.journal_records.proofs.FaultLemmas.{handed_on, tells, pin_only}
+use Rattle.journal_records.proofs.FaultLemmas.{handed_on, states, pin_only}
 use Rattle.journal_records.proofs.SaysLemmas.{pin_says}
 use Rattle.journal_records.proofs.cases.Cases.read_pin.Goals as goal
 
@@ -20,7 +20,7 @@ returns-in_err-check_pin c =
     let rest = c.args.rest.now in
     let fault = pin_fault c.args.at rest (said_by old) in
     handed_on fault (after (Pin (field rest 8 4) (nat_eq (slice_index rest 12) 1)) (said_by old)) (length old.free) c.from_residual.result old c.in_err-check_pin.field-0.0 c.from_residual.ensures.1
-    (tells fault c.in_err-check_pin.field-0.0 (pin_only c.args.at rest (said_by old)) (c.in_err-check_pin.ensures.fault (said_by old)))
+    (states fault c.in_err-check_pin.field-0.0 (pin_only c.args.at rest (said_by old)) (c.in_err-check_pin.ensures.fault (said_by old)))
 
 pub returns : goal.returns
 returns c =

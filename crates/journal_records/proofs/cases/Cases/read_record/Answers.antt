@@ -3,7 +3,7 @@ use Rattle.std.specs.Option.{option_or}
 use Rattle.journal_layout.specs.declared.faults.OpenFault.{OpenFault}
 use Rattle.journal_layout.specs.Checks.{first_failing, head_checks, body_fault, record_fault}
 use Rattle.journal_records.specs.Kept.{said_by}
-use Rattle.journal_records.proofs.FaultLemmas.{handed_record, tells, tells_first, tells_second, checks_only}
+use Rattle.journal_records.proofs.FaultLemmas.{handed_record, states, prints_first, prints_second, checks_only}
 use Rattle.journal_records.proofs.cases.Cases.read_record.Goals as goal
 
 pub returns-in_err-kind : goal.returns-in_err-kind
@@ -14,7 +14,7 @@ returns-in_err-kind c =
     let e = c.in_err-kind.field-0.0 in
     let head = first_failing c.args.at (head_checks old.version rest) in
     handed_record c.args.at rest old c.from_residual.result old e c.from_residual.ensures.1
-    (tells_first head (body_fault (length old.free) c.args.at rest (said_by old)) e (tells head e (checks_only c.args.at (head_checks old.version rest)) c.in_err-kind.ensures.fault))
+    (prints_first head (body_fault (length old.free) c.args.at rest (said_by old)) e (states head e (checks_only c.args.at (head_checks old.version rest)) c.in_err-kind.ensures.fault))
 
 pub returns-in_err-read_body : goal.returns-in_err-read_body
 unfolding record_fault
@@ -24,7 +24,7 @@ returns-in_err-read_body c =
     let e = c.in_err-read_body.field-0.0 in
     let head = first_failing c.args.at (head_checks old.version rest) in
     handed_record c.args.at rest old c.from_residual-in_err-read_body.result c.read_body.new.self e c.from_residual-in_err-read_body.ensures.1
-    (tells_second head (body_fault (length old.free) c.args.at rest (said_by old)) e (sym c.in_ok-kind.ensures.fault) c.in_err-read_body.ensures)
+    (prints_second head (body_fault (length old.free) c.args.at rest (said_by old)) e (sym c.in_ok-kind.ensures.fault) c.in_err-read_body.ensures)
 
 pub returns : goal.returns
 unfolding record_fault

@@ -9,11 +9,11 @@ use Rattle.journal_layout.specs.Reading.{origin_at, case_at, store_runs, name_at
 use Rattle.journal_layout.specs.Folding.{after, used_blocks, is_name_of}
 use Rattle.journal_layout.specs.Soundness.{blocks_for}
 use Rattle.journal_layout.specs.Checks.{store_fault, store_checks, padding_fault, block_count}
-use Rattle.journal_records.specs.Head.{TellsFault}
+use Rattle.journal_records.specs.Head.{SaysFault}
 use Rattle.journal_records.specs.Taken.{Accounts}
 use Rattle.journal_records.specs.Named.{has_name}
 use Rattle.journal_records.specs.Kept.{said_by, Says}
-use Rattle.journal_records.proofs.FaultLemmas.{handed_on, tells, checks_only, image_only, padding_only, OnlyDamaged}
+use Rattle.journal_records.proofs.FaultLemmas.{handed_on, states, checks_only, image_only, padding_only, OnlyDamaged}
 use Rattle.journal_records.proofs.StoreLemmas.{facts_part, image_part, end_part, facts_told, runs_told, image_told, name_told, end_told, store_passes, name_part_is, fresh_name}
 use Rattle.journal_records.proofs.KeptLemmas.{any_bearer}
 use Rattle.journal_records.proofs.SaysLemmas.{store_says}
@@ -28,7 +28,7 @@ returns-in_err-check_facts c =
     let e = c.in_err-check_facts.field-0.0 in
     handed_on (store_fault limit c.args.at rest f) (after (Store (case_at rest)) f) limit c.from_residual.result old e c.from_residual.ensures.1
     (facts_told limit c.args.at rest f e
-    (tells (facts_part c.args.at rest f) e (checks_only c.args.at (store_checks rest f)) (c.in_err-check_facts.ensures.fault f)))
+    (states (facts_part c.args.at rest f) e (checks_only c.args.at (store_checks rest f)) (c.in_err-check_facts.ensures.fault f)))
 
 pub returns-in_err-runs : goal.returns-in_err-runs
 returns-in_err-runs c =
@@ -55,7 +55,7 @@ returns-in_err-check_image c =
     handed_on (store_fault limit c.args.at rest f) (after (Store (case_at rest)) f) limit c.from_residual-in_err-check_image.result (record old { free = c.read_runs.new.free }) e c.from_residual-in_err-check_image.ensures.1
     (image_told limit c.args.at rest f e
     (sym (c.in_ok-check_facts.ensures.fault f)) taken.0
-    (tells (image_part c.args.at rest count) e (image_only c.args.at rest (not (nat_eq count (blocks_for (field rest 32 8))))) is))
+    (states (image_part c.args.at rest count) e (image_only c.args.at rest (not (nat_eq count (blocks_for (field rest 32 8))))) is))
 
 pub returns-in_err-name : goal.returns-in_err-name
 returns-in_err-name c =
@@ -71,7 +71,7 @@ returns-in_err-name c =
     (name_told limit c.args.at rest f e
     (sym (c.in_ok-check_facts.ensures.fault f)) taken.0
     (sym (c.in_ok-check_image.ensures ∙ ap (image_part c.args.at rest) taken.1.number))
-    (subst (λ x. TellsFault x e) (sym (name_part_is c.args.at rest f old.names named)) c.in_err-name.ensures))
+    (subst (λ x. SaysFault x e) (sym (name_part_is c.args.at rest f old.names named)) c.in_err-name.ensures))
 
 pub returns-in_err-check_padding : goal.returns-in_err-check_padding
 returns-in_err-check_padding c =
@@ -89,7 +89,7 @@ returns-in_err-check_padding c =
     (sym (c.in_ok-check_facts.ensures.fault f)) taken.0
     (sym (c.in_ok-check_image.ensures ∙ ap (image_part c.args.at rest) taken.1.number))
     (name_part_is c.args.at rest f old.names named ∙ c.in_ok-name.ensures.0)
-    (tells (end_part c.args.at rest) e (subst (λ (n : ℕ). OnlyDamaged (padding_fault c.args.at rest n)) c.name_end.ensures (padding_only c.args.at rest c.name_end.result)) is))
+    (states (end_part c.args.at rest) e (subst (λ (n : ℕ). OnlyDamaged (padding_fault c.args.at rest n)) c.name_end.ensures (padding_only c.args.at rest c.name_end.result)) is))
 
 pub returns : goal.returns
 returns c =

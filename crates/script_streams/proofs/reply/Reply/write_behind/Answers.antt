@@ -1,5 +1,5 @@
 use Rattle.std.proofs.Common.{◌++◌, sym, ap, refl}
-use Rattle.script_streams.proofs.TellingLemmas.{told_on}
+use Rattle.script_streams.proofs.PrintingLemmas.{told_on}
 use Rattle.script_streams.proofs.reply.Reply.write_behind.Goals as goal
 
 pub returns : goal.returns

@@ -1,0 +1,17 @@
+use Rattle.script_streams.specs.PrintLaws.{prints_then}
+use Rattle.std.proofs.Common.{ap, decimal}
+use Rattle.script_streams.specs.PrintLaws.{prints_as}
+use Rattle.archive_checks.proofs.lines.print_facts.Goals as goal
+
+pub returns : goal.returns
+returns g c =
+    prints_then c.print.ensures
+    (prints_then (prints_as (ap decimal c.from.ensures) c.print_decimal.ensures)
+    (prints_then c.print-2.ensures
+    (prints_then c.print-3.ensures
+    (prints_then (prints_as (ap decimal c.from-2.ensures) c.print_decimal-2.ensures)
+    (prints_then c.print-4.ensures
+    (prints_then c.print-5.ensures
+    (prints_then (prints_as (ap decimal c.from-3.ensures) c.print_decimal-3.ensures)
+    (prints_then c.print-6.ensures
+    (prints_then (prints_as (ap decimal c.from-4.ensures) c.print_decimal-4.ensures) c.print-7.ensures)))))))))

@@ -1,9 +1,0 @@
-use Rattle.std.proofs.Common.{drop}
-use Rattle.script_streams.specs.Telling.{sink}
-use Rattle.memory_replies.proofs.TellLemmas.{TellsUpTo}
-use Rattle.case_queries.specs.Finding.{lines_of_texts}
-use Rattle.case_queries.proofs.found.tell_texts.Given as goal
-
--- the texts that went by are told, and the bytes of the others are left
-abbrev pub invariant-loop-i : goal.invariant-loop-i
-invariant-loop-i g l = TellsUpTo (sink g.O.Output l.initial.reply) (sink g.O.Output l.reply) (lines_of_texts l.texts.places.items l.texts.bytes.items) (lines_of_texts (drop l.i l.texts.places.items) l.rest)

@@ -1,0 +1,5 @@
+use Rattle.script_streams.specs.PrintLaws.{prints_then}
+use Rattle.case_screens.proofs.files.print_other.Goals as goal
+
+pub returns : goal.returns
+returns g c = prints_then c.print.ensures (prints_then c.print_number.ensures c.print-2.ensures)

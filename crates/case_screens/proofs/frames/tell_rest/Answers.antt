@@ -1,8 +1,0 @@
-use Rattle.script_streams.specs.TellLaws.{tells_then}
-use Rattle.case_screens.proofs.frames.tell_rest.Goals as goal
-
-pub returns : goal.returns
-returns g c =
-    tells_then c.tell.ensures
-    (tells_then c.tell-2.ensures
-    (tells_then c.tell_decimal.ensures c.tell-3.ensures))

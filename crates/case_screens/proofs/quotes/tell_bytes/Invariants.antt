@@ -1,8 +1,0 @@
-use Rattle.std.proofs.Common.{take}
-use Rattle.std.specs.List.{flat_map}
-use Rattle.script_streams.specs.Telling.{sink, Tells}
-use Rattle.case_screens.specs.Quotes.{quoted_shown}
-use Rattle.case_screens.proofs.quotes.tell_bytes.Given as goal
-
-abbrev pub invariant-loop-byte : goal.invariant-loop-byte
-invariant-loop-byte g l = Tells (sink g.O.Output l.initial.reply) (sink g.O.Output l.reply) (flat_map quoted_shown (take l.byte-index l.name))

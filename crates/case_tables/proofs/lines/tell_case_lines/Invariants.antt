@@ -1,9 +1,0 @@
-use Rattle.std.proofs.Common.{take, map}
-use Rattle.std.specs.List.{flat_map}
-use Rattle.script_streams.specs.Telling.{sink, Tells}
-use Rattle.journal_layout.specs.Case.{case_of}
-use Rattle.case_tables.specs.Lines.{case_line}
-use Rattle.case_tables.proofs.lines.tell_case_lines.Given as goal
-
-abbrev pub invariant-loop-case : goal.invariant-loop-case
-invariant-loop-case g l = Tells (sink g.O.Output l.initial.reply) (sink g.O.Output l.reply) (flat_map case_line (map (λ e. case_of e.now) (take l.case-index l.cases)))

@@ -1,0 +1,8 @@
+use Rattle.std.proofs.Common.{[], rules}
+use Rattle.case_unpacking.proofs.printing.gdb_text.Goals as goal
+
+pub returns-in-Ok : goal.returns-in-Ok
+returns-in-Ok c =
+    let all = c.print_gdb.ensures _ _ _ [] c.new-reply.ensures.told in
+    let sent = rw c.in-Ok.is at c.finish.ensures.delivered _ _ _ _ all in
+    search (all.same, c.finish.ensures.same, sent, c.new-text.ensures, rules)

@@ -1,9 +1,0 @@
-use Rattle.std.proofs.Common.{take}
-use Rattle.std.specs.List.{flat_map}
-use Rattle.script_streams.specs.Telling.{sink, Tells}
-use Rattle.group_tables.specs.Columns.{placed, texts}
-use Rattle.group_tables.proofs.columns.tell_row.Given as goal
-
-abbrev pub invariant-loop-column : goal.invariant-loop-column
-invariant-loop-column g l =
-    Tells (sink g.O.Output l.initial.reply) (sink g.O.Output l.reply) (flat_map (placed (texts l.row)) (take l.column-index l.columns))

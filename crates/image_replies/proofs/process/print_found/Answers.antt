@@ -1,0 +1,18 @@
+use Rattle.std.proofs.Common.{Option, ap, sym}
+use Rattle.std.specs.Option.{option_map}
+use Rattle.core_notes.specs.declared.process_info.PsInfo.{PsInfo}
+use Rattle.core_notes.specs.DescriptorWords.{psinfo_bytes}
+use Rattle.script_streams.specs.Replies.{reply_of}
+use Rattle.script_streams.specs.PrintLaws.{prints_then, prints_as}
+use Rattle.image_replies.specs.Lines.{if_there}
+use Rattle.image_replies.specs.Process.{process_lines}
+use Rattle.image_replies.proofs.process.print_found.Goals as goal
+
+pub returns-in-Some-clause-states : goal.returns-in-Some-clause-states
+returns-in-Some-clause-states g c =
+    prints_as (ap (λ (o : Option PsInfo). reply_of (if_there (option_map psinfo_bytes o) process_lines)) (sym c.in-Some.is))
+    (prints_then c.print_process_lines.ensures c.print_ok.ensures)
+
+pub returns-in-None-clause-states : goal.returns-in-None-clause-states
+returns-in-None-clause-states g c =
+    prints_as (ap (λ (o : Option PsInfo). reply_of (if_there (option_map psinfo_bytes o) process_lines)) (sym c.in-None.is)) c.print_no.ensures

@@ -1,9 +1,0 @@
-use Rattle.std.proofs.Common.{subst}
-use Rattle.memory_replies.specs.Answers.{AnswersWith}
-use Rattle.memory_replies.proofs.SymbolLemmas.{without_debug}
-use Rattle.memory_replies.proofs.symbol.tell_symbol.Goals as goal
-
-pub returns : goal.returns
-returns g c =
-    let told = c.tell_symbol_with_debug.ensures in
-    (told.0, (subst (λ answer. AnswersWith c.tell_symbol_with_debug.result answer told.0) (without_debug c.args.image.now c.args.address) told.1.0, told.1.1), told.2)

@@ -1,0 +1,9 @@
+use Rattle.std.proofs.Common.{ap, decimal}
+use Rattle.script_streams.specs.PrintLaws.{prints_as, prints_then}
+use Rattle.salvage.proofs.printing.print_shape.Goals as goal
+
+pub returns : goal.returns
+returns g c =
+    prints_then c.print.ensures
+    (prints_then (prints_as (ap decimal c.from.ensures) c.print_decimal.ensures)
+    (prints_then c.print-2.ensures (prints_then (prints_as (ap decimal c.from-2.ensures) c.print_decimal-2.ensures) c.print-3.ensures)))

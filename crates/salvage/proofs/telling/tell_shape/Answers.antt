@@ -1,9 +1,0 @@
-use Rattle.std.proofs.Common.{ap, decimal}
-use Rattle.script_streams.specs.TellLaws.{tells_as, tells_then}
-use Rattle.salvage.proofs.telling.tell_shape.Goals as goal
-
-pub returns : goal.returns
-returns g c =
-    tells_then c.tell.ensures
-    (tells_then (tells_as (ap decimal c.from.ensures) c.tell_decimal.ensures)
-    (tells_then c.tell-2.ensures (tells_then (tells_as (ap decimal c.from-2.ensures) c.tell_decimal-2.ensures) c.tell-3.ensures)))

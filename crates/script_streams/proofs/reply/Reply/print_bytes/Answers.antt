@@ -1,0 +1,23 @@
+use Rattle.std.proofs.Common.{◌++◌, [], ◌∙◌, ap, sym, refl, take, append_assoc, take-append-drop}
+use Rattle.std.proofs.lemmas.Grind.{flat_map-append}
+use Rattle.script_words.specs.Printing.{shown_byte}
+use Rattle.script_streams.specs.PrintLaws.{prints_then, prints_nothing, prints_as}
+use Rattle.script_streams.proofs.reply.Reply.print_bytes.Goals as goal
+
+pub loop-rest-init : goal.loop-rest-init
+loop-rest-init g c = record { front = []; split = refl; told = prints_nothing }
+
+pub loop-rest-preserved : goal.loop-rest-preserved
+loop-rest-preserved g c =
+    let so_far = c.loop-rest.invariant in
+    let rest = c.loop-rest.rest.now in
+    let piece = take c.print_front-count.result rest in
+    record {
+      front = so_far.front ++ piece;
+      split = append_assoc so_far.front piece c.split_at.result.1.now
+          ∙ ap (λ back. so_far.front ++ (piece ++ back)) c.split_at.ensures.back
+          ∙ ap (λ all. so_far.front ++ all) (take-append-drop c.print_front-count.result rest)
+          ∙ so_far.split;
+      told = prints_as (sym (flat_map-append shown_byte so_far.front piece))
+          (prints_then so_far.told c.print_front-count.ensures.states);
+    }

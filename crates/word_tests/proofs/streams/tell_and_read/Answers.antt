@@ -1,8 +1,0 @@
-use Rattle.std.proofs.Common.{[], rules}
-use Rattle.word_tests.proofs.streams.tell_and_read.Goals as goal
-
-pub shape_of-script : goal.shape_of-script
-shape_of-script c =
-    let told = c.tell.ensures _ _ _ [] c.new-reply.ensures.told in
-    let read = c.next_line.ensures.tells _ _ _ _ told in
-    search (read.same, rules)
