@@ -201,10 +201,20 @@ impl From<FormatFault> for Refusal {
     }
 }
 
+/// What is known of the file that a failure names.
+#[derive(Clone, Copy)]
+pub struct NamedFile<'a> {
+    /// Its path, or nothing: then the word for it on the command line is printed.
+    pub path: &'a str,
+    /// The process that holds its lock.
+    pub holder: Option<u32>,
+}
+
 /// Prints why the program failed, and returns its status, which is 1.
 pub fn print_failure<O: Output, E: Output>(
     alloc: Global,
     failure: &Failure,
+    file: NamedFile<'_>,
     output: &mut O,
     errors: &mut E,
 ) -> u8
@@ -217,16 +227,16 @@ pub fn print_failure<O: Output, E: Output>(
 {
     match failure {
         Failure::Refused(refusal) => {
-            print_in_words(alloc, *refusal, errors);
+            print_in_words(alloc, *refusal, file, errors);
             print_refusal(*refusal, output)
         }
         Failure::Aside(refusal) => {
-            print_in_words(alloc, *refusal, errors);
+            print_in_words(alloc, *refusal, file, errors);
             print_refusal(*refusal, errors)
         }
         Failure::Faulted(fault) => print_fault(*fault, errors),
         Failure::Unwritten(kind) => {
-            print_unwritten(b"FILE", *kind, errors);
+            print_named(FileWord::NewFile, file, unwritten_words(*kind), errors);
             print_fault(SessionFault::WriteFailed, errors)
         }
         Failure::Told => 1,
@@ -258,82 +268,125 @@ pub fn print_stall<O: Output>(reply: &mut Reply<'_, O>, seconds: u64)
 
 /// The message for people why this file could not be written, if the file system has no room for it; nothing for other reasons.
 pub fn print_unwritten<E: Output>(file: &[u8], kind: io::ErrorKind, errors: &mut E) {
-    let why: &[u8] = match kind {
-        io::ErrorKind::StorageFull => b"the file system is full",
-        io::ErrorKind::QuotaExceeded => b"the quota is used up",
-        io::ErrorKind::FileTooLarge => b"the file may not grow so large",
-        _ => return,
-    };
+    let why = unwritten_words(kind);
+    if why.is_empty() {
+        return;
+    }
     let mut reply = Reply::new(errors);
     reply.print(b"corekeep: ");
     reply.print(file);
-    reply.print(b": ");
-    reply.print(why);
+    reply.print(why.as_bytes());
+    reply.print(b"\n");
+    let _ = reply.finish();
+}
+
+// Why a file could not be written, if the file system has no room for it.
+fn unwritten_words(kind: io::ErrorKind) -> &'static str {
+    match kind {
+        io::ErrorKind::StorageFull => ": the file system is full",
+        io::ErrorKind::QuotaExceeded => ": the quota is used up",
+        io::ErrorKind::FileTooLarge => ": the file may not grow so large",
+        _ => "",
+    }
+}
+
+// Prints what is said of the file that a word names: its path, so that a terminal acts on no byte of it, and then the message, if there is
+// one.
+fn print_named<E: Output>(word: FileWord, file: NamedFile<'_>, message: &str, errors: &mut E) {
+    if message.is_empty() {
+        return;
+    }
+    let mut reply = Reply::new(errors);
+    reply.print(b"corekeep: ");
+    if file.path.is_empty() {
+        reply.print(word.shown().as_bytes());
+    } else {
+        reply.print_bytes(file.path.as_bytes());
+        if word == FileWord::FolderPart {
+            reply.print(b".part");
+        }
+    }
+    reply.print(message.as_bytes());
     reply.print(b"\n");
     let _ = reply.finish();
 }
 
 // The message for people that explains a reason for scripts.
-fn print_in_words<E: Output>(alloc: Global, refusal: Refusal, errors: &mut E) {
+fn print_in_words<E: Output>(alloc: Global, refusal: Refusal, file: NamedFile<'_>, errors: &mut E) {
     let text = match refusal {
-        Refusal::File(word, fault) => file_text(alloc, word, fault),
-        Refusal::Unsafe(word, danger) => danger_text(alloc, word, danger),
-        Refusal::Output => format!(in alloc;
+        Refusal::File(word, fault) => {
+            if let Ok(message) = file_text(alloc, word, fault, file.holder) {
+                print_named(word, file, message.as_str(), errors);
+            }
+            return;
+        }
+        Refusal::Unsafe(word, danger) => {
+            print_named(word, file, danger_text(danger), errors);
+            return;
+        }
+        Refusal::Output => {
             "corekeep: standard output goes to a file that the command names, and would overwrite it\n"
-        ),
-        Refusal::NotUtf8(WordPart::Value) => format!(in alloc;
+        }
+        Refusal::NotUtf8(WordPart::Value) => {
             "corekeep: the VALUE of a pair, or NAME, is not UTF-8, or has a character past U+10FF7F: --escape takes its bytes as they are\n"
-        ),
-        Refusal::NotUtf8(WordPart::Other) => format!(in alloc;
+        }
+        Refusal::NotUtf8(WordPart::Other) => {
             "corekeep: a word is not UTF-8, or has a character past U+10FF7F: name the file otherwise, or write such bytes of a line as \\xHH\n"
-        ),
+        }
         _ => return,
-    };
-    let Ok(text) = text else {
-        return;
     };
     let _ = write_whole(errors, text.as_bytes());
 }
 
-// Why the file of a word is refused.
-fn file_text(alloc: Global, word: FileWord, fault: FileFault) -> Result<String, AllocError> {
-    let name = word.shown();
+// Why the file of a word is refused, after its name.
+fn file_text(
+    alloc: Global,
+    word: FileWord,
+    fault: FileFault,
+    holder: Option<u32>,
+) -> Result<String, AllocError> {
     if let FileWord::Named(_, number) = word {
-        return named_text(alloc, name, number);
+        return named_text(alloc, number);
     }
-    if fault == FileFault::Exists && word == FileWord::FolderPart {
-        return format!(in alloc; "corekeep: {name} is there: an unpack was stopped; remove it\n");
+    match (fault, holder) {
+        (FileFault::Exists, _) if word == FileWord::FolderPart => {
+            String::from_str(alloc, " is there: an unpack was stopped; remove it")
+        }
+        (FileFault::Missing, _) if word.is_made() => {
+            String::from_str(alloc, ": there is no such directory")
+        }
+        (FileFault::Folder, _) => String::from_str(alloc, ": it is a directory"),
+        (FileFault::Busy, Some(process)) => format!(in alloc;
+            ": process {process} is using it (without --no-wait, corekeep waits until it is done)"
+        ),
+        (FileFault::Busy, None) => String::from_str(
+            alloc,
+            ": another process is using it (without --no-wait, corekeep waits until it is done)",
+        ),
+        (fault, _) => format!(in alloc; ": {fault}"),
     }
-    if fault == FileFault::Missing && word.is_made() {
-        return format!(in alloc; "corekeep: {name}: there is no such folder\n");
-    }
-    format!(in alloc; "corekeep: {name}: {fault}\n")
 }
 
-// The message about a file that is there, if a later step failed.
-fn named_text(alloc: Global, name: &str, number: Option<i32>) -> Result<String, AllocError> {
+// The message about a file that is there, if a later step failed, after its name.
+fn named_text(alloc: Global, number: Option<i32>) -> Result<String, AllocError> {
     let why = match number {
         Some(number) => io::Error::from_raw_os_error(number),
         None => io::Error::from(io::ErrorKind::Other),
     };
     format!(in alloc;
-        "corekeep: {name} is there, and whole: what failed is the removal of its .part, or the sync of its folder: {why}\n"
+        " is there, and whole: what failed is the removal of its .part, or the sync of its directory: {why}"
     )
 }
 
-// Why it isn't safe to put a file under the name that a word gives, and a way out.
-fn danger_text(alloc: Global, word: FileWord, danger: Danger) -> Result<String, AllocError> {
-    let name = word.shown();
+// Why it isn't safe to put a file under the name that a word gives, and a way out, after the name.
+fn danger_text(danger: Danger) -> &'static str {
     match danger {
-        Danger::Exchanged => format!(in alloc;
-            "corekeep: {name}: another file was put under its name, or under that of its .part, meanwhile\n"
-        ),
-        Danger::SharedFolder => format!(in alloc;
-            "corekeep: {name}: others may write a folder on its path, and could put another file in its place: take that right away, or make the folder sticky if it is root's or yours\n"
-        ),
-        Danger::Rights => format!(in alloc;
-            "corekeep: {name}: its group or others have a right, and access control lists, extended attributes and labels would not come along: --drop-rights says that they need not, and leaves the owner's rights alone\n"
-        ),
+        Danger::Exchanged =>
+            ": another file was put under its name, or under that of its .part, meanwhile",
+        Danger::SharedFolder =>
+            ": others may write a directory on its path, and could put another file in its place: take that right away, or make the directory sticky if it is root's or yours",
+        Danger::Rights =>
+            ": its group or others have a right, and access control lists, extended attributes and labels would not come along: --drop-rights says that they need not, and leaves the owner's rights alone",
     }
 }
 

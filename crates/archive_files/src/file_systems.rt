@@ -1,9 +1,9 @@
-// The kind of the file system that an archive lies on, if it is one to be known of.
+// What the system says of the file of an archive: the kind of its file system, if it is one to be known of, and who holds its lock.
 ghost use Rattle.script_streams.specs.Replies.{PrintsText, printing};
 ghost use Rattle.archive_files.specs.FileSystems.{kind_words};
 
 use crate::collected::Collected;
-use mount_table::{concern_of, device_text, kind_of};
+use mount_table::{concern_of, device_text, holder_in, kind_of, locked_file};
 use script_streams::{Output, Reply};
 use std::fs;
 use std::fs::File;
@@ -12,6 +12,17 @@ use std::rt::Files;
 
 // The file in which Linux lists the mounts (proc_pid_mountinfo(5)).
 const MOUNTS: &str = "/proc/self/mountinfo";
+
+// The file in which it lists the locks of files (proc_locks(5)).
+const LOCKS: &str = "/proc/locks";
+
+/// The process that holds the lock of a file, if the system lists it. On btrfs the list names files by another device than stat(2) does.
+pub fn holder_of<R: AllocGlobal + Files<File = File>>(rt: &R, path: &str) -> Option<u32> {
+    let about = fs::metadata(rt, path).ok()?;
+    let file = locked_file(rt.alloc(), about.dev(), about.ino()).ok()?;
+    let locks = fs::read(rt, LOCKS).ok()?;
+    holder_in(&locks, file.as_bytes())
+}
 
 /// Notes the kind of the file system that a file lies on, and its limits. Nothing is noted if the system does not list the mounts.
 pub fn note_file_system<R: AllocGlobal + Files<File = File>>(

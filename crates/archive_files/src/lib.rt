@@ -37,11 +37,11 @@ pub use collected::Collected;
 pub use copies::{CopyWords, copy_archive_file, resize_archive_file};
 pub use copy_over::copy_disk;
 pub use failures::{
-    Danger, Failure, FileWord, Refusal, WordPart, print_failure, print_stall, print_unwritten,
-    reason_of,
+    Danger, Failure, FileWord, NamedFile, Refusal, WordPart, print_failure, print_stall,
+    print_unwritten, reason_of,
 };
 pub use file_store::{refuse_taken, store_file, store_taken};
-pub use file_systems::note_file_system;
+pub use file_systems::{holder_of, note_file_system};
 pub use folders::{note_shared, shared_folder};
 pub use gaps::note_gap;
 pub use held::Held;

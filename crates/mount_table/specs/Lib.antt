@@ -1,6 +1,7 @@
 pub mod Concerns
 pub mod Devices
 pub mod Lines
+pub mod Locks
 pub mod MountWords
 pub mod Nearest
 pub mod Pieces
