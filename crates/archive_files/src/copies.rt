@@ -158,7 +158,7 @@ fn copy_in_place<'a, R: Files<File = File>, W: Onlooker>(
     requires alone { (⟦<OpenFile as HeldFile>⟧.facts old.now).lock ≡ Some Alone }
     ensures whole { OnOk result (IsWhole true (⟦<PartFile<'a, R> as NewFile>⟧.facts file.new)) }
 {
-    clear_part(file).map_err(refused)?;
+    clear_part(file).map_err(|fault| Refusal::File(FileWord::Made, fault))?;
     let from = disk_beside(alloc, old).map_err(refused)?;
     let (copied, from) = copy_part(alloc, from, file, wanted, onlooker);
     print_trouble(&from, onlooker);

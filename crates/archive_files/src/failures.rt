@@ -76,6 +76,17 @@ impl FileWord {
         }
     }
 
+    // Whether a fault is that of the file under PATH.part, which another process is making, or which is no file.
+    fn is_part(self, fault: FileFault) -> bool {
+        match self {
+            FileWord::NewArchive | FileWord::NewFile | FileWord::New | FileWord::Made => matches!(
+                fault,
+                FileFault::Folder | FileFault::Special | FileFault::Busy
+            ),
+            word => word == FileWord::FolderPart,
+        }
+    }
+
     // Whether its file is to be made. Then the missing part, if there is one, is the directory.
     fn is_made(self) -> bool {
         !matches!(self, FileWord::Archive | FileWord::File)
@@ -236,7 +247,13 @@ pub fn print_failure<O: Output, E: Output>(
         }
         Failure::Faulted(fault) => print_fault(*fault, errors),
         Failure::Unwritten(kind) => {
-            print_named(FileWord::NewFile, file, unwritten_words(*kind), errors);
+            print_named(
+                FileWord::NewFile,
+                file,
+                false,
+                unwritten_words(*kind),
+                errors,
+            );
             print_fault(SessionFault::WriteFailed, errors)
         }
         Failure::Told => 1,
@@ -290,9 +307,15 @@ fn unwritten_words(kind: io::ErrorKind) -> &'static str {
     }
 }
 
-// Prints what is said of the file that a word names: its path, so that a terminal acts on no byte of it, and then the message, if there is
-// one.
-fn print_named<E: Output>(word: FileWord, file: NamedFile<'_>, message: &str, errors: &mut E) {
+// Prints what is said of the file that a word names, or of the one under its PATH.part: the path, so that a terminal acts on no byte of
+// it, and then the message, if there is one.
+fn print_named<E: Output>(
+    word: FileWord,
+    file: NamedFile<'_>,
+    is_part: bool,
+    message: &str,
+    errors: &mut E,
+) {
     if message.is_empty() {
         return;
     }
@@ -302,7 +325,7 @@ fn print_named<E: Output>(word: FileWord, file: NamedFile<'_>, message: &str, er
         reply.print(word.shown().as_bytes());
     } else {
         reply.print_bytes(file.path.as_bytes());
-        if word == FileWord::FolderPart {
+        if is_part {
             reply.print(b".part");
         }
     }
@@ -316,12 +339,12 @@ fn print_in_words<E: Output>(alloc: Global, refusal: Refusal, file: NamedFile<'_
     let text = match refusal {
         Refusal::File(word, fault) => {
             if let Ok(message) = file_text(alloc, word, fault, file.holder) {
-                print_named(word, file, message.as_str(), errors);
+                print_named(word, file, word.is_part(fault), message.as_str(), errors);
             }
             return;
         }
         Refusal::Unsafe(word, danger) => {
-            print_named(word, file, danger_text(danger), errors);
+            print_named(word, file, false, danger_text(danger), errors);
             return;
         }
         Refusal::Output => {
@@ -356,6 +379,9 @@ fn file_text(
             String::from_str(alloc, ": there is no such directory")
         }
         (FileFault::Folder, _) => String::from_str(alloc, ": it is a directory"),
+        (FileFault::Busy, _) if word.is_part(fault) => {
+            String::from_str(alloc, ": another process is making it")
+        }
         (FileFault::Busy, Some(process)) => format!(in alloc;
             ": process {process} is using it (without --no-wait, corekeep waits until it is done)"
         ),

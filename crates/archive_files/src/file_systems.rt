@@ -16,12 +16,16 @@ const MOUNTS: &str = "/proc/self/mountinfo";
 // The file in which it lists the locks of files (proc_locks(5)).
 const LOCKS: &str = "/proc/locks";
 
-/// The process that holds the lock of a file, if the system lists it. On btrfs the list names files by another device than stat(2) does.
+/// The process that holds the lock of a file, if the system lists it, and it has not ended: a lock may outlive the process that took it. On
+/// btrfs the list names files by another device than stat(2) does.
 pub fn holder_of<R: AllocGlobal + Files<File = File>>(rt: &R, path: &str) -> Option<u32> {
     let about = fs::metadata(rt, path).ok()?;
     let file = locked_file(rt.alloc(), about.dev(), about.ino()).ok()?;
     let locks = fs::read(rt, LOCKS).ok()?;
-    holder_in(&locks, file.as_bytes())
+    let process = holder_in(&locks, file.as_bytes())?;
+    let place = format!(in rt.alloc(); "/proc/{process}").ok()?;
+    fs::metadata(rt, place.as_str()).ok()?;
+    Some(process)
 }
 
 /// Notes the kind of the file system that a file lies on, and its limits. Nothing is noted if the system does not list the mounts.
