@@ -3,6 +3,8 @@ use Rattle.std.specs.Prelude.{◌≡◌, ◌≢◌, ◌⊎◌, ℕ, ◌*◌, ◌
 use Rattle.std.specs.Option.{option_map}
 use Rattle.script_words.specs.Number.{number_of}
 use Rattle.thread_regs.specs.SignalNames.{numbered_name}
+use Rattle.case_tables.specs.declared.zones.Zone.{Zone}
+use Rattle.case_tables.specs.declared.zones.Zone.TheVariants.{Utc}
 
 -- no signal has this name
 abbrev pub IsNoName : List ℕ → Type 0
@@ -30,11 +32,11 @@ seconds_in unit =
 abbrev pub day_start : ℕ → ℕ
 day_start t = t - t % 86400
 
--- A time in seconds: the number after `@`, as it stands; the start of this day or of the one before; or so many units before now. The earliest
--- is the epoch. The meaning of a calendar date is left open.
-pub record SaysTime (now : Option ℕ) (text : List ℕ) (r : Option ℕ) : Type 0 where
+-- A time in seconds: the number after `@`, as it stands; the start of this day or of the one before, in UTC; or so many units before now. The
+-- earliest is the epoch. The meaning of a calendar date is left open, and when the days of a place begin.
+pub record SaysTime (zone : Zone) (now : Option ℕ) (text : List ℕ) (r : Option ℕ) : Type 0 where
   pub at : (seconds : List ℕ) → text ≡ codes "@" ++ seconds → r ≡ number_of seconds
   pub ago : (count : List ℕ) (unit n k : ℕ) → text ≡ count ++ unit ∷ [] → seconds_in unit ≡ Some k → number_of count ≡ Some n → n * k < 2 ^ 64
       → r ≡ option_map (λ (t : ℕ). t - n * k) now
-  pub today : text ≡ codes "today" → r ≡ option_map day_start now
-  pub yesterday : text ≡ codes "yesterday" → r ≡ option_map (λ (t : ℕ). day_start t - 86400) now
+  pub today : zone ≡ Utc → text ≡ codes "today" → r ≡ option_map day_start now
+  pub yesterday : zone ≡ Utc → text ≡ codes "yesterday" → r ≡ option_map (λ (t : ℕ). day_start t - 86400) now
