@@ -1,7 +1,14 @@
--- What the clock of a place shows.
-use Rattle.std.specs.Prelude.{ℕ, ◌+◌, ◌-◌, ◌/◌, ◌%◌, ◌==◌, ◌||◌, ◌*ℤ◌, Bool, nat_le, nat_lt, if◌then◌else◌, Option, Some, None, ℤ, pos, int_lt, unsigned_abs}
+-- What the clock of a place shows, and when its days begin.
+use Rattle.std.specs.Prelude.{◌≡◌, ℕ, ◌+◌, ◌-◌, ◌/◌, ◌%◌, ◌==◌, ◌||◌, ◌+ℤ◌, ◌*ℤ◌, Bool, nat_le, nat_lt, if◌then◌else◌, Option, Some, None, Ok, ℤ, pos, int_div, int_lt, unsigned_abs}
 use Rattle.std.specs.Option.{option_and_then}
-use Rattle.jiff.specs.Words.{offset_at}
+use Rattle.jiff_core.specs.DateTime.{civil_nanos}
+use Rattle.jiff_core.specs.Timestamp.{nanos_of_seconds}
+use Rattle.jiff_core.specs.declared.civil.date.Date.{Date}
+use Rattle.jiff_core.specs.declared.civil.datetime.DateTime.{DateTime}
+use Rattle.jiff.specs.Placed.{IsDateIn}
+use Rattle.jiff.specs.Words.{offset_at, plain_zoned}
+use Rattle.jiff.specs.declared.tz.timezone.TimeZone.{TimeZone}
+use Rattle.jiff.specs.declared.zoned.Zoned.{Zoned}
 use Rattle.jiff.specs.ZoneView.{plain_zone}
 use Rattle.case_tables.specs.declared.days.Day.{Day}
 use Rattle.case_tables.specs.declared.zones.PlaceClock.{PlaceClock}
@@ -36,3 +43,14 @@ abbrev pub clock_at : Zone → ℕ → Option PlaceClock
 clock_at Utc time = None
 clock_at (Local zone) time =
     if (time == 0) || nat_lt 253_402_207_200 time then None else clock_of time (offset_at (plain_zone zone) (pos time *ℤ pos 1_000_000_000))
+
+-- the day that the clock of a place shows at a time
+abbrev pub IsDateAt : TimeZone → ℕ → Date → Type 0
+IsDateAt zone time day =
+    (shown : DateTime) × (shown.date ≡ day)
+    × (civil_nanos shown ≡ pos time *ℤ pos 1_000_000_000 +ℤ nanos_of_seconds (offset_at (plain_zone zone) (pos time *ℤ pos 1_000_000_000)))
+
+-- The second at which a day begins on the clock of a place: its midnight as `jiff` has it, which may be one that the clock skips.
+abbrev pub IsMidnight : TimeZone → Date → ℕ → Type 0
+IsMidnight zone day second =
+    (start : Zoned) × IsDateIn day (plain_zone zone) (Ok start) × (pos second ≡ int_div (plain_zoned start).timestamp.nanosecond (pos 1_000_000_000))

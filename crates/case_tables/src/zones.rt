@@ -1,15 +1,14 @@
 // The zone of a place: what its clock shows at a time, and when its days begin.
-ghost use Rattle.std.specs.Prelude.{◌≡◌, ◌<◌, ◌≤◌, ◌+◌, ◌-◌, ◌^◌, ◌*ℤ◌, Some, codes, if◌then◌else◌, pos};
+ghost use Rattle.std.specs.Prelude.{◌≡◌, ◌<◌, ◌≤◌, ◌+◌, ◌^◌, ◌*ℤ◌, IfSome, pos};
 ghost use Rattle.jiff.specs.Words.{offset_at};
 ghost use Rattle.jiff.specs.ZoneView.{plain_zone};
-ghost use Rattle.case_tables.specs.Filters.{day_start};
-ghost use Rattle.case_tables.specs.Zones.{clock_at, clock_of, moved};
-ghost use Rattle.case_tables.specs.declared.zones.Zone.TheVariants.{Utc as InUtc};
+ghost use Rattle.case_tables.specs.Filters.{StartsDay, StartsDayBefore};
+ghost use Rattle.case_tables.specs.Zones.{IsDateAt, IsMidnight, clock_at, clock_of, moved};
 
 use crate::days::{Day, day_of};
-use jiff::civil::DateTime;
+use jiff::Timestamp;
+use jiff::civil::{Date, DateTime};
 use jiff::tz::{Offset, TimeZone};
-use jiff::{Timestamp, Zoned};
 
 // How many seconds a day has.
 const DAY: u64 = 86_400;
@@ -54,24 +53,24 @@ impl Zone<'_> {
 
     // When the day of a time began.
     pub(crate) fn day_start(self, time: u64) -> Option<u64>
-        ensures utc { self.entry ≡ InUtc → result ≡ Some (day_start time) }
+        ensures { StartsDay self.entry time result }
     {
         match self {
             Zone::Utc => Some(time - time % DAY),
-            Zone::Local(zone) => seconds_of(&zoned(zone, time)?.start_of_day().ok()?),
+            Zone::Local(zone) => midnight(zone, date_at(zone, time)?),
         }
     }
 
     // When the day before that of a time began.
     pub(crate) fn day_before(self, time: u64) -> Option<u64>
-        ensures utc { self.entry ≡ InUtc → result ≡ Some (day_start time - 86400) }
+        ensures { StartsDayBefore self.entry time result }
     {
         match self {
             Zone::Utc => Some((time - time % DAY).saturating_sub(DAY)),
-            Zone::Local(zone) => {
-                let before = zoned(zone, time)?.yesterday().ok()?;
-                seconds_of(&before.start_of_day().ok()?)
-            }
+            Zone::Local(zone) => match date_at(zone, time)?.yesterday() {
+                Ok(before) => midnight(zone, before),
+                Err(_) => None,
+            },
         }
     }
 
@@ -125,12 +124,23 @@ fn moved(time: u64, is_behind: bool, seconds: u64) -> Option<u64>
     }
 }
 
-fn zoned(zone: TimeZone<'_>, time: u64) -> Option<Zoned<'_>> {
-    let seconds = i64::try_from(time).ok()?;
-    let moment = Timestamp::from_second(seconds).ok()?;
-    Some(moment.to_zoned(zone))
+// The day that the clock of a place shows at a time.
+fn date_at(zone: TimeZone<'_>, time: u64) -> Option<Date>
+    ensures { IfSome result (IsDateAt zone.entry time) }
+{
+    if time > LAST_TIME {
+        return None;
+    }
+    let moment = Timestamp::from_second(time as i64).unwrap();
+    Some(zone.to_datetime(moment).date())
 }
 
-fn seconds_of(moment: &Zoned<'_>) -> Option<u64> {
-    u64::try_from(moment.timestamp().as_second()).ok()
+// When a day begins on the clock of a place.
+fn midnight(zone: TimeZone<'_>, date: Date) -> Option<u64>
+    ensures { IfSome result (IsMidnight zone.entry date) }
+{
+    match date.to_zoned(zone) {
+        Ok(start) => u64::try_from(start.timestamp().as_second()).ok(),
+        Err(_) => None,
+    }
 }
