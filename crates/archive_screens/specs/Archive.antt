@@ -1,7 +1,8 @@
 -- The screen of an archive.
 use Rattle.std.specs.Prelude.{ℕ, ◌==◌, if◌then◌else◌, List, [], ◌∷◌, ◌++◌, codes, decimal}
 use Rattle.case_tables.specs.Sizes.{size_text}
-use Rattle.case_tables.specs.Times.{time_text}
+use Rattle.case_tables.specs.Times.{time_in}
+use Rattle.case_tables.specs.declared.zones.Zone.{Zone}
 use Rattle.archive_screens.specs.Days.{days_text}
 use Rattle.archive_screens.specs.declared.archive.ArchiveFacts.{ArchiveFacts}
 
@@ -23,11 +24,11 @@ cases_text a =
     codes "cases     " ++ (counted_text a.cores (codes " core") ++ (codes ", " ++ (counted_text a.executables (codes " executable") ++ (codes ", "
     ++ (decimal a.pinned ++ (codes " pinned" ++ 10 ∷ []))))))
 
-abbrev pub times_text : ArchiveFacts → List ℕ
-times_text a = codes "cores     oldest " ++ (time_text a.oldest ++ (codes ", newest " ++ (time_text a.newest ++ 10 ∷ [])))
+abbrev pub times_text : Zone → ArchiveFacts → List ℕ
+times_text zone a = codes "cores     oldest " ++ (time_in zone a.oldest ++ (codes ", newest " ++ (time_in zone a.newest ++ 10 ∷ [])))
 
 abbrev pub numbers_text : ArchiveFacts → List ℕ
 numbers_text a = codes "numbers   " ++ (decimal a.last_number ++ (codes " is the greatest that was given" ++ 10 ∷ []))
 
-abbrev pub archive_text : ArchiveFacts → List ℕ
-archive_text a = layout_text a ++ (data_text a ++ (journal_text a ++ (cases_text a ++ (times_text a ++ (numbers_text a ++ days_text a.newest a.days)))))
+abbrev pub archive_text : Zone → ArchiveFacts → List ℕ
+archive_text zone a = layout_text a ++ (data_text a ++ (journal_text a ++ (cases_text a ++ (times_text zone a ++ (numbers_text a ++ days_text a.newest a.days)))))

@@ -4,7 +4,7 @@ ghost use Rattle.script_streams.specs.Replies.{PrintsText, printing};
 ghost use Rattle.archive_screens.specs.Archive.{archive_text, cases_text, counted_text, data_text, journal_text, layout_text, numbers_text, times_text};
 
 use crate::days::print_days;
-use case_tables::{print_size, print_time};
+use case_tables::{Zone, print_size, print_time_in};
 use script_streams::{Output, Reply};
 
 /// The known facts of an archive.
@@ -33,15 +33,19 @@ pub struct ArchiveFacts {
     pub days: [u64; 7],
 }
 
-/// Prints the known facts of an archive.
-pub fn print_archive_screen<O: Output>(reply: &mut Reply<'_, O>, facts: &ArchiveFacts)
-    ensures is_screen { PrintsText (printing O.Output reply.old reply.new) (archive_text facts.now) }
+/// Prints the known facts of an archive, with the times of its cores in a zone. The days are those of UTC.
+pub fn print_archive_screen<O: Output>(
+    reply: &mut Reply<'_, O>,
+    zone: Zone<'_>,
+    facts: &ArchiveFacts,
+)
+    ensures is_screen { PrintsText (printing O.Output reply.old reply.new) (archive_text zone.entry facts.now) }
 {
     print_layout(reply, facts);
     print_data(reply, facts);
     print_journal(reply, facts);
     print_cases(reply, facts);
-    print_times(reply, facts);
+    print_times(reply, zone, facts);
     print_numbers(reply, facts);
     print_days(reply, facts.newest, &facts.days);
 }
@@ -99,13 +103,13 @@ fn print_counted<O: Output>(reply: &mut Reply<'_, O>, count: u64, word: &[u8])
     }
 }
 
-fn print_times<O: Output>(reply: &mut Reply<'_, O>, facts: &ArchiveFacts)
-    ensures { PrintsText (printing O.Output reply.old reply.new) (times_text facts.now) }
+fn print_times<O: Output>(reply: &mut Reply<'_, O>, zone: Zone<'_>, facts: &ArchiveFacts)
+    ensures { PrintsText (printing O.Output reply.old reply.new) (times_text zone.entry facts.now) }
 {
     reply.print(b"cores     oldest ");
-    print_time(reply, facts.oldest);
+    print_time_in(reply, zone, facts.oldest);
     reply.print(b", newest ");
-    print_time(reply, facts.newest);
+    print_time_in(reply, zone, facts.newest);
     reply.print(b"\n");
 }
 

@@ -7,3 +7,4 @@ pub mod JsonLemmas
 pub mod SignalLemmas
 pub mod OrderLemmas
 pub mod LineLemmas
+pub mod ZoneLemmas

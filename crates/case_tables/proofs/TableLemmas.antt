@@ -4,6 +4,7 @@ use Rattle.std.proofs.lemmas.List.{flat_map_more, take_more, map-append, drop-ma
 use Rattle.std.specs.List.{flat_map}
 use Rattle.journal_layout.specs.Case.{Case}
 use Rattle.case_tables.specs.declared.columns.Column.{Column}
+use Rattle.case_tables.specs.declared.zones.Zone.{Zone}
 use Rattle.case_tables.specs.Cells.{cell, heading}
 use Rattle.case_tables.specs.Table.{greatest, width}
 use Rattle.case_tables.specs.Wanted.{last_of, skipped}
@@ -12,12 +13,12 @@ greatest_more : (ns : List ℕ) (n : ℕ) → greatest (ns ++ n ∷ []) ≡ max 
 greatest_more [] n = omega arith
 greatest_more (m ∷ ns) n = omega (arith, greatest_more ns n)
 
-pub width_more : {E : Type 0} (k : Column) (f : E → Case) (es : List E) (i : ℕ) (e : E) → i < length es
-    → width k (map f (take (i + 1) es)) ≡ max (width k (map f (take i es))) (length (cell k (f (get_or es i e))))
-width_more k f es i e within =
+pub width_more : {E : Type 0} (z : Zone) (k : Column) (f : E → Case) (es : List E) (i : ℕ) (e : E) → i < length es
+    → width z k (map f (take (i + 1) es)) ≡ max (width z k (map f (take i es))) (length (cell z k (f (get_or es i e))))
+width_more z k f es i e within =
     let more = ap (map f) (take_more es i e within) ∙ map-append f (take i es) (get_or es i e ∷ []) in
-    let lengths = ap (map (λ c. length (cell k c))) more ∙ map-append (λ c. length (cell k c)) (map f (take i es)) (f (get_or es i e) ∷ []) in
-    let most = ap greatest lengths ∙ greatest_more (map (λ c. length (cell k c)) (map f (take i es))) (length (cell k (f (get_or es i e)))) in
+    let lengths = ap (map (λ c. length (cell z k c))) more ∙ map-append (λ c. length (cell z k c)) (map f (take i es)) (f (get_or es i e) ∷ []) in
+    let most = ap greatest lengths ∙ greatest_more (map (λ c. length (cell z k c)) (map f (take i es))) (length (cell z k (f (get_or es i e)))) in
     ap (max (length (heading k))) most ∙ omega arith
 
 -- the last of what is made of each are what is made of the last

@@ -6,7 +6,8 @@ use Rattle.thread_regs.specs.SignalNames.{numbered_name}
 use Rattle.case_tables.specs.declared.columns.Column.{Column}
 use Rattle.case_tables.specs.declared.columns.Column.TheVariants.{Number, Time, Pid, Signal, Size, Kept, Name, Label}
 use Rattle.case_tables.specs.Sizes.{size_text}
-use Rattle.case_tables.specs.Times.{time_text}
+use Rattle.case_tables.specs.declared.zones.Zone.{Zone}
+use Rattle.case_tables.specs.Times.{time_in}
 
 -- a number that is known, or `-`
 abbrev pub known_number : ℕ → List ℕ
@@ -20,16 +21,16 @@ named_signal None n = known_number n
 abbrev pub signal_text : ℕ → List ℕ
 signal_text n = named_signal (numbered_name n) n
 
--- how a column shows a case
-abbrev pub cell : Column → Case → List ℕ
-cell Number c = decimal c.seq
-cell Time c = time_text c.origin.time
-cell Pid c = known_number c.origin.pid
-cell Signal c = signal_text c.origin.signal
-cell Size c = size_text c.len
-cell Kept c = if c.pinned then codes "pinned" else codes "-"
-cell Name c = shown c.origin.name
-cell Label c = shown c.label
+-- how a column shows a case, with times of a zone
+abbrev pub cell : Zone → Column → Case → List ℕ
+cell zone Number c = decimal c.seq
+cell zone Time c = time_in zone c.origin.time
+cell zone Pid c = known_number c.origin.pid
+cell zone Signal c = signal_text c.origin.signal
+cell zone Size c = size_text c.len
+cell zone Kept c = if c.pinned then codes "pinned" else codes "-"
+cell zone Name c = shown c.origin.name
+cell zone Label c = shown c.label
 
 -- the heading of a column
 abbrev pub heading : Column → List ℕ

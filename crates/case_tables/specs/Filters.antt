@@ -1,8 +1,13 @@
 -- The meaning of the values of `list`'s filters: a signal, and a time.
-use Rattle.std.specs.Prelude.{◌≡◌, ◌≢◌, ◌⊎◌, ℕ, ◌*◌, ◌-◌, ◌%◌, ◌^◌, ◌<◌, ◌≤◌, ◌==◌, List, [], ◌∷◌, ◌++◌, Option, None, Some, codes, if◌then◌else◌}
+use Rattle.std.specs.Prelude.{◌≡◌, ◌≢◌, ◌⊎◌, ℕ, ◌*◌, ◌-◌, ◌%◌, ◌^◌, ◌<◌, ◌≤◌, ◌==◌, List, [], ◌∷◌, ◌++◌, Option, None, Some, codes, if◌then◌else◌, IfSome}
 use Rattle.std.specs.Option.{option_map}
 use Rattle.script_words.specs.Number.{number_of}
 use Rattle.thread_regs.specs.SignalNames.{numbered_name}
+use Rattle.case_tables.specs.declared.zones.Zone.{Zone}
+use Rattle.case_tables.specs.declared.zones.Zone.TheVariants.{Utc, Local}
+use Rattle.case_tables.specs.Zones.{IsDateAt, IsMidnight}
+use Rattle.jiff.specs.ZonedDays.{IsDayBefore}
+use Rattle.jiff_core.specs.declared.civil.date.Date.{Date}
 
 -- no signal has this name
 abbrev pub IsNoName : List ℕ → Type 0
@@ -30,11 +35,27 @@ seconds_in unit =
 abbrev pub day_start : ℕ → ℕ
 day_start t = t - t % 86400
 
--- A time in seconds: the number after `@`, as it stands; the start of this day or of the one before; or so many units before now. The earliest
--- is the epoch. The meaning of a calendar date is left open.
-pub record SaysTime (now : Option ℕ) (text : List ℕ) (r : Option ℕ) : Type 0 where
+-- when the day of a time began on the clock of a zone, if `jiff` knows
+abbrev pub StartsDay : Zone → ℕ → Option ℕ → Type 0
+StartsDay Utc time r = r ≡ Some (day_start time)
+StartsDay (Local zone) time r = IfSome r (λ second. (day : Date) × IsDateAt zone time day × IsMidnight zone day second)
+
+-- the same of the day before
+abbrev pub StartsDayBefore : Zone → ℕ → Option ℕ → Type 0
+StartsDayBefore Utc time r = r ≡ Some (day_start time - 86400)
+StartsDayBefore (Local zone) time r =
+    IfSome r (λ second. (day : Date) × (before : Date) × IsDateAt zone time day × IsDayBefore day before × IsMidnight zone before second)
+
+-- what holds at the time that the clock gives; no time, if it gives none
+abbrev pub AtTime : (ℕ → Option ℕ → Type 0) → Option ℕ → Option ℕ → Type 0
+AtTime Holds None r = r ≡ None
+AtTime Holds (Some time) r = Holds time r
+
+-- A time in seconds: the number after `@`, as it stands; the start of this day or of the one before, in a zone; or so many units before now.
+-- The earliest is the epoch. The meaning of a calendar date is left open.
+pub record SaysTime (zone : Zone) (now : Option ℕ) (text : List ℕ) (r : Option ℕ) : Type 0 where
   pub at : (seconds : List ℕ) → text ≡ codes "@" ++ seconds → r ≡ number_of seconds
   pub ago : (count : List ℕ) (unit n k : ℕ) → text ≡ count ++ unit ∷ [] → seconds_in unit ≡ Some k → number_of count ≡ Some n → n * k < 2 ^ 64
       → r ≡ option_map (λ (t : ℕ). t - n * k) now
-  pub today : text ≡ codes "today" → r ≡ option_map day_start now
-  pub yesterday : text ≡ codes "yesterday" → r ≡ option_map (λ (t : ℕ). day_start t - 86400) now
+  pub today : text ≡ codes "today" → AtTime (StartsDay zone) now r
+  pub yesterday : text ≡ codes "yesterday" → AtTime (StartsDayBefore zone) now r

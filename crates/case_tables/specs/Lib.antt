@@ -1,5 +1,6 @@
 pub mod Days
 pub mod Times
+pub mod Zones
 pub mod Sizes
 pub mod Cells
 pub mod Filters

@@ -5,6 +5,7 @@ use Rattle.journal_layout.specs.Case.{Case}
 use Rattle.case_tables.specs.declared.columns.Column.{Column}
 use Rattle.case_tables.specs.declared.columns.Column.TheVariants.{Number, Time, Pid, Signal, Size, Kept, Name, Label}
 use Rattle.case_tables.specs.declared.table.Widths.{Widths}
+use Rattle.case_tables.specs.declared.zones.Zone.{Zone}
 use Rattle.case_tables.specs.Cells.{cell, heading}
 
 -- the highest of these numbers, or 0
@@ -13,19 +14,19 @@ greatest [] = 0
 greatest (n ∷ ns) = max n (greatest ns)
 
 -- a column is as wide as its head and each of its cells need
-abbrev pub width : Column → List Case → ℕ
-width k cases = max (length (heading k)) (greatest (map (λ c. length (cell k c)) cases))
+abbrev pub width : Zone → Column → List Case → ℕ
+width zone k cases = max (length (heading k)) (greatest (map (λ c. length (cell zone k c)) cases))
 
 -- of each column but the last
-abbrev pub widths_of : List Case → Widths
-widths_of cases = record {
-  number = width Number cases;
-  time = width Time cases;
-  pid = width Pid cases;
-  signal = width Signal cases;
-  size = width Size cases;
-  kept = width Kept cases;
-  name = width Name cases;
+abbrev pub widths_of : Zone → List Case → Widths
+widths_of zone cases = record {
+  number = width zone Number cases;
+  time = width zone Time cases;
+  pid = width zone Pid cases;
+  signal = width zone Signal cases;
+  size = width zone Size cases;
+  kept = width zone Kept cases;
+  name = width zone Name cases;
 }
 
 abbrev pub spaces : ℕ → List ℕ
@@ -46,9 +47,9 @@ row_text w text =
     ++ (left_text w.size (text Size) ++ (left_text w.kept (text Kept) ++ (left_text w.name (text Name) ++ (text Label ++ 10 ∷ [])))))))
 
 -- a case's row
-abbrev pub case_row : Widths → Case → List ℕ
-case_row w c = row_text w (λ k. cell k c)
+abbrev pub case_row : Zone → Widths → Case → List ℕ
+case_row zone w c = row_text w (λ k. cell zone k c)
 
--- the heads, and a row for each case
-abbrev pub list_table : List Case → List ℕ
-list_table cases = row_text (widths_of cases) heading ++ flat_map (case_row (widths_of cases)) cases
+-- the heads, and a row for each case, with times of a zone
+abbrev pub list_table : Zone → List Case → List ℕ
+list_table zone cases = row_text (widths_of zone cases) heading ++ flat_map (case_row zone (widths_of zone cases)) cases

@@ -1,7 +1,10 @@
--- Times in words, in UTC.
+-- Times in words.
 use Rattle.std.specs.Prelude.{ℕ, ◌+◌, ◌/◌, ◌%◌, ◌==◌, if◌then◌else◌, List, [], ◌∷◌, ◌++◌, Option, Some, None, codes, decimal}
 use Rattle.case_tables.specs.declared.days.Day.{Day}
+use Rattle.case_tables.specs.declared.zones.PlaceClock.{PlaceClock}
+use Rattle.case_tables.specs.declared.zones.Zone.{Zone}
 use Rattle.case_tables.specs.Days.{dated}
+use Rattle.case_tables.specs.Zones.{clock_at}
 
 -- the last two digits of a number
 abbrev pub two_digits : ℕ → List ℕ
@@ -36,3 +39,18 @@ dated_text None time = codes "@" ++ decimal time
 -- seconds since the epoch as a moment; `-` for 0, which no core has that was made now
 abbrev pub time_text : ℕ → List ℕ
 time_text time = if time == 0 then codes "-" else dated_text (dated (time / 86_400)) time
+
+-- `2026-11-27 11:00:00+01:00`
+abbrev pub place_text : PlaceClock → List ℕ
+place_text c =
+    date_text c.day ++ (codes " " ++ (clock_text c.seconds ++ ((if c.is_behind then codes "-" else codes "+")
+    ++ (two_digits (c.minutes / 60) ++ (codes ":" ++ two_digits (c.minutes % 60))))))
+
+-- what a clock shows at a time, or the time in UTC
+abbrev pub shown_time : Option PlaceClock → ℕ → List ℕ
+shown_time (Some c) time = place_text c
+shown_time None time = time_text time
+
+-- a time as the clock of a zone shows it
+abbrev pub time_in : Zone → ℕ → List ℕ
+time_in zone time = shown_time (clock_at zone time) time

@@ -7,7 +7,8 @@ ghost use Rattle.case_tables.specs.Cells.{cell, heading, known_number};
 use crate::signals::{print_signal, signal_length};
 use crate::sizes::{print_size, size_length};
 use crate::texts::shown_length;
-use crate::times::{print_time, time_length};
+use crate::times::{print_time_in, time_length};
+use crate::zones::Zone;
 use journal_layout::Entry;
 use script_streams::{Output, Reply};
 use script_words::print_decimal;
@@ -44,12 +45,17 @@ impl Column {
 }
 
 // Prints the cell of a column for a case.
-pub(crate) fn print_cell<O: Output>(reply: &mut Reply<'_, O>, column: Column, case: &Entry)
-    ensures { PrintsText (printing O.Output reply.old reply.new) (cell column (case_of case.now)) }
+pub(crate) fn print_cell<O: Output>(
+    reply: &mut Reply<'_, O>,
+    zone: Zone<'_>,
+    column: Column,
+    case: &Entry,
+)
+    ensures { PrintsText (printing O.Output reply.old reply.new) (cell zone.entry column (case_of case.now)) }
 {
     match column {
         Column::Number => reply.print_decimal(u128::from(case.seq)),
-        Column::Time => print_time(reply, case.time),
+        Column::Time => print_time_in(reply, zone, case.time),
         Column::Pid => print_known(reply, case.pid),
         Column::Signal => print_signal(reply, case.signal),
         Column::Size => print_size(reply, case.length),
@@ -60,12 +66,12 @@ pub(crate) fn print_cell<O: Output>(reply: &mut Reply<'_, O>, column: Column, ca
 }
 
 // How many bytes `print_cell` prints.
-pub(crate) fn cell_length(column: Column, case: &Entry) -> usize
-    ensures { result ≡ length (cell column (case_of case.now)) }
+pub(crate) fn cell_length(zone: Zone<'_>, column: Column, case: &Entry) -> usize
+    ensures { result ≡ length (cell zone.entry column (case_of case.now)) }
 {
     match column {
         Column::Number => print_decimal(u128::from(case.seq)).len(),
-        Column::Time => time_length(case.time),
+        Column::Time => time_length(zone, case.time),
         Column::Pid => known_length(case.pid),
         Column::Signal => signal_length(case.signal),
         Column::Size => size_length(case.length),

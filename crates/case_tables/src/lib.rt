@@ -18,6 +18,7 @@ mod table;
 mod texts;
 mod times;
 mod wanted;
+mod zones;
 
 pub use hidden::json_text;
 pub use laws::nothing_printed_is_hidden;
@@ -31,5 +32,6 @@ pub use signals::{print_signal, read_signal};
 pub use sizes::print_size;
 pub use table::{print_spaces, print_table};
 pub use texts::shown_length;
-pub use times::{print_day, print_time};
+pub use times::{print_day, print_time, print_time_in};
 pub use wanted::Wanted;
+pub use zones::Zone;

@@ -30,11 +30,11 @@ pub fn print_list<O: Output>(
     wanted: &Wanted<'_>,
 ) -> Result<bool, AllocError>
     ensures is_table { IfOk result (λ some. (shown : List Case) × IsShown wanted.now.order (chosen wanted.now (map case_of cases.now)) shown
-        × PrintsText (printing O.Output reply.old reply.new) (list_table shown)) }
+        × PrintsText (printing O.Output reply.old reply.new) (list_table wanted.now.zone shown)) }
     ensures some { IfOk result (λ some. some ≡ not (length (chosen wanted.now (map case_of cases.now)) == 0)) }
 {
     let shown = shown_of(alloc, cases, wanted)?;
-    print_table(reply, &shown);
+    print_table(reply, wanted.zone, &shown);
     Ok(!shown.is_empty())
 }
 

@@ -1,50 +1,41 @@
 // Times as people say them.
 ghost use Rattle.std.specs.Prelude.{◌≡◌, ◌*◌, ◌^◌, ◌<◌, ◌++◌, ◌∷◌, ℕ, List, [], Some};
-ghost use Rattle.case_tables.specs.Filters.{SaysTime, day_start, seconds_in};
+ghost use Rattle.case_tables.specs.Filters.{SaysTime, seconds_in};
 ghost use Rattle.script_words.specs.Number.{number_of};
 
+use crate::zones::Zone;
 use jiff::Timestamp;
 use jiff::civil::DateTime;
-use jiff::tz::Offset;
 use script_words::parse_number;
 use std::str::FromStr;
-
-// How many seconds a day has.
-const DAY: u64 = 86_400;
 
 /// The time that a text gives, in seconds since the epoch, or `None` if the text is no time. It is one of these:
 ///
 /// - `@SECONDS`;
-/// - `today` or `yesterday`, from their start in UTC on;
-/// - a day, from its start in UTC on, as `2026-11-25`;
-/// - a minute or a second in UTC, as `2026-11-25 14:03` or `2026-11-25 14:03:11`;
+/// - `today` or `yesterday`, from their start in the zone on;
+/// - a day, from its start in the zone on, as `2026-11-25`;
+/// - a minute or a second in the zone, as `2026-11-25 14:03` or `2026-11-25 14:03:11`;
 /// - a moment with its zone, as `2026-11-25T14:03:11Z`;
 /// - so long ago, in seconds, minutes, hours or days, as `90s`, `30m`, `2h` or `3d`.
 ///
-/// `today`, `yesterday` and ages are `None` if the clock gives no time.
-pub fn read_time(text: &str, now: Option<u64>) -> Option<u64>
-    ensures { SaysTime now text.now result }
+/// `today`, `yesterday` and ages are `None` if the clock gives no time. A minute that the clock of a place skips is read with the offset of
+/// before, and one that it shows twice is the first.
+pub fn read_time(text: &str, now: Option<u64>, zone: Zone<'_>) -> Option<u64>
+    ensures { SaysTime zone.entry now text.now result }
 {
     if let Some(seconds) = text.strip_prefix("@") {
         return parse_number(seconds.as_bytes());
     }
     if text == "today" {
-        return Some(day_start(now?));
+        return zone.day_start(now?);
     }
     if text == "yesterday" {
-        return Some(day_start(now?).saturating_sub(DAY));
+        return zone.day_before(now?);
     }
     match age_of(text.as_bytes()) {
         Some(age) => Some(now?.saturating_sub(age)),
-        None => moment_of(text),
+        None => moment_of(text, zone),
     }
-}
-
-// When the day of a time began.
-fn day_start(time: u64) -> u64
-    ensures { result ≡ day_start time }
-{
-    time - time % DAY
 }
 
 // How many seconds an age is.
@@ -69,20 +60,17 @@ fn unit_seconds(unit: u8) -> Option<u64>
     }
 }
 
-fn moment_of(text: &str) -> Option<u64> {
-    let seconds = match Timestamp::from_str(text) {
-        Ok(moment) => moment.as_second(),
-        Err(_) => civil_seconds(text)?,
-    };
-    u64::try_from(seconds).ok()
+fn moment_of(text: &str, zone: Zone<'_>) -> Option<u64> {
+    match Timestamp::from_str(text) {
+        Ok(moment) => u64::try_from(moment.as_second()).ok(),
+        Err(_) => zone.time_of(civil_of(text)?),
+    }
 }
 
-// The seconds of a day, a minute or a second without a zone, in UTC.
-fn civil_seconds(text: &str) -> Option<i64> {
+// A day, a minute or a second without a zone.
+fn civil_of(text: &str) -> Option<DateTime> {
     if !matches!(text.len(), 10 | 16 | 19) {
         return None;
     }
-    let civil = DateTime::from_str(text).ok()?;
-    let moment = Offset::UTC.to_timestamp(civil).ok()?;
-    Some(moment.as_second())
+    DateTime::from_str(text).ok()
 }

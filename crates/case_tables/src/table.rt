@@ -7,6 +7,7 @@ ghost use Rattle.case_tables.specs.Cells.{cell, heading};
 ghost use Rattle.case_tables.specs.Table.{width, widths_of, spaces, left_text, right_text, row_text, case_row, list_table};
 
 use crate::columns::{Column, cell_length, print_cell};
+use crate::zones::Zone;
 use journal_layout::Entry;
 use script_streams::{Output, Reply};
 
@@ -22,78 +23,90 @@ pub(crate) struct Widths {
     pub(crate) name: usize,
 }
 
-/// Prints a table of cases: its heads, and a row for each case. Each column is as wide as it needs to be.
-pub fn print_table<O: Output>(reply: &mut Reply<'_, O>, cases: &[&Entry])
-    ensures is_table { PrintsText (printing O.Output reply.old reply.new) (list_table (map (λ e. case_of e.now) cases.now)) }
+/// Prints a table of cases, with times of a zone: its heads, and a row for each case. Each column is as wide as it needs to be.
+pub fn print_table<O: Output>(reply: &mut Reply<'_, O>, zone: Zone<'_>, cases: &[&Entry])
+    ensures is_table { PrintsText (printing O.Output reply.old reply.new) (list_table zone.entry (map (λ e. case_of e.now) cases.now)) }
 {
-    let widths = widths_of(cases);
+    let widths = widths_of(zone, cases);
     print_heads(reply, widths);
-    print_rows(reply, widths, cases);
+    print_rows(reply, zone, widths, cases);
 }
 
-fn widths_of(cases: &[&Entry]) -> Widths
-    ensures { result ≡ widths_of (map (λ e. case_of e.now) cases.now) }
+fn widths_of(zone: Zone<'_>, cases: &[&Entry]) -> Widths
+    ensures { result ≡ widths_of zone.entry (map (λ e. case_of e.now) cases.now) }
 {
     Widths {
-        number: width(Column::Number, cases),
-        time: width(Column::Time, cases),
-        pid: width(Column::Pid, cases),
-        signal: width(Column::Signal, cases),
-        size: width(Column::Size, cases),
-        kept: width(Column::Kept, cases),
-        name: width(Column::Name, cases),
+        number: width(zone, Column::Number, cases),
+        time: width(zone, Column::Time, cases),
+        pid: width(zone, Column::Pid, cases),
+        signal: width(zone, Column::Signal, cases),
+        size: width(zone, Column::Size, cases),
+        kept: width(zone, Column::Kept, cases),
+        name: width(zone, Column::Name, cases),
     }
 }
 
 // How wide a column is.
-fn width(column: Column, cases: &[&Entry]) -> usize
-    ensures { result ≡ width column (map (λ e. case_of e.now) cases.now) }
+fn width(zone: Zone<'_>, column: Column, cases: &[&Entry]) -> usize
+    ensures { result ≡ width zone.entry column (map (λ e. case_of e.now) cases.now) }
 {
     let mut width = column.heading().len();
     for case in cases {
-        width = width.max(cell_length(column, case));
+        width = width.max(cell_length(zone, column, case));
     }
     width
 }
 
 // Prints a row for each case.
-fn print_rows<O: Output>(reply: &mut Reply<'_, O>, widths: Widths, cases: &[&Entry])
-    ensures { PrintsText (printing O.Output reply.old reply.new) (flat_map (case_row widths) (map (λ e. case_of e.now) cases.now)) }
+fn print_rows<O: Output>(reply: &mut Reply<'_, O>, zone: Zone<'_>, widths: Widths, cases: &[&Entry])
+    ensures { PrintsText (printing O.Output reply.old reply.new) (flat_map (case_row zone.entry widths) (map (λ e. case_of e.now) cases.now)) }
 {
     for case in cases {
-        print_row(reply, widths, case);
+        print_row(reply, zone, widths, case);
     }
 }
 
-fn print_row<O: Output>(reply: &mut Reply<'_, O>, widths: Widths, case: &Entry)
-    ensures { PrintsText (printing O.Output reply.old reply.new) (case_row widths (case_of case.now)) }
+fn print_row<O: Output>(reply: &mut Reply<'_, O>, zone: Zone<'_>, widths: Widths, case: &Entry)
+    ensures { PrintsText (printing O.Output reply.old reply.new) (case_row zone.entry widths (case_of case.now)) }
 {
-    print_right(reply, widths.number, Column::Number, case);
-    print_left(reply, widths.time, Column::Time, case);
-    print_left(reply, widths.pid, Column::Pid, case);
-    print_left(reply, widths.signal, Column::Signal, case);
-    print_left(reply, widths.size, Column::Size, case);
-    print_left(reply, widths.kept, Column::Kept, case);
-    print_left(reply, widths.name, Column::Name, case);
-    print_cell(reply, Column::Label, case);
+    print_right(reply, zone, widths.number, Column::Number, case);
+    print_left(reply, zone, widths.time, Column::Time, case);
+    print_left(reply, zone, widths.pid, Column::Pid, case);
+    print_left(reply, zone, widths.signal, Column::Signal, case);
+    print_left(reply, zone, widths.size, Column::Size, case);
+    print_left(reply, zone, widths.kept, Column::Kept, case);
+    print_left(reply, zone, widths.name, Column::Name, case);
+    print_cell(reply, zone, Column::Label, case);
     reply.print(b"\n");
 }
 
-fn print_left<O: Output>(reply: &mut Reply<'_, O>, width: usize, column: Column, case: &Entry)
-    ensures { PrintsText (printing O.Output reply.old reply.new) (left_text width (cell column (case_of case.now))) }
+fn print_left<O: Output>(
+    reply: &mut Reply<'_, O>,
+    zone: Zone<'_>,
+    width: usize,
+    column: Column,
+    case: &Entry,
+)
+    ensures { PrintsText (printing O.Output reply.old reply.new) (left_text width (cell zone.entry column (case_of case.now))) }
 {
-    let left = width.saturating_sub(cell_length(column, case));
-    print_cell(reply, column, case);
+    let left = width.saturating_sub(cell_length(zone, column, case));
+    print_cell(reply, zone, column, case);
     print_spaces(reply, left);
     reply.print(b"  ");
 }
 
-fn print_right<O: Output>(reply: &mut Reply<'_, O>, width: usize, column: Column, case: &Entry)
-    ensures { PrintsText (printing O.Output reply.old reply.new) (right_text width (cell column (case_of case.now))) }
+fn print_right<O: Output>(
+    reply: &mut Reply<'_, O>,
+    zone: Zone<'_>,
+    width: usize,
+    column: Column,
+    case: &Entry,
+)
+    ensures { PrintsText (printing O.Output reply.old reply.new) (right_text width (cell zone.entry column (case_of case.now))) }
 {
-    let left = width.saturating_sub(cell_length(column, case));
+    let left = width.saturating_sub(cell_length(zone, column, case));
     print_spaces(reply, left);
-    print_cell(reply, column, case);
+    print_cell(reply, zone, column, case);
     reply.print(b"  ");
 }
 

@@ -7,6 +7,7 @@ ghost use Rattle.case_tables.specs.Wanted.{chosen, has_text, has_user, is_among,
 
 use crate::name_parts::{program_in, user_in};
 use crate::order::{Order, put_in_order};
+use crate::zones::Zone;
 use journal_layout::{Entry, Kind};
 use memchr::memmem;
 use std::alloc::{AllocError, Global};
@@ -37,6 +38,8 @@ pub struct Wanted<'a> {
     pub last: Option<usize>,
     /// In which order a list shows them.
     pub order: Order,
+    /// In which zone a table shows their times.
+    pub zone: Zone<'a>,
 }
 
 impl Wanted<'_> {

@@ -11,6 +11,7 @@ loop-case-init g c = prints_nothing
 
 pub loop-case-preserved : goal.loop-case-preserved
 loop-case-preserved g c =
+    let z = c.args.zone in
     let w = c.args.widths in
-    prints_as (row_more (case_row w) (λ e. case_of e.now) c.args.cases.now c.loop-case.case-index c.case-item.result (omega arith))
-    (prints_then c.loop-case.invariant (prints_as (ap (λ e. case_row w (case_of e.now)) c.case-item.is) c.print_row.ensures))
+    prints_as (row_more (case_row z w) (λ e. case_of e.now) c.args.cases.now c.loop-case.case-index c.case-item.result (omega arith))
+    (prints_then c.loop-case.invariant (prints_as (ap (λ e. case_row z w (case_of e.now)) c.case-item.is) c.print_row.ensures))

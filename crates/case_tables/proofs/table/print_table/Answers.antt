@@ -11,5 +11,5 @@ pub returns : goal.returns
 returns g c =
     let cases = map (λ e. case_of e.now) c.args.cases.now in
     let heads = prints_as (ap (λ (w : Widths). row_text w heading) c.widths_of-widths.ensures) c.print_heads.ensures in
-    let rows = prints_as (ap (λ (w : Widths). flat_map (case_row w) cases) c.widths_of-widths.ensures) c.print_rows.ensures in
+    let rows = prints_as (ap (λ (w : Widths). flat_map (case_row c.args.zone w) cases) c.widths_of-widths.ensures) c.print_rows.ensures in
     record { is_table = prints_then heads rows }

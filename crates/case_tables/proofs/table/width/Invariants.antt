@@ -4,4 +4,4 @@ use Rattle.case_tables.specs.Table.{width}
 use Rattle.case_tables.proofs.table.width.Given as goal
 
 abbrev pub invariant-loop-case : goal.invariant-loop-case
-invariant-loop-case l = l.width ≡ width l.column (map (λ e. case_of e.now) (take l.case-index l.cases))
+invariant-loop-case l = l.width ≡ width l.zone l.column (map (λ e. case_of e.now) (take l.case-index l.cases))
