@@ -153,7 +153,19 @@ fn flush_entry<R: AllocGlobal + Files<File = File> + Clock, O: Output, W: Onlook
     let Some(words) = words.or(no_words(rt.alloc())) else {
         return false;
     };
+    let words = words_at(stage, words);
     flush_core(rt, handler, &waiting, &words, output, onlooker) == Outcome::Stored
+}
+
+// The words of a core at this stage. One that was cut on its way has not the length that was stated: it is stored as it came.
+fn words_at(stage: Stage, words: HandleWords<'static>) -> HandleWords<'static> {
+    match stage {
+        Stage::Part => HandleWords {
+            length: None,
+            ..words
+        },
+        Stage::Whole => words,
+    }
 }
 
 // The file of a core, with its lock. A whole one loses the name that it had before, if a stop left it: else it could be taken for a cut one as
