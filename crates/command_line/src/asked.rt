@@ -184,6 +184,57 @@ impl<'a> Asked<'a> {
             _ => None,
         }
     }
+
+    // The path of the archive that is read or changed, if one is.
+    fn archive(&self) -> Option<&'a str> {
+        match self {
+            Asked::Run { archive, .. }
+            | Asked::Store { archive, .. }
+            | Asked::StoreBuild { archive, .. }
+            | Asked::Extract { archive, .. }
+            | Asked::Digest { archive, .. }
+            | Asked::Unpack { archive, .. }
+            | Asked::List { archive, .. }
+            | Asked::Info { archive, .. }
+            | Asked::Wants { archive, .. }
+            | Asked::Prune { archive, .. }
+            | Asked::Search { archive, .. }
+            | Asked::Groups { archive, .. }
+            | Asked::Report { archive, .. }
+            | Asked::Ask { archive, .. }
+            | Asked::WouldRetire { archive, .. }
+            | Asked::Look { archive, .. }
+            | Asked::Check { archive, .. }
+            | Asked::Copy { archive, .. }
+            | Asked::Resize { archive, .. }
+            | Asked::Salvage { archive, .. } => Some(archive.path),
+            Asked::Metrics(path) => Some(*path),
+            Asked::Format { .. } | Asked::Memory { .. } | Asked::Handle(_) | Asked::Nothing => None,
+        }
+    }
+
+    // The paths that the words give.
+    pub(crate) fn paths(&self) -> Paths<'a> {
+        Paths {
+            archive: self.archive(),
+            file: match self {
+                Asked::Store { file, .. } | Asked::StoreBuild { file, .. } => Some(*file),
+                _ => None,
+            },
+            made: self.made(),
+        }
+    }
+}
+
+// The paths that the words give, if they do.
+#[derive(Clone, Copy)]
+pub(crate) struct Paths<'a> {
+    // The archive that is read or changed.
+    pub(crate) archive: Option<&'a str>,
+    // The file that is stored.
+    pub(crate) file: Option<&'a str>,
+    // The file or the directory that is made.
+    pub(crate) made: Option<&'a str>,
 }
 
 // The settings of a session, as the words say them.

@@ -1,9 +1,10 @@
 // Why the program ends with a status other than 0, and how it says so.
 ghost use Rattle.std.specs.Prelude.{◌≡◌, ◌≤◌};
 
-use archive_files::{Failure, Refusal, print_failure, reason_of};
+use archive_files::{Failure, FileWord, NamedFile, Refusal, print_failure, reason_of};
 use command_words::{
     Context, Unread, meaning_when, print_how_it_is_asked, print_meaning, print_no_line,
+    print_wrong_word,
 };
 use diagnostics::Trouble;
 use line_help::LineHelp;
@@ -17,8 +18,26 @@ pub(crate) enum Ending {
     Help(String),
     // The words are outside the grammar, as this text says.
     Wrong(String),
-    // It failed, or was refused.
-    Failed(Failure),
+    // It failed, or was refused, and this is known of the file that the failure names.
+    Failed(Failure, Named),
+}
+
+// What is known of the file that a failure names. Nothing is if there was no memory for it.
+#[derive(Drop)]
+pub(crate) struct Named {
+    pub(crate) path: Option<String>,
+    // The process that holds its lock.
+    pub(crate) holder: Option<u32>,
+}
+
+impl Named {
+    // Nothing.
+    pub(crate) fn nothing() -> Named {
+        Named {
+            path: None,
+            holder: None,
+        }
+    }
 }
 
 impl From<Unread> for Ending {
@@ -33,13 +52,13 @@ impl From<Unread> for Ending {
 
 impl From<Failure> for Ending {
     fn from(failure: Failure) -> Self {
-        Ending::Failed(failure)
+        Ending::Failed(failure, Named::nothing())
     }
 }
 
 impl From<Refusal> for Ending {
     fn from(refusal: Refusal) -> Self {
-        Ending::Failed(Failure::Refused(refusal))
+        Ending::from(Failure::Refused(refusal))
     }
 }
 
@@ -88,25 +107,35 @@ pub(crate) fn print_ending<O: Output, E: Output>(
             }
             2
         }
-        Ending::Failed(failure) => {
-            print_why(alloc, failure, clues, errors);
-            print_failure(alloc, failure, output, errors)
+        Ending::Failed(failure, named) => {
+            print_why(alloc, failure, named, clues, errors);
+            let file = NamedFile {
+                path: named.path.as_deref().unwrap_or(""),
+                holder: named.holder,
+            };
+            print_failure(alloc, failure, file, output, errors)
         }
     }
 }
 
 // Explains the reason of a refusal to people.
-fn print_why<E: Output>(alloc: Global, failure: &Failure, clues: Clues<'_>, errors: &mut E) {
+fn print_why<E: Output>(
+    alloc: Global,
+    failure: &Failure,
+    named: &Named,
+    clues: Clues<'_>,
+    errors: &mut E,
+) {
     match failure {
         Failure::Refused(Refusal::NoLine(usage)) => print_no_line(usage, clues.words, errors),
         Failure::Refused(refusal) | Failure::Aside(refusal) => {
             if !is_told(*refusal) {
-                print_words_of(reason_of(alloc, *refusal).text(), clues, errors);
+                print_words_of(reason_of(alloc, *refusal).text(), named, clues, errors);
             }
         }
         Failure::Told => {
             if let Some(reason) = reason_in(clues.last_line) {
-                print_words_of(reason, clues, errors);
+                print_words_of(reason, named, clues, errors);
             }
         }
         _ => {}
@@ -136,13 +165,29 @@ fn is_told(refusal: Refusal) -> bool {
 }
 
 // Explains a reason, if there are words for it.
-fn print_words_of<E: Output>(reason: &[u8], clues: Clues<'_>, errors: &mut E) {
+fn print_words_of<E: Output>(reason: &[u8], named: &Named, clues: Clues<'_>, errors: &mut E) {
     if meaning_when(clues.context, reason).is_empty() {
+        return;
+    }
+    if reason == b"BadLine".as_slice() && print_wrong_word(clues.words, errors) {
         return;
     }
     let mut reply = Reply::new(errors);
     reply.print(b"corekeep: ");
+    if let Some(path) = &named.path {
+        if is_of_an_opening(reason) {
+            reply.print_bytes(path.as_bytes());
+            reply.print(b": ");
+        }
+    }
     print_meaning(&mut reply, clues.context, reason, clues.trouble);
     reply.print(b"\n");
     let _ = reply.finish();
+}
+
+// Whether a reason says why an archive does not open: its words are about the file.
+fn is_of_an_opening(reason: &[u8]) -> bool {
+    reason == b"NotAnArchive".as_slice()
+        || reason.starts_with(b"UnknownVersion ")
+        || reason.starts_with(b"Damaged ")
 }

@@ -7,6 +7,7 @@ mod begin_line;
 mod endings;
 mod handle_words;
 mod list_words;
+mod named_files;
 mod named_words;
 mod prune_words;
 mod store_words;

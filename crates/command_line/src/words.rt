@@ -5,6 +5,7 @@ ghost use Rattle.command_words.specs.Notes.{IsQuietButForNotes, IsQuietButForSom
 use crate::ask_words::{AskedLine, Form};
 use crate::asked::{Asked, SessionWords, naming_of, read_words};
 use crate::endings::{Clues, Ending, print_ending};
+use crate::named_files::ending_of;
 use archive_files::{
     Access, ArchivePath, Failure, NewArchive, Refusal, StoreRequest, ask, check, copy_archive_file,
     look, make_archive, names_output, note_file_system, note_gap, note_shared, print_trouble,
@@ -178,7 +179,7 @@ fn answer_words<
     listener: &mut Listener<'_, W>,
 ) -> Result<(), Ending> {
     if names_output(rt, words) {
-        return Err(Ending::Failed(Failure::Aside(Refusal::Output)));
+        return Err(Ending::from(Failure::Aside(Refusal::Output)));
     }
     if let Some(help) = asked_help(words) {
         return print_help(help, output).map_err(|_| Ending::from(Failure::Told));
@@ -196,7 +197,11 @@ fn answer_words<
             if let Some(path) = asked.made() {
                 note_shared(rt, path, &mut notes.subject);
             }
-            Ok(answer_asked(rt, asked, input, output, notes, listener)?)
+            let paths = asked.paths();
+            match answer_asked(rt, asked, input, output, notes, listener) {
+                Ok(()) => Ok(()),
+                Err(failure) => Err(ending_of(rt, failure, paths)),
+            }
         }
         Err(ending) => {
             if ordered.is_some() && !matches!(ending, Ending::Help(_)) {
@@ -499,8 +504,8 @@ fn refuse_unwritten<R: AllocGlobal + Files<File = File>, W: Onlooker>(
 // could not be read.
 fn aside_of_an_image(words: &[String], ending: Ending) -> Ending {
     match ending {
-        Ending::Failed(Failure::Refused(refusal)) if asks_for_an_image(words) => {
-            Ending::Failed(Failure::Aside(refusal))
+        Ending::Failed(Failure::Refused(refusal), named) if asks_for_an_image(words) => {
+            Ending::Failed(Failure::Aside(refusal), named)
         }
         other => other,
     }

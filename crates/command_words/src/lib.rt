@@ -26,6 +26,7 @@ mod text_digits;
 mod troubles;
 mod unpack_tables;
 mod watched;
+mod wrong_values;
 mod wrong_words;
 
 pub use contexts::{Context, context_of, meaning_when};
@@ -40,4 +41,5 @@ pub use raw_words::{is_text, push_escaped, words_of};
 pub use text_digits::digits_of;
 pub use troubles::print_meaning;
 pub use watched::{LastLine, Watched};
+pub use wrong_values::print_wrong_word;
 pub use wrong_words::print_no_line;
