@@ -39,10 +39,10 @@ _corekeep() {
     run) options="--builds --no-wait $session --help" ;;
     store) options="--exec --name --pin --label --escape --keep --bytes --before --fit --fair --cut --length --sha256 --stall --spool --build --id --debug --log --no-wait --quiet $session --help" ;;
     handle) options="--check --flush --archive --length --stall --help" ;;
-    list) options="--json --json-lines --sort --kind --name --user --program --pid --signal --since --until --label --pinned --last --no-wait --help" ;;
-    info) options="--threads --json --metrics --no-wait --help" ;;
-    search) options="--text --json --json-lines --sort --kind --name --user --program --pid --signal --since --until --label --pinned --last --no-wait --help" ;;
-    groups) options="--json --json-lines --name --user --program --pid --signal --since --until --label --pinned --last --no-wait --help" ;;
+    list) options="--json --json-lines --local --sort --kind --name --user --program --pid --signal --since --until --label --pinned --last --no-wait --help" ;;
+    info) options="--threads --json --local --metrics --no-wait --help" ;;
+    search) options="--text --json --json-lines --local --sort --kind --name --user --program --pid --signal --since --until --label --pinned --last --no-wait --help" ;;
+    groups) options="--json --json-lines --local --name --user --program --pid --signal --since --until --label --pinned --last --no-wait --help" ;;
     report) options="--no-wait --help" ;;
     ask) options="--text --plain --words --json --builds --no-wait --help" ;;
     wants) options="--ids --json --no-wait --help" ;;

@@ -7,6 +7,7 @@ use Rattle.archive_files.specs.declared.collected.Collected.{Collected}
 use Rattle.archive_files.specs.declared.failures.Refusal.{Refusal}
 use Rattle.group_tables.specs.Table.{group_screen, groups_table}
 use Rattle.group_tables.specs.Values.{RowSaid, row_said}
+use Rattle.case_tables.specs.declared.zones.Zone.{Zone}
 use Rattle.group_tables.specs.declared.numbers.CrashedCore.{CrashedCore}
 use Rattle.group_tables.specs.declared.rows.GroupRow.{GroupRow}
 use Rattle.intake.specs.Parts.{Parts, state_of}
@@ -32,13 +33,13 @@ found_mapped seq rows o is = twice o ∙ ap (option_map row_said) is ∙ sym (fi
     twice (Some r) = refl
 
 -- what holds of the text that is told
-module _ (P Q : List ℕ → Type 0) (so : (text : List ℕ) → P text → Q text) (latest : ℕ) where
-  found_so : (o : Option RowSaid) → PrintsFound latest o P → PrintsFound latest o Q
+module _ (P Q : List ℕ → Type 0) (so : (text : List ℕ) → P text → Q text) (zone : Zone) (latest : ℕ) where
+  found_so : (o : Option RowSaid) → PrintsFound zone latest o P → PrintsFound zone latest o Q
   found_so None states = states
-  found_so (Some row) states = so (group_screen latest row) states
+  found_so (Some row) states = so (group_screen zone latest row) states
 
-  pub rows_so : (case : Option ℕ) (rows : List RowSaid) → PrintsRows case latest rows P → PrintsRows case latest rows Q
-  rows_so None rows states = so (groups_table latest rows) states
+  pub rows_so : (case : Option ℕ) (rows : List RowSaid) → PrintsRows zone case latest rows P → PrintsRows zone case latest rows Q
+  rows_so None rows states = so (groups_table zone latest rows) states
   rows_so (Some seq) rows states = found_so (find (has_member seq) rows) states
 
 -- all cases are there, and the groups are told

@@ -15,6 +15,7 @@ use Rattle.group_tables.specs.Numbers.{numbered}
 use Rattle.group_tables.specs.Rows.{rows_of}
 use Rattle.group_tables.specs.Table.{group_screen, groups_table}
 use Rattle.group_tables.specs.Values.{MemberSaid, RowSaid}
+use Rattle.case_tables.specs.declared.zones.Zone.{Zone}
 use Rattle.group_tables.specs.declared.numbers.CrashedCore.{CrashedCore}
 use Rattle.intake.specs.Calls.{OpenCall}
 use Rattle.intake.specs.Parts.{Parts, state_of}
@@ -60,20 +61,20 @@ abbrev pub has_member : ℕ → RowSaid → Bool
 has_member seq r = list_any (is_member seq) r.members
 
 -- the screen of the first group that has the case
-abbrev pub PrintsFound : ℕ → Option RowSaid → (List ℕ → Type 0) → Type 0
-PrintsFound latest None Prints = ⊥
-PrintsFound latest (Some row) Prints = Prints (group_screen latest row)
+abbrev pub PrintsFound : Zone → ℕ → Option RowSaid → (List ℕ → Type 0) → Type 0
+PrintsFound zone latest None Prints = ⊥
+PrintsFound zone latest (Some row) Prints = Prints (group_screen zone latest row)
 
-abbrev pub PrintsRow : ℕ → ℕ → List RowSaid → (List ℕ → Type 0) → Type 0
-PrintsRow latest seq rows Prints = PrintsFound latest (find (has_member seq) rows) Prints
+abbrev pub PrintsRow : Zone → ℕ → ℕ → List RowSaid → (List ℕ → Type 0) → Type 0
+PrintsRow zone latest seq rows Prints = PrintsFound zone latest (find (has_member seq) rows) Prints
 
 -- the table of groups; or, if a case is named, the screen of its group
-abbrev pub PrintsRows : Option ℕ → ℕ → List RowSaid → (List ℕ → Type 0) → Type 0
-PrintsRows None latest rows Prints = Prints (groups_table latest rows)
-PrintsRows (Some seq) latest rows Prints = PrintsRow latest seq rows Prints
+abbrev pub PrintsRows : Zone → Option ℕ → ℕ → List RowSaid → (List ℕ → Type 0) → Type 0
+PrintsRows zone None latest rows Prints = Prints (groups_table zone latest rows)
+PrintsRows zone (Some seq) latest rows Prints = PrintsRow zone latest seq rows Prints
 
 abbrev pub IsText : List RowSaid → GroupsForm → List ℕ → Type 0
-IsText rows form text = PrintsRows form.case form.latest rows (λ (told : List ℕ). text ≡ told)
+IsText rows form text = PrintsRows form.zone form.case form.latest rows (λ (told : List ℕ). text ≡ told)
 
 -- of the groups of cores
 abbrev pub IsTextOf : List Case → List CrashedCore → GroupsForm → List ℕ → Type 0

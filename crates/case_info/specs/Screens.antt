@@ -16,6 +16,7 @@ use Rattle.case_queries.specs.declared.facts.CoreFacts.{CoreFacts}
 use Rattle.case_screens.specs.Core.{header_in, notes_in}
 use Rattle.case_screens.specs.Frames.{thread_count}
 use Rattle.case_screens.specs.Screen.{info_answer}
+use Rattle.case_tables.specs.declared.zones.Zone.{Zone}
 use Rattle.case_screens.specs.declared.answer.CaseAnswers.{CaseAnswers}
 use Rattle.case_screens.specs.declared.answer.CaseAnswers.TheVariants.{Core, Exec}
 use Rattle.case_screens.specs.declared.answer.CoreAnswers.{CoreAnswers}
@@ -78,34 +79,34 @@ abbrev pub AsksCore : {D : Type 0} → disk.Ghosts D → Parts D → Parts D →
 AsksCore g old mid seq image words (Ok core) a new = FindsFacts g old mid seq image (core_bytes core) (shown_count words (notes_in image)) a new
 AsksCore g old mid seq image words (Err fault) a new = new ≡ mid
 
--- the screen of a case by the questions that are asked of it, in an archive
-abbrev pub IsScreenBy : {D : Type 0} → Parts D → ℕ → CaseAnswers → Collected → Type 0
-IsScreenBy a seq answers text = (c : Case) × HasCase (state_of a) seq c × (held text ≡ info_answer c (state_of a).cases answers)
+-- the screen of a case by the questions that are asked of it, in an archive, with its time in a zone
+abbrev pub IsScreenBy : {D : Type 0} → Zone → Parts D → ℕ → CaseAnswers → Collected → Type 0
+IsScreenBy zone a seq answers text = (c : Case) × HasCase (state_of a) seq c × (held text ≡ info_answer zone c (state_of a).cases answers)
 
 -- The image of a core is seen. Its facts, and those of its memory, are shown.
-abbrev pub ShowsCore : {D : Type 0} → disk.Ghosts D → Parts D → ℕ → InfoWords → Collected → Parts D → Type 0
-ShowsCore {D} g old seq words text new =
+abbrev pub ShowsCore : {D : Type 0} → disk.Ghosts D → Parts D → ℕ → Zone → InfoWords → Collected → Parts D → Type 0
+ShowsCore {D} g old seq zone words text new =
     (image : List ℕ) × (mid : Parts D) × SeesImage g old seq image mid
-    × (a : CoreAnswers) × SaysCore image a.core a.whole a.unread × AsksCore g old mid seq image words a.core a new × IsScreenBy new seq (Core a) text
+    × (a : CoreAnswers) × SaysCore image a.core a.whole a.unread × AsksCore g old mid seq image words a.core a new × IsScreenBy zone new seq (Core a) text
 
 -- The image of an executable is seen, and its file header is shown.
-abbrev pub ShowsExec : {D : Type 0} → disk.Ghosts D → Parts D → ℕ → Collected → Parts D → Type 0
-ShowsExec g old seq text new = (image : List ℕ) × SeesImage g old seq image new × IsScreenBy new seq (Exec (header_in image)) text
+abbrev pub ShowsExec : {D : Type 0} → disk.Ghosts D → Parts D → ℕ → Zone → Collected → Parts D → Type 0
+ShowsExec g old seq zone text new = (image : List ℕ) × SeesImage g old seq image new × IsScreenBy zone new seq (Exec (header_in image)) text
 
 -- the screen of a case of that kind
-abbrev pub ShowsKind : {D : Type 0} → disk.Ghosts D → Parts D → ℕ → InfoWords → Collected → Parts D → Kind → Type 0
-ShowsKind g old seq words text new kind.Core = ShowsCore g old seq words text new
-ShowsKind g old seq words text new kind.Exec = ShowsExec g old seq text new
+abbrev pub ShowsKind : {D : Type 0} → disk.Ghosts D → Parts D → ℕ → Zone → InfoWords → Collected → Parts D → Kind → Type 0
+ShowsKind g old seq zone words text new kind.Core = ShowsCore g old seq zone words text new
+ShowsKind g old seq zone words text new kind.Exec = ShowsExec g old seq zone text new
 
 -- The screen of a case, by its kind. JSON is left out.
-abbrev pub ShowsCase : {D : Type 0} → disk.Ghosts D → Parts D → ℕ → InfoWords → Collected → Type 0
-ShowsCase {D} g old seq words text = words.is_json ≡ false → (c : Case) × HasCase (state_of old) seq c × (new : Parts D) × ShowsKind g old seq words text new c.origin.kind
+abbrev pub ShowsCase : {D : Type 0} → disk.Ghosts D → Parts D → ℕ → Zone → InfoWords → Collected → Type 0
+ShowsCase {D} g old seq zone words text = words.is_json ≡ false → (c : Case) × HasCase (state_of old) seq c × (new : Parts D) × ShowsKind g old seq zone words text new c.origin.kind
 
 -- by the archive that was opened, or why it was not
-abbrev pub ShowsBy : {D : Type 0} → disk.Ghosts D → ℕ → InfoWords → Result (Parts D) (OpenFault × D) → Result Collected Refusal → Type 0
-ShowsBy g seq words (Ok a) r = IfOk r (ShowsCase g a seq words)
-ShowsBy g seq words (Err (fault, d)) r = r ≡ Err (Open fault)
+abbrev pub ShowsBy : {D : Type 0} → disk.Ghosts D → ℕ → Zone → InfoWords → Result (Parts D) (OpenFault × D) → Result Collected Refusal → Type 0
+ShowsBy g seq zone words (Ok a) r = IfOk r (ShowsCase g a seq zone words)
+ShowsBy g seq zone words (Err (fault, d)) r = r ≡ Err (Open fault)
 
 -- The archive on a disk is opened, and a case of it is shown.
-abbrev pub ShowsOn : {D : Type 0} → disk.Ghosts D → ℕ → InfoWords → D → Result Collected Refusal → Type 0
-ShowsOn {D} g seq words before r = (opened : Result (Parts D) (OpenFault × D)) × OpenCall g 0 before opened × ShowsBy g seq words opened r
+abbrev pub ShowsOn : {D : Type 0} → disk.Ghosts D → ℕ → Zone → InfoWords → D → Result Collected Refusal → Type 0
+ShowsOn {D} g seq zone words before r = (opened : Result (Parts D) (OpenFault × D)) × OpenCall g 0 before opened × ShowsBy g seq zone words opened r

@@ -6,13 +6,14 @@ use crate::printing::{shown, write_json, write_text};
 use archive_files::{ArchivePath, Collected, Failure, Refusal, take_look};
 use archive_screens::{ArchiveFacts, archive_json, cores_by_day, print_archive_screen, tally_of};
 use case_journal::{Journal, Opened};
+use case_tables::Zone;
 use disk_model::Disk;
 use script_streams::{Output, Reply};
 use std::alloc::Global;
 use std::fs::File;
 use std::rt::Files;
 
-/// Prints the facts of an archive, from one look at it.
+/// Prints the facts of an archive, from one look at it, with times in a zone.
 ///
 /// # Errors
 ///
@@ -22,6 +23,7 @@ pub fn info_archive<R: AllocGlobal + Files<File = File>, O: Output>(
     rt: &R,
     place: ArchivePath<'_>,
     is_json: bool,
+    zone: Zone<'_>,
     output: &mut O,
 ) -> Result<(), Failure> {
     let alloc = rt.alloc();
@@ -30,7 +32,7 @@ pub fn info_archive<R: AllocGlobal + Files<File = File>, O: Output>(
         Err(refusal) => Err(refusal),
     };
     let done = match found {
-        Ok(facts) => print_facts(alloc, &facts, is_json, output),
+        Ok(facts) => print_facts(alloc, &facts, is_json, zone, output),
         Err(refusal) => Err(Failure::Refused(refusal)),
     };
     shown(alloc, is_json, done, output)
@@ -40,6 +42,7 @@ fn print_facts<O: Output>(
     alloc: Global,
     facts: &ArchiveFacts,
     is_json: bool,
+    zone: Zone<'_>,
     output: &mut O,
 ) -> Result<(), Failure> {
     if is_json {
@@ -47,7 +50,7 @@ fn print_facts<O: Output>(
     }
     let mut text = Collected::new(alloc);
     let mut reply = Reply::new(&mut text);
-    print_archive_screen(&mut reply, facts);
+    print_archive_screen(&mut reply, zone, facts);
     match reply.finish() {
         Ok(()) => write_text(text.text(), output),
         Err(_) => Err(Failure::Refused(Refusal::OutOfMemory)),

@@ -17,6 +17,7 @@ use build_replies::BuildAnswer;
 use case_listing::{find_case, latest_time};
 use case_queries::CaseImage;
 use case_screens::{CaseAnswers, CoreAnswers, case_json, print_case_screen};
+use case_tables::Zone;
 use disk_model::Disk;
 use elf_view::Want;
 use frame_replies::FramesAnswer;
@@ -40,7 +41,7 @@ pub struct InfoWords {
     pub is_json: bool,
 }
 
-/// Prints the facts of a case, from a look at the archive. The case is named by its number, by its name, or as `last` or `latest`. The text, and
+/// Prints the facts of a case, from a look at the archive, with its time in a zone. The case is named by its number, by its name, or as `last` or `latest`. The text, and
 /// the executables that were read with it, are held until the case is found again.
 ///
 /// # Errors
@@ -52,12 +53,13 @@ pub fn info_case<R: AllocGlobal + Files<File = File> + Clock, O: Output>(
     place: ArchivePath<'_>,
     case: &str,
     words: InfoWords,
+    zone: Zone<'_>,
     output: &mut O,
 ) -> Result<(), Failure> {
     let alloc = rt.alloc();
     let until = latest_time(rt);
     let told = match take_look(rt, place) {
-        Ok(looked) => held_screen(alloc, looked, case.as_bytes(), until, words),
+        Ok(looked) => held_screen(alloc, looked, case.as_bytes(), until, words, zone),
         Err(refusal) => Err(refusal),
     };
     let done = match told {
@@ -74,12 +76,13 @@ fn held_screen<S: SharedDisk + Drop>(
     case: &[u8],
     until: u64,
     words: InfoWords,
+    zone: Zone<'_>,
 ) -> Result<Collected, Refusal> {
     let seq = number_of(alloc, looked.unlocked(Vec::new(alloc)), case, until)?;
     let reads = Reads::Memory { seq };
     let found = find_cases(alloc, looked.unlocked(Vec::new(alloc)), reads);
     let Places { numbers, ranges } = found.map_err(|fault| unasked(fault))?;
-    let text = screen_over(alloc, looked.unlocked(ranges), seq, words)?;
+    let text = screen_over(alloc, looked.unlocked(ranges), seq, words, zone)?;
     match stay(alloc, looked.into_shared(), &numbers) {
         Ok(()) => Ok(text),
         Err(fault) => Err(unasked(fault)),
@@ -104,13 +107,14 @@ fn screen_over<D: Disk + Drop>(
     disk: D,
     seq: u32,
     words: InfoWords,
+    zone: Zone<'_>,
 ) -> Result<Collected, Refusal>
-    ensures { ShowsOn D.Disk seq words disk result }
+    ensures { ShowsOn D.Disk seq zone.entry words disk result }
 {
     match Archive::open(alloc, disk, Settings { limit: 0 }) {
         Ok(archive) => {
             let mut archive = archive;
-            screen_in(alloc, &mut archive, seq, words)
+            screen_in(alloc, &mut archive, seq, words, zone)
         }
         Err((fault, _)) => Err(Refusal::Open(fault)),
     }
@@ -122,12 +126,13 @@ fn screen_in<D: Disk>(
     archive: &mut Archive<D>,
     seq: u32,
     words: InfoWords,
+    zone: Zone<'_>,
 ) -> Result<Collected, Refusal>
-    ensures { IfOk result (ShowsCase D.Disk archive.old seq words) }
+    ensures { IfOk result (ShowsCase D.Disk archive.old seq zone.entry words) }
 {
     match kind_of(archive, seq)? {
-        Kind::Core => Ok(core_screen(alloc, archive, seq, words)?),
-        Kind::Exec => Ok(exec_screen(alloc, archive, seq, words)?),
+        Kind::Core => Ok(core_screen(alloc, archive, seq, words, zone)?),
+        Kind::Exec => Ok(exec_screen(alloc, archive, seq, words, zone)?),
     }
 }
 
@@ -145,14 +150,24 @@ fn core_screen<D: Disk>(
     archive: &mut Archive<D>,
     seq: u32,
     words: InfoWords,
+    zone: Zone<'_>,
 ) -> Result<Collected, Refusal>
-    ensures { IfOk result (λ text. words.is_json ≡ false → ShowsCore D.Disk archive.old seq words text archive.new) }
+    ensures { IfOk result (λ text. words.is_json ≡ false → ShowsCore D.Disk archive.old seq zone.entry words text archive.new) }
 {
     let size = size_of(seq, archive)?;
     let front = front_of(alloc, seq, size, Want::Core, archive)?;
     let said = core_in(&front);
     let Ok(core) = said.core else {
-        return Ok(put_core(alloc, archive, seq, said, no_frames(), None, words.is_json)?);
+        return Ok(put_core(
+            alloc,
+            archive,
+            seq,
+            said,
+            no_frames(),
+            None,
+            words.is_json,
+            zone,
+        )?);
     };
     let elf = core.elf();
     let image = CaseImage {
@@ -181,6 +196,7 @@ fn core_screen<D: Disk>(
         &facts.unwound,
         builds_in(&facts),
         words.is_json,
+        zone,
     )?)
 }
 
@@ -198,8 +214,9 @@ fn put_core<D: Disk>(
     unwound: &[Option<FramesAnswer<'_>>],
     builds: Option<&[BuildAnswer<'_>]>,
     is_json: bool,
+    zone: Zone<'_>,
 ) -> Result<Collected, Refusal>
-    ensures { IfOk result (λ text. is_json ≡ false → IsScreenBy archive.now seq (Core (record { core = said.entry.core; unwound = unwound.entry; builds = builds.entry; whole = said.entry.whole; unread = said.entry.unread })) text) }
+    ensures { IfOk result (λ text. is_json ≡ false → IsScreenBy zone.entry archive.now seq (Core (record { core = said.entry.core; unwound = unwound.entry; builds = builds.entry; whole = said.entry.whole; unread = said.entry.unread })) text) }
 {
     let answers = CaseAnswers::Core(CoreAnswers {
         core: said.core,
@@ -208,7 +225,7 @@ fn put_core<D: Disk>(
         whole: said.whole,
         unread: said.unread,
     });
-    put_text(alloc, archive, seq, &answers, is_json)
+    put_text(alloc, archive, seq, &answers, is_json, zone)
 }
 
 fn exec_screen<D: Disk>(
@@ -216,13 +233,14 @@ fn exec_screen<D: Disk>(
     archive: &mut Archive<D>,
     seq: u32,
     words: InfoWords,
+    zone: Zone<'_>,
 ) -> Result<Collected, Refusal>
-    ensures { IfOk result (λ text. words.is_json ≡ false → ShowsExec D.Disk archive.old seq text archive.new) }
+    ensures { IfOk result (λ text. words.is_json ≡ false → ShowsExec D.Disk archive.old seq zone.entry text archive.new) }
 {
     let size = size_of(seq, archive)?;
     let front = front_of(alloc, seq, size, Want::Exec, archive)?;
     let answers = CaseAnswers::Exec(header_in(&front));
-    Ok(put_text(alloc, archive, seq, &answers, words.is_json)?)
+    Ok(put_text(alloc, archive, seq, &answers, words.is_json, zone)?)
 }
 
 // Puts the facts of a case into a text.
@@ -232,8 +250,9 @@ fn put_text<D: Disk>(
     seq: u32,
     answers: &CaseAnswers<'_, '_>,
     is_json: bool,
+    zone: Zone<'_>,
 ) -> Result<Collected, Refusal>
-    ensures { IfOk result (λ text. is_json ≡ false → IsScreenBy archive.now seq answers.now text) }
+    ensures { IfOk result (λ text. is_json ≡ false → IsScreenBy zone.entry archive.now seq answers.now text) }
 {
     let case = match archive.case(seq) {
         Ok(case) => case,
@@ -246,7 +265,7 @@ fn put_text<D: Disk>(
     if is_json {
         return put_json(alloc, case, cases, answers);
     }
-    Ok(put_screen(alloc, case, cases, answers)?)
+    Ok(put_screen(alloc, zone, case, cases, answers)?)
 }
 
 fn put_json(
@@ -267,15 +286,16 @@ fn put_json(
 
 fn put_screen(
     alloc: Global,
+    zone: Zone<'_>,
     case: &Entry,
     cases: &[Entry],
     answers: &CaseAnswers<'_, '_>,
 ) -> Result<Collected, Refusal>
-    ensures { IfOk result (λ text. held text ≡ info_answer (case_of case.now) (map case_of cases.now) answers.now) }
+    ensures { IfOk result (λ text. held text ≡ info_answer zone.entry (case_of case.now) (map case_of cases.now) answers.now) }
 {
     let mut text = Collected::new(alloc);
     let mut reply = Reply::new(&mut text);
-    print_case_screen(&mut reply, case, cases, answers);
+    print_case_screen(&mut reply, zone, case, cases, answers);
     match reply.finish() {
         Ok(()) => Ok(text),
         Err(_) => Err(Refusal::OutOfMemory),

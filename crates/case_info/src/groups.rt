@@ -18,7 +18,7 @@ use crate::printing::{shown, write_text};
 use crate::rows::print_refused;
 use archive_files::{ArchivePath, Collected, Failure, Refusal, take_look, unasked};
 use case_listing::ListWords;
-use case_tables::Wanted;
+use case_tables::{Wanted, Zone};
 use crash_signatures::grouped;
 use disk_model::Disk;
 use group_tables::{
@@ -49,7 +49,7 @@ pub struct GroupsWords<'a> {
 
 // Which group is printed, and how.
 #[derive(Clone, Copy)]
-pub(crate) struct GroupsForm {
+pub(crate) struct GroupsForm<'a> {
     // That of this case alone.
     case: Option<u32>,
     is_json: bool,
@@ -57,6 +57,8 @@ pub(crate) struct GroupsForm {
     by_lines: bool,
     // The latest time that counts.
     latest: u64,
+    // In which zone times are shown.
+    zone: Zone<'a>,
 }
 
 // The results of the search for the cores that are wanted.
@@ -68,7 +70,7 @@ enum Found {
     NotCore,
 }
 
-/// Prints the groups of the cores that crashed alike, from a look at the archive: a row for each, or the row of the group that a case is in, and
+/// Prints the groups of the cores that crashed alike, from a look at the archive, with times in a zone: a row for each, or the row of the group that a case is in, and
 /// the cores of the group. The cores are those that `list` with the same words shows. They are looked at one after the other, each with
 /// the executables that `unwind` chooses for it. The text is held until the archive is looked at again: a core that was deleted meanwhile is
 /// left out.
@@ -83,11 +85,12 @@ pub fn group_archive<R: AllocGlobal + Files<File = File> + Clock, O: Output>(
     rt: &R,
     place: ArchivePath<'_>,
     words: GroupsWords<'_>,
+    zone: Zone<'_>,
     output: &mut O,
 ) -> Result<(), Failure> {
     let now = rt.since_1970().ok().map(|time| time.as_secs());
     let alloc = rt.alloc();
-    let done = match find_groups(rt, place, words, now) {
+    let done = match find_groups(rt, place, words, zone, now) {
         Ok(found) => write_found(alloc, found, words.list, output),
         Err(refusal) => Err(Failure::Refused(refusal)),
     };
@@ -132,10 +135,11 @@ fn find_groups<R: AllocGlobal + Files<File = File>>(
     rt: &R,
     place: ArchivePath<'_>,
     words: GroupsWords<'_>,
+    zone: Zone<'_>,
     now: Option<u64>,
 ) -> Result<Found, Refusal> {
     let alloc = rt.alloc();
-    let wanted = words.list.wanted_at(now)?;
+    let wanted = words.list.wanted_at(now, zone)?;
     let latest = now.map_or(u64::MAX, |now| now.saturating_add(DAY));
     let looked = take_look(rt, place)?;
     let case = match words.case {
@@ -150,6 +154,7 @@ fn find_groups<R: AllocGlobal + Files<File = File>>(
         is_json: words.list.is_json || words.list.by_lines,
         by_lines: words.list.by_lines,
         latest,
+        zone,
     };
     groups_looked(alloc, looked, &wanted, form)
 }
@@ -159,7 +164,7 @@ fn groups_looked<S: SharedDisk + Drop>(
     alloc: Global,
     looked: Looked<S>,
     wanted: &Wanted<'_>,
-    form: GroupsForm,
+    form: GroupsForm<'_>,
 ) -> Result<Found, Refusal> {
     let all = find_cases(alloc, looked.unlocked(Vec::new(alloc)), Reads::All);
     let Places { ranges, .. } = all.map_err(|fault| unasked(fault))?;
@@ -250,9 +255,9 @@ fn print_again<D: Disk + Drop>(
     disk: D,
     numbers: &[u32],
     crashes: Vec<CrashedCore>,
-    form: GroupsForm,
+    form: GroupsForm<'_>,
 ) -> Result<(Collected, bool), Refusal>
-    ensures { PrintsOn D.Disk numbers.now crashes.items form disk result }
+    ensures { PrintsOn D.Disk numbers.now crashes.items form.entry disk result }
 {
     match Archive::open(alloc, disk, Settings { limit: 0 }) {
         Ok(archive) => {
@@ -286,9 +291,9 @@ fn print_there<D: Disk>(
     alloc: Global,
     archive: &Archive<D>,
     crashes: Vec<CrashedCore>,
-    form: GroupsForm,
+    form: GroupsForm<'_>,
 ) -> Result<(Collected, bool), Refusal>
-    ensures { IfOk result (λ told. PrintsThere archive.now crashes.items form told) }
+    ensures { IfOk result (λ told. PrintsThere archive.now crashes.items form.entry told) }
 {
     let mut there = crashes;
     there.retain(|crash| has_case(archive, crash.number));
@@ -303,9 +308,9 @@ fn put_groups(
     alloc: Global,
     cases: &[Entry],
     cores: &[CrashedCore],
-    form: GroupsForm,
+    form: GroupsForm<'_>,
 ) -> Result<Collected, Refusal>
-    ensures { IfOk result (λ text. form.is_json ≡ false → IsTextOf (map case_of cases.now) cores.now form (held text)) }
+    ensures { IfOk result (λ text. form.entry.is_json ≡ false → IsTextOf (map case_of cases.now) cores.now form.entry (held text)) }
 {
     let numbers = numbered(alloc, cores)?;
     let groups = grouped(alloc, &numbers)?;
@@ -314,8 +319,12 @@ fn put_groups(
 }
 
 // Puts groups, or the one with the case, into a text.
-fn put_rows(alloc: Global, rows: &[GroupRow<'_>], form: GroupsForm) -> Result<Collected, Refusal>
-    ensures { IfOk result (λ text. form.is_json ≡ false → IsText (map row_said rows.now) form (held text)) }
+fn put_rows(
+    alloc: Global,
+    rows: &[GroupRow<'_>],
+    form: GroupsForm<'_>,
+) -> Result<Collected, Refusal>
+    ensures { IfOk result (λ text. form.entry.is_json ≡ false → IsText (map row_said rows.now) form.entry (held text)) }
 {
     let mut text = Collected::new(alloc);
     let mut reply = Reply::new(&mut text);
@@ -330,9 +339,9 @@ fn print_rows<O: Output>(
     alloc: Global,
     reply: &mut Reply<'_, O>,
     rows: &[GroupRow<'_>],
-    form: GroupsForm,
+    form: GroupsForm<'_>,
 ) -> Result<(), Refusal>
-    ensures { OnOk result (form.is_json ≡ false → PrintsRows form.case form.latest (map row_said rows.now) (PrintsText (printing O.Output reply.old reply.new))) }
+    ensures { OnOk result (form.entry.is_json ≡ false → PrintsRows form.entry.zone form.entry.case form.entry.latest (map row_said rows.now) (PrintsText (printing O.Output reply.old reply.new))) }
 {
     match form.case {
         Some(seq) => Ok(print_one(alloc, reply, rows, seq, form)?),
@@ -345,14 +354,14 @@ fn print_all<O: Output>(
     alloc: Global,
     reply: &mut Reply<'_, O>,
     rows: &[GroupRow<'_>],
-    form: GroupsForm,
+    form: GroupsForm<'_>,
 ) -> Result<(), Refusal>
-    ensures { OnOk result (form.is_json ≡ false → PrintsText (printing O.Output reply.old reply.new) (groups_table form.latest (map row_said rows.now))) }
+    ensures { OnOk result (form.entry.is_json ≡ false → PrintsText (printing O.Output reply.old reply.new) (groups_table form.entry.zone form.entry.latest (map row_said rows.now))) }
 {
     if form.is_json {
         return print_all_json(alloc, reply, rows, form);
     }
-    Ok(print_groups(alloc, reply, form.latest, rows)?)
+    Ok(print_groups(alloc, reply, form.zone, form.latest, rows)?)
 }
 
 // Prints all groups as JSON: as an array, or a line for each.
@@ -360,7 +369,7 @@ fn print_all_json<O: Output>(
     alloc: Global,
     reply: &mut Reply<'_, O>,
     rows: &[GroupRow<'_>],
-    form: GroupsForm,
+    form: GroupsForm<'_>,
 ) -> Result<(), Refusal> {
     if form.by_lines {
         return Ok(print_group_lines(alloc, reply, form.latest, rows)?);
@@ -375,9 +384,9 @@ fn print_one<O: Output>(
     reply: &mut Reply<'_, O>,
     rows: &[GroupRow<'_>],
     seq: u32,
-    form: GroupsForm,
+    form: GroupsForm<'_>,
 ) -> Result<(), Refusal>
-    ensures { OnOk result (form.is_json ≡ false → PrintsRow form.latest seq (map row_said rows.now) (PrintsText (printing O.Output reply.old reply.new))) }
+    ensures { OnOk result (form.entry.is_json ≡ false → PrintsRow form.entry.zone form.entry.latest seq (map row_said rows.now) (PrintsText (printing O.Output reply.old reply.new))) }
 {
     let Some(row) = row_with(rows, seq) else {
         return Err(Refusal::Call(ArchiveFault::NoCase));
@@ -386,7 +395,7 @@ fn print_one<O: Output>(
         print_json(reply, &group_json(alloc, form.latest, row)?);
         return Ok(());
     }
-    Ok(print_group(alloc, reply, form.latest, row)?)
+    Ok(print_group(alloc, reply, form.zone, form.latest, row)?)
 }
 
 // The first group that a case is in.

@@ -11,7 +11,7 @@ use case_listing::latest_time;
 use case_pages::{PagedArchive, latest_of, put_archive, put_case, put_foot, put_head};
 use case_queries::CaseImage;
 use case_screens::{CaseAnswers, CoreAnswers};
-use case_tables::{Order, Wanted};
+use case_tables::{Order, Wanted, Zone};
 use crash_signatures::{Group, grouped};
 use disk_model::Disk;
 use elf_view::Want;
@@ -54,6 +54,7 @@ const ALL_CORES: Wanted<'static> = Wanted {
     pinned: false,
     last: None,
     order: Order::Number,
+    zone: Zone::Utc,
 };
 
 // The cores of an archive by their crashes, and their groups.

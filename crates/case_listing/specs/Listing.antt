@@ -15,6 +15,8 @@ use Rattle.case_tables.specs.Order.{IsShown}
 use Rattle.case_tables.specs.Table.{list_table}
 use Rattle.case_tables.specs.Wanted.{chosen}
 use Rattle.case_tables.specs.declared.wanted.Wanted.{Wanted}
+use Rattle.case_tables.specs.declared.zones.Zone.{Zone}
+use Rattle.case_tables.specs.declared.zones.Zone.TheVariants.{Utc}
 use Rattle.disk_model.specs.declared.disk.Disk as disk
 use Rattle.intake.specs.Calls.{OpenCall}
 use Rattle.intake.specs.Parts.{Parts, state_of}
@@ -27,7 +29,7 @@ PrintsCases cases before after = (printed : List ℕ) × Prints (cases_json case
 
 -- the wanted cases in their order, as a table and as JSON
 abbrev pub PrintsTable : Wanted → List Case → Option (List ℕ) → Option (List ℕ) → Type 0
-PrintsTable wanted cases before after = (shown : List Case) × IsShown wanted.order (chosen wanted cases) shown × Appends before after (list_table shown)
+PrintsTable wanted cases before after = (shown : List Case) × IsShown wanted.order (chosen wanted cases) shown × Appends before after (list_table wanted.zone shown)
 
 abbrev pub PrintsJson : Wanted → List Case → Option (List ℕ) → Option (List ℕ) → Type 0
 PrintsJson wanted cases before after = (shown : List Case) × IsShown wanted.order (chosen wanted cases) shown × PrintsCases shown before after
@@ -64,20 +66,21 @@ abbrev pub ListsLinesOn : {D : Type 0} → disk.Ghosts D → Wanted → Option (
 ListsLinesOn {D} g wanted before after before_disk r =
     (opened : Result (Parts D) (OpenFault × D)) × OpenCall g 0 before_disk opened × ListsLinesBy wanted before after opened r
 
--- the text of a filter is a time, if there is such a text
-abbrev pub IsTimeSaid : Option ℕ → Option (List ℕ) → Option ℕ → Type 0
-IsTimeSaid now None time = time ≡ None
-IsTimeSaid now (Some text) None = ⊥
-IsTimeSaid now (Some text) (Some time) = SaysTime now text (Some time)
+-- the text of a filter is a time in a zone, if there is such a text
+abbrev pub IsTimeSaid : Zone → Option ℕ → Option (List ℕ) → Option ℕ → Type 0
+IsTimeSaid zone now None time = time ≡ None
+IsTimeSaid zone now (Some text) None = ⊥
+IsTimeSaid zone now (Some text) (Some time) = SaysTime zone now text (Some time)
 
--- a filter without its times
+-- a filter without its times and their zone
 abbrev pub untimed : Wanted → Wanted
-untimed w = record w { since = None; until = None }
+untimed w = record w { since = None; until = None; zone = Utc }
 
--- The wish of `list` at this time: each of its times is that of its own text, and all else is as the words have it.
-pub record IsWantedAt (now : Option ℕ) (words : ListWords) (wanted : Wanted) : Type 0 where
-  pub since : IsTimeSaid now (option_copied words.since) wanted.since
-  pub until : IsTimeSaid now (option_copied words.until) wanted.until
+-- The wish of `list` at this time, in a zone: each of its times is that of its own text, and all else is as the words have it.
+pub record IsWantedAt (zone : Zone) (now : Option ℕ) (words : ListWords) (wanted : Wanted) : Type 0 where
+  pub since : IsTimeSaid zone now (option_copied words.since) wanted.since
+  pub until : IsTimeSaid zone now (option_copied words.until) wanted.until
+  pub shown : wanted.zone ≡ zone
   pub others : untimed wanted ≡ untimed words.wanted
 
 -- Only some cases are asked for: some fact of a case is wanted, or a time, or the last so many.

@@ -6,9 +6,11 @@ mod case_words;
 mod dump;
 mod foreseen;
 mod listing;
+mod machine_zone;
 mod plain;
 
 pub use case_words::{NamedLine, ask_case, extract_case, find_case, latest_time, named_question};
 pub use foreseen::{foreseen_by, would_retire};
 pub use listing::{ListWords, list, list_lines_over, list_over};
+pub use machine_zone::MachineZone;
 pub use plain::ask_plain;

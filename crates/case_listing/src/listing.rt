@@ -8,7 +8,7 @@ ghost use Rattle.journal_layout.specs.Case.{case_of};
 ghost use Rattle.case_listing.specs.Listing.{IsTimeSaid, IsWantedAt, Lists, ListsLines, ListsLinesOn, ListsOn, PrintsJson, PrintsTable, picks};
 
 use archive_files::{ArchivePath, Failure, Refusal, take_look};
-use case_tables::{Wanted, list_json, print_list, print_list_lines, read_time};
+use case_tables::{Wanted, Zone, list_json, print_list, print_list_lines, read_time};
 use disk_model::Disk;
 use inspector_cli::SessionFault;
 use intake::{Archive, Settings};
@@ -53,34 +53,35 @@ impl<'a> ListWords<'a> {
             || wanted.last.is_some()
     }
 
-    /// The wanted cases, at this time.
+    /// The wanted cases, at this time. Their times are read and shown in a zone.
     ///
     /// # Errors
     ///
     /// `BadLine` if a time can't be read.
-    pub fn wanted_at(&self, now: Option<u64>) -> Result<Wanted<'a>, Refusal>
-        ensures { IfOk result (IsWantedAt now self.now) }
+    pub fn wanted_at(&self, now: Option<u64>, zone: Zone<'a>) -> Result<Wanted<'a>, Refusal>
+        ensures { IfOk result (IsWantedAt zone.entry now self.now) }
     {
         let mut wanted = self.wanted;
-        wanted.since = time_said(self.since, now)?;
-        wanted.until = time_said(self.until, now)?;
+        wanted.since = time_said(self.since, now, zone)?;
+        wanted.until = time_said(self.until, now, zone)?;
+        wanted.zone = zone;
         Ok(wanted)
     }
 }
 
-fn time_said(text: Option<&str>, now: Option<u64>) -> Result<Option<u64>, Refusal>
-    ensures { IfOk result (IsTimeSaid now (option_copied text.entry)) }
+fn time_said(text: Option<&str>, now: Option<u64>, zone: Zone<'_>) -> Result<Option<u64>, Refusal>
+    ensures { IfOk result (IsTimeSaid zone.entry now (option_copied text.entry)) }
 {
     let Some(text) = text else {
         return Ok(None);
     };
-    match read_time(text, now) {
+    match read_time(text, now, zone) {
         Some(time) => Ok(Some(time)),
         None => Err(Refusal::BadLine),
     }
 }
 
-/// Prints the cases that are asked for, from a look at the archive.
+/// Prints the cases that are asked for, from a look at the archive, with times in a zone.
 ///
 /// # Errors
 ///
@@ -90,10 +91,11 @@ pub fn list<R: AllocGlobal + Files<File = File> + Clock, O: Output>(
     rt: &R,
     place: ArchivePath<'_>,
     words: ListWords<'_>,
+    zone: Zone<'_>,
     output: &mut O,
 ) -> Result<(), Failure> {
     let now = rt.since_1970().ok().map(|time| time.as_secs());
-    let wanted = words.wanted_at(now)?;
+    let wanted = words.wanted_at(now, zone)?;
     let looked = take_look(rt, place)?;
     let alloc = rt.alloc();
     let disk = looked.unlocked(Vec::new(alloc));

@@ -9,7 +9,8 @@ use Rattle.elf_view.specs.declared.view.Header.{Header}
 use Rattle.script_words.specs.Printing.{hexadecimal, shown}
 use Rattle.case_tables.specs.Sizes.{size_text}
 use Rattle.case_tables.specs.Table.{spaces}
-use Rattle.case_tables.specs.Times.{time_text}
+use Rattle.case_tables.specs.Times.{time_in}
+use Rattle.case_tables.specs.declared.zones.Zone.{Zone}
 use Rattle.case_screens.specs.Files.{files_text}
 use Rattle.case_screens.specs.Frames.{threads_text}
 use Rattle.case_screens.specs.Core.{desc_in, notes_read}
@@ -38,8 +39,8 @@ head_text c =
     ++ (label_text c.label ++ 10 ∷ [])))))))
 
 -- when it was
-abbrev pub when_text : ℕ → List ℕ
-when_text time = codes "when      " ++ (time_text time ++ 10 ∷ [])
+abbrev pub when_text : Zone → ℕ → List ℕ
+when_text zone time = codes "when      " ++ (time_in zone time ++ 10 ∷ [])
 
 -- how many bytes there are of it, and how many its program headers want, if that is more
 abbrev pub cut_line : ℕ → Option ℕ → List ℕ
@@ -53,9 +54,9 @@ notes_line (Some Padded) = codes "notes     padded to 8 bytes: only those padded
 notes_line (Some Linux) = codes "notes     of threads are named LINUX: only those named CORE are read" ++ 10 ∷ []
 
 -- a core
-abbrev pub core_text : Case → List Case → CoreAnswers → List ℕ
-core_text c cases a =
-    when_text c.origin.time ++ (cut_line c.len a.whole ++ (notes_line a.unread ++ (process_text (desc_in 3 (notes_read a.core))
+abbrev pub core_text : Zone → Case → List Case → CoreAnswers → List ℕ
+core_text zone c cases a =
+    when_text zone c.origin.time ++ (cut_line c.len a.whole ++ (notes_line a.unread ++ (process_text (desc_in 3 (notes_read a.core))
     ++ (signal_line c.origin.signal (desc_in 0x53494749 (notes_read a.core)) ++ (threads_text (notes_read a.core) a.unwound.now
     ++ files_text cases (notes_read a.core) (option_map (λ (rows : Bor (List BuildAnswer)). rows.now) a.builds))))))
 
@@ -69,10 +70,10 @@ abbrev pub exec_text : Result Header ElfFault → List ℕ
 exec_text (Ok h) = header_text h
 exec_text (Err fault) = refused_line (codes "header    ") (elf_reason fault)
 
-abbrev pub answers_text : Case → List Case → CaseAnswers → List ℕ
-answers_text c cases (Core a) = core_text c cases a
-answers_text c cases (Exec header) = exec_text header
+abbrev pub answers_text : Zone → Case → List Case → CaseAnswers → List ℕ
+answers_text zone c cases (Core a) = core_text zone c cases a
+answers_text zone c cases (Exec header) = exec_text header
 
--- all that is shown of a case
-abbrev pub info_answer : Case → List Case → CaseAnswers → List ℕ
-info_answer c cases a = head_text c ++ answers_text c cases a
+-- all that is shown of a case, with its time in a zone
+abbrev pub info_answer : Zone → Case → List Case → CaseAnswers → List ℕ
+info_answer zone c cases a = head_text c ++ answers_text zone c cases a

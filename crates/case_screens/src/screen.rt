@@ -11,7 +11,7 @@ use crate::reason::elf_reason;
 use crate::signal::print_signal_line;
 use crate::texts::print_refused;
 use crate::threads::print_threads;
-use case_tables::{print_size, print_spaces, print_time, shown_length};
+use case_tables::{Zone, print_size, print_spaces, print_time_in, shown_length};
 use elf_view::{ElfFault, Header};
 use journal_layout::Entry;
 use script_streams::{Output, Reply};
@@ -20,19 +20,20 @@ use unread_notes::UnreadNotes;
 // How wide the name of a case is, if it is not longer.
 const NAME_WIDTH: usize = 36;
 
-/// Prints one screen of a case: the known facts of it, of the cases of its archive, of its image, and of the frames and the build IDs
+/// Prints one screen of a case, with its time in a zone: the known facts of it, of the cases of its archive, of its image, and of the frames and the build IDs
 /// that were found.
 pub fn print_case_screen<O: Output>(
     reply: &mut Reply<'_, O>,
+    zone: Zone<'_>,
     case: &Entry,
     cases: &[Entry],
     answers: &CaseAnswers<'_, '_>,
 )
-    ensures is_screen { PrintsText (printing O.Output reply.old reply.new) (info_answer (case_of case.now) (map case_of cases.now) answers.now) }
+    ensures is_screen { PrintsText (printing O.Output reply.old reply.new) (info_answer zone.entry (case_of case.now) (map case_of cases.now) answers.now) }
 {
     print_head(reply, case);
     match answers {
-        CaseAnswers::Core(answers) => print_core(reply, case, cases, answers),
+        CaseAnswers::Core(answers) => print_core(reply, zone, case, cases, answers),
         CaseAnswers::Exec(header) => print_exec(reply, header),
     }
 }
@@ -74,11 +75,11 @@ fn print_label_of<O: Output>(reply: &mut Reply<'_, O>, label: &[u8])
     }
 }
 
-fn print_when<O: Output>(reply: &mut Reply<'_, O>, time: u64)
-    ensures { PrintsText (printing O.Output reply.old reply.new) (when_text time) }
+fn print_when<O: Output>(reply: &mut Reply<'_, O>, zone: Zone<'_>, time: u64)
+    ensures { PrintsText (printing O.Output reply.old reply.new) (when_text zone.entry time) }
 {
     reply.print(b"when      ");
-    print_time(reply, time);
+    print_time_in(reply, zone, time);
     reply.print(b"\n");
 }
 
@@ -115,13 +116,14 @@ fn print_unread<O: Output>(reply: &mut Reply<'_, O>, unread: Option<UnreadNotes>
 
 fn print_core<O: Output>(
     reply: &mut Reply<'_, O>,
+    zone: Zone<'_>,
     case: &Entry,
     cases: &[Entry],
     answers: &CoreAnswers<'_, '_>,
 )
-    ensures { PrintsText (printing O.Output reply.old reply.new) (core_text (case_of case.now) (map case_of cases.now) answers.now) }
+    ensures { PrintsText (printing O.Output reply.old reply.new) (core_text zone.entry (case_of case.now) (map case_of cases.now) answers.now) }
 {
-    print_when(reply, case.time);
+    print_when(reply, zone, case.time);
     print_cut(reply, case.length, answers.whole);
     print_unread(reply, answers.unread);
     print_process(reply, &answers.core);

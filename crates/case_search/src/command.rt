@@ -2,7 +2,7 @@
 use crate::having::numbers_with;
 use archive_files::{ArchivePath, Failure, Refusal, take_look, unasked};
 use case_listing::{ListWords, list_lines_over, list_over};
-use case_tables::Wanted;
+use case_tables::{Wanted, Zone};
 use script_streams::Output;
 use shared_disk::{Looked, SharedDisk};
 use std::alloc::Global;
@@ -21,7 +21,7 @@ pub struct SearchWords<'a> {
 }
 
 /// Prints the cases whose images have a text somewhere, as `list` prints them. The images are read one after the other, each piece by piece,
-/// from a look at the archive on, while others may change it. A case that is deleted meanwhile is left out.
+/// from a look at the archive on, while others may change it. A case that is deleted meanwhile is left out. Times are in a zone.
 ///
 /// # Errors
 ///
@@ -31,10 +31,11 @@ pub fn search<R: AllocGlobal + Files<File = File> + Clock, O: Output>(
     rt: &R,
     place: ArchivePath<'_>,
     words: SearchWords<'_>,
+    zone: Zone<'_>,
     output: &mut O,
 ) -> Result<(), Failure> {
     let now = rt.since_1970().ok().map(|time| time.as_secs());
-    let wanted = words.list.wanted_at(now)?;
+    let wanted = words.list.wanted_at(now, zone)?;
     if words.text.is_empty() {
         return Err(Failure::Refused(Refusal::BadLine));
     }

@@ -30,6 +30,7 @@ use Rattle.command_line.specs.declared.ask_words.AskedLine.{AskedLine}
 use Rattle.command_line.specs.declared.ask_words.Form.{Form}
 use Rattle.command_line.specs.declared.ask_words.Form.TheVariants.{Plain, Reply, Rows, Words}
 use Rattle.command_line.specs.declared.asked.Asked.{Asked}
+use Rattle.command_line.specs.declared.asked.ReadWords.{ReadWords}
 use Rattle.command_line.specs.declared.asked.Asked.TheVariants as asked
 use Rattle.command_line.specs.declared.asked.SessionWords.{SessionWords}
 use Rattle.command_line.specs.declared.handle_words.GivenHandle.{GivenHandle}
@@ -252,5 +253,6 @@ IsAskedBy given (asked.Handle words) =
 IsAskedBy given other = (archive : ArchivePath) × IsPlace given archive × IsOver given archive other
 
 -- The request of words: that of the command that they give; and whether `--quiet` is there.
-abbrev pub AreAsked : List (List ℕ) → Asked × Bool → Type 0
-AreAsked words read = (given : Given) × IsRead words given × IsAskedBy given read.0 × (read.1 ≡ flag_in given (codes "quiet"))
+abbrev pub AreAsked : List (List ℕ) → ReadWords → Type 0
+AreAsked words read =
+    (given : Given) × IsRead words given × IsAskedBy given read.asked × (read.is_quiet ≡ flag_in given (codes "quiet")) × (read.is_local ≡ flag_in given (codes "local"))

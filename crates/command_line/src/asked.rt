@@ -246,15 +246,26 @@ pub(crate) struct SessionWords<'a> {
     pub(crate) limit: u64,
 }
 
-// The request that the words make, and whether nothing is to be shown meanwhile.
-pub(crate) fn read_words<'a>(
-    alloc: Global,
-    words: &'a [String],
-) -> Result<(Asked<'a>, bool), Ending>
+// The words as they were read.
+#[derive(Drop)]
+pub(crate) struct ReadWords<'a> {
+    pub(crate) asked: Asked<'a>,
+    // Nothing is to be shown meanwhile.
+    pub(crate) is_quiet: bool,
+    // Times are of this machine's zone.
+    pub(crate) is_local: bool,
+}
+
+// The request that the words make.
+pub(crate) fn read_words<'a>(alloc: Global, words: &'a [String]) -> Result<ReadWords<'a>, Ending>
     ensures { IfOk result (asking.AreAsked (map string_bytes words.now)) }
 {
     let given = Given::read(alloc, words)?;
-    Ok((asked_of(alloc, &given)?, given.flag("quiet")))
+    Ok(ReadWords {
+        asked: asked_of(alloc, &given)?,
+        is_quiet: given.flag("quiet"),
+        is_local: given.flag("local"),
+    })
 }
 
 // The request that the words of a command make.

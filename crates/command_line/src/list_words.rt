@@ -7,7 +7,7 @@ ghost use Rattle.command_line.specs.Asking as asking;
 use crate::asked::text_if;
 use archive_files::Refusal;
 use case_listing::ListWords;
-use case_tables::{Order, Wanted, read_signal};
+use case_tables::{Order, Wanted, Zone, read_signal};
 use command_words::Given;
 use journal_layout::Kind;
 
@@ -30,6 +30,7 @@ pub(crate) fn list_words<'a>(given: &Given<'a>) -> Result<ListWords<'a>, Refusal
             pinned: given.flag("pinned"),
             last: count_said(given.number("last")),
             order: order_said(given.text("sort"))?,
+            zone: Zone::Utc,
         },
         since: given.text("since"),
         until: given.text("until"),

@@ -3,13 +3,13 @@ ghost use Rattle.std.specs.Prelude.{◌≡◌, ◌≤◌, false};
 ghost use Rattle.command_words.specs.Notes.{IsQuietButForNotes, IsQuietButForSomeNotes, may_note, second_subject, subject};
 
 use crate::ask_words::{AskedLine, Form};
-use crate::asked::{Asked, SessionWords, naming_of, read_words};
+use crate::asked::{Asked, ReadWords, SessionWords, naming_of, read_words};
 use crate::endings::{Clues, Ending, print_ending};
 use crate::named_files::ending_of;
 use archive_files::{
-    Access, ArchivePath, Failure, NewArchive, Refusal, StoreRequest, ask, check, copy_archive_file,
-    look, make_archive, names_output, note_file_system, note_gap, note_shared, print_trouble,
-    resize_archive_file, run_over, salvage, take_disk,
+    Access, ArchivePath, Collected, Failure, NewArchive, Refusal, StoreRequest, ask, check,
+    copy_archive_file, look, make_archive, names_output, note_file_system, note_gap, note_shared,
+    print_trouble, resize_archive_file, run_over, salvage, take_disk,
 };
 use archive_metrics::info_metrics;
 use case_digests::digest;
@@ -18,9 +18,10 @@ use case_info::{
     print_wants, prune_archive, question_at, register_in, report_archive, thread_words,
 };
 use case_listing::{
-    NamedLine, ask_case, ask_plain, extract_case, list, named_question, would_retire,
+    MachineZone, NamedLine, ask_case, ask_plain, extract_case, list, named_question, would_retire,
 };
 use case_search::search;
+use case_tables::Zone;
 use case_unpacking::unpack;
 use command_words::{
     Context, Watched, asked_help, context_of, in_order, line_in_place_of_a_command, print_help,
@@ -35,7 +36,7 @@ use inspector_cli::memory_session;
 use intake::Settings;
 use journal_layout::Shape;
 use script_lines::Question;
-use script_streams::{Output, ReadInput};
+use script_streams::{Output, ReadInput, Reply};
 use shown_progress::Listener;
 use std::alloc::{AllocError, Global};
 use std::fs::File;
@@ -114,7 +115,7 @@ pub fn run_program<
 /// Help goes to `output`, and the status is 0 then. Refusals are looked for in this order: the words, the template, the shape, ARCHIVE,
 /// FILE.
 pub fn run_words<
-    R: AllocGlobal + Files<File = File> + Clock + Clone + Drop,
+    R: Env + AllocGlobal + Files<File = File> + Clock + Clone + Drop,
     I: Read,
     O: Output,
     E: Output,
@@ -132,7 +133,7 @@ pub fn run_words<
 /// The same as `run_words`. An onlooker is shown the progress of `format`, `store`, `extract`, `digest`, `unpack`, `copy`, `resize` and `salvage`,
 /// unless `--quiet` is there.
 pub fn run_watched<
-    R: AllocGlobal + Files<File = File> + Clock + Clone + Drop,
+    R: Env + AllocGlobal + Files<File = File> + Clock + Clone + Drop,
     I: Read,
     O: Output,
     E: Output,
@@ -166,7 +167,7 @@ pub fn run_watched<
 
 // Does the task of the words, unless the log of it would overwrite a file that they name.
 fn answer_words<
-    R: AllocGlobal + Files<File = File> + Clock + Clone + Drop,
+    R: Env + AllocGlobal + Files<File = File> + Clock + Clone + Drop,
     I: Read,
     O: Output,
     W: Onlooker,
@@ -190,15 +191,26 @@ fn answer_words<
         None => words,
     };
     match read_words(rt.alloc(), words) {
-        Ok((asked, is_quiet)) => {
+        Ok(
+            ReadWords {
+                asked,
+                is_quiet,
+                is_local,
+            },
+        ) => {
             if is_quiet {
                 listener.hush();
             }
+            let machine = machine_zone(rt, is_local, &mut notes.subject);
+            let zone = match &machine {
+                Some(machine) => machine.zone(),
+                None => Zone::Utc,
+            };
             if let Some(path) = asked.made() {
                 note_shared(rt, path, &mut notes.subject);
             }
             let paths = asked.paths();
-            match answer_asked(rt, asked, input, output, notes, listener) {
+            match answer_asked(rt, asked, zone, input, output, notes, listener) {
                 Ok(()) => Ok(()),
                 Err(failure) => Err(ending_of(rt, failure, paths)),
             }
@@ -212,7 +224,29 @@ fn answer_words<
     }
 }
 
-// Does the task.
+// The zone of this machine, if the words ask for its times. If it can't be read, a note says why.
+fn machine_zone<R: AllocGlobal + Env + Files<File = File>>(
+    rt: &R,
+    is_local: bool,
+    note: &mut Collected,
+) -> Option<MachineZone> {
+    if !is_local {
+        return None;
+    }
+    match MachineZone::read(rt) {
+        Ok(machine) => Some(machine),
+        Err(why) => {
+            let mut reply = Reply::new(note);
+            reply.print(b"can't be read (");
+            reply.print(why.as_bytes());
+            reply.print(b"): times are in UTC");
+            let _ = reply.finish();
+            None
+        }
+    }
+}
+
+// Does the task, with times in a zone.
 fn answer_asked<
     R: AllocGlobal + Files<File = File> + Clock + Clone + Drop,
     I: Read,
@@ -221,6 +255,7 @@ fn answer_asked<
 >(
     rt: &R,
     asked: Asked<'_>,
+    zone: Zone<'_>,
     input: &mut I,
     output: &mut O,
     notes: &mut Notes,
@@ -283,7 +318,7 @@ fn answer_asked<
             onlooker,
         ),
         Asked::Handle(words) => handle(rt, words, input, output, &mut notes.subject, onlooker),
-        Asked::List { archive, wanted } => list(rt, archive, wanted, output),
+        Asked::List { archive, wanted } => list(rt, archive, wanted, zone, output),
         Asked::Ask {
             archive,
             line,
@@ -293,12 +328,12 @@ fn answer_asked<
             archive,
             case: Some(case),
             wanted,
-        } => info_case(rt, archive, case, wanted, output),
+        } => info_case(rt, archive, case, wanted, zone, output),
         Asked::Info {
             archive,
             case: None,
             wanted,
-        } => info_archive(rt, archive, wanted.is_json, output),
+        } => info_archive(rt, archive, wanted.is_json, zone, output),
         Asked::Metrics(path) => info_metrics(rt, path, output),
         Asked::Wants {
             archive,
@@ -306,9 +341,9 @@ fn answer_asked<
             wanted,
         } => print_wants(rt, archive, case, wanted, output, onlooker),
         Asked::Prune { archive, wanted } => prune(rt, archive, wanted, output, onlooker),
-        Asked::Groups { archive, wanted } => group_archive(rt, archive, wanted, output),
+        Asked::Groups { archive, wanted } => group_archive(rt, archive, wanted, zone, output),
         Asked::Report { archive, cases } => report_archive(rt, archive, &cases, output),
-        Asked::Search { archive, wanted } => search(rt, archive, wanted, output),
+        Asked::Search { archive, wanted } => search(rt, archive, wanted, zone, output),
         Asked::WouldRetire { archive, policy } => would_retire(rt, archive, &policy, output),
         Asked::Look { archive, by_build } => {
             look(rt, archive, by_build, &mut ReadInput::new(input), output)

@@ -18,13 +18,21 @@ makes_file command =
 abbrev pub checks_archive : List ℕ → Bool
 checks_archive command = if bytes_eq command (codes "check") then true else bytes_eq command (codes "handle")
 
+-- the command shows times
+abbrev pub shows_times : List ℕ → Bool
+shows_times command =
+    if bytes_eq command (codes "list") then true else
+    if bytes_eq command (codes "search") then true else
+    if bytes_eq command (codes "groups") then true else bytes_eq command (codes "info")
+
 -- the subject of a note, if there is one, by the command: the case that is stored,
--- the archive that is looked at, or the directory of the file that is made
+-- the archive that is looked at, the directory of the file that is made, or the zone of the times that are shown
 abbrev pub subject_of : List ℕ → List ℕ
 subject_of command =
     if bytes_eq command (codes "store") then codes "case " else
     if checks_archive command then codes "archive " else
-    if makes_file command then codes "folder " else []
+    if makes_file command then codes "folder " else
+    if shows_times command then codes "time zone " else []
 
 abbrev pub subject : {Z : Type 0} → List (String Z) → List ℕ
 subject [] = []
@@ -34,12 +42,17 @@ subject (word ∷ words) = subject_of (string_bytes word)
 abbrev pub asks_to_check : {Z : Type 0} → List (String Z) → Bool
 asks_to_check words = list_any (λ word. bytes_eq (string_bytes word) (codes "--check")) words
 
+-- the words ask for the times of this machine's zone
+abbrev pub asks_for_local : {Z : Type 0} → List (String Z) → Bool
+asks_for_local words = list_any (λ word. bytes_eq (string_bytes word) (codes "--local")) words
+
 -- nothing is noted of other commands, nor of a core that `handle` stores
 abbrev pub may_note_of : {Z : Type 0} → List ℕ → List (String Z) → Bool
 may_note_of command words =
     if bytes_eq command (codes "store") then true else
     if bytes_eq command (codes "check") then true else
-    if bytes_eq command (codes "handle") then asks_to_check words else makes_file command
+    if bytes_eq command (codes "handle") then asks_to_check words else
+    if shows_times command then asks_for_local words else makes_file command
 
 abbrev pub may_note : {Z : Type 0} → List (String Z) → Bool
 may_note [] = false

@@ -1,7 +1,7 @@
 // The words of `groups`.
 use crate::list_tables::{
-    JSON, JSON_LINES, LABEL_PART, LAST, NAME_PART, PID, PINNED, PROGRAM_PART, SIGNAL, SINCE, UNTIL,
-    USER,
+    JSON, JSON_LINES, LABEL_PART, LAST, LOCAL, NAME_PART, PID, PINNED, PROGRAM_PART, SIGNAL, SINCE,
+    UNTIL, USER,
 };
 use crate::tables::{ARCHIVE, CommandWords, NO_WAIT, Takes, Word};
 
@@ -14,6 +14,7 @@ pub(crate) static GROUPS: CommandWords = CommandWords {
         GROUPS_CASE,
         JSON,
         JSON_LINES,
+        LOCAL,
         NAME_PART,
         USER,
         PROGRAM_PART,

@@ -6,7 +6,15 @@ pub(crate) static INFO: CommandWords = CommandWords {
     name: "info",
     about: "Show a crash on one screen, or the state of an archive",
     after_help: None,
-    words: &[ARCHIVE, INFO_CASE, THREADS, JSON, METRICS, NO_WAIT],
+    words: &[
+        ARCHIVE,
+        INFO_CASE,
+        THREADS,
+        JSON,
+        LOCAL_SHOWN,
+        METRICS,
+        NO_WAIT,
+    ],
 };
 
 pub(crate) static WANTS: CommandWords = CommandWords {
@@ -47,6 +55,15 @@ const INFO_CASE: Word = Word {
     takes: Takes::NewPlace,
     default: None,
     help: "A case: its number, its name, last or latest; without it, the archive is shown",
+};
+
+// Whether times are of this machine's zone.
+const LOCAL_SHOWN: Word = Word {
+    id: "local",
+    shown: "",
+    takes: Takes::Flag,
+    default: None,
+    help: "Show times in the zone of this machine, and not in UTC; the days of an archive's cores stay those of UTC",
 };
 
 // Whether the archive is shown as metrics.

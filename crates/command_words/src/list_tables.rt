@@ -10,6 +10,7 @@ pub(crate) static LIST: CommandWords = CommandWords {
         NO_WAIT,
         JSON,
         JSON_LINES,
+        LOCAL,
         SORT,
         KIND,
         NAME_PART,
@@ -41,6 +42,15 @@ pub(crate) const JSON_LINES: Word = Word {
     takes: Takes::FlagWithoutJson,
     default: None,
     help: "Print JSON, an object on each line and nothing else",
+};
+
+// Whether times are of this machine's zone.
+pub(crate) const LOCAL: Word = Word {
+    id: "local",
+    shown: "",
+    takes: Takes::Flag,
+    default: None,
+    help: "Show times in the zone of this machine, and read WHEN in it, and not in UTC",
 };
 
 // In which order cases are shown.
@@ -112,7 +122,7 @@ pub(crate) const SINCE: Word = Word {
     shown: "WHEN",
     takes: Takes::Text,
     default: None,
-    help: "Only cores of this time or later, in UTC: today, yesterday, 2026-11-25, '2026-11-25 14:03', 2026-11-25T14:03:11Z, @SECONDS since the epoch, or 90s, 30m, 2h or 3d ago",
+    help: "Only cores of this time or later, in UTC (or see --local): today, yesterday, 2026-11-25, '2026-11-25 14:03', 2026-11-25T14:03:11Z, @SECONDS since the epoch, or 90s, 30m, 2h or 3d ago",
 };
 
 // The time before which it is.

@@ -1,14 +1,15 @@
-// The notes for people although a command did its work: on a case that was stored, on an archive that was looked at, and on a file that
-// was made.
+// The notes for people although a command did its work: on a case that was stored, on an archive that was looked at, on a file that
+// was made, and on the zone of the times that were shown.
 ghost use Rattle.std.specs.Prelude.{◌≡◌, false};
-ghost use Rattle.command_words.specs.Notes.{IsQuietButForANote, IsQuietButForNotes, asks_to_check, checks_archive, makes_file, may_note, second_subject, subject};
+ghost use Rattle.command_words.specs.Notes.{IsQuietButForANote, IsQuietButForNotes, asks_for_local, asks_to_check, checks_archive, makes_file, may_note, second_subject, shows_times, subject};
 
 use script_streams::{Output, Reply};
 
 /// Prints a note for people, if there is one: if the words ask to store a file, the part of the case that can't be read; if they ask to
 /// look at an archive, that the half of its journal which is taken may be the wrong one; if they ask to make a file, that others may write
-/// its directory. Then comes the second note, if there is one: on the file system, if the words ask to make an archive or to check one; on
-/// the spool, if they ask to store a file; on the case, if they ask to unpack it.
+/// its directory; if they ask for the times of this machine's zone, that it can't be read. Then comes the second note, if there is one: on
+/// the file system, if the words ask to make an archive or to check one; on the spool, if they ask to store a file; on the case, if they ask
+/// to unpack it.
 pub fn print_notes<E: Output>(words: &[String], note: &[u8], second: &[u8], errors: &mut E)
     ensures quiet { may_note words.now ≡ false → errors.new ≡ errors.old }
     ensures notes { IsQuietButForNotes (subject words.now) (second_subject words.now) E.Output errors.old errors.new }
@@ -49,6 +50,7 @@ fn may_note(words: &[String]) -> bool
     match word.as_str() {
         "store" | "check" => true,
         "handle" => asks_to_check(words),
+        command if shows_times(command) => asks_for_local(words),
         command => makes_file(command),
     }
 }
@@ -58,6 +60,13 @@ fn asks_to_check(words: &[String]) -> bool
     ensures { result ≡ asks_to_check words.now }
 {
     words.iter().any(|word| word.as_str() == "--check")
+}
+
+// Whether the words ask for the times of this machine's zone.
+fn asks_for_local(words: &[String]) -> bool
+    ensures { result ≡ asks_for_local words.now }
+{
+    words.iter().any(|word| word.as_str() == "--local")
 }
 
 // The subject of a note of these words.
@@ -73,6 +82,8 @@ fn subject(words: &[String]) -> &'static [u8]
         b"archive "
     } else if makes_file(word.as_str()) {
         b"folder "
+    } else if shows_times(word.as_str()) {
+        b"time zone "
     } else {
         b""
     }
@@ -95,6 +106,13 @@ fn makes_file(command: &str) -> bool
         || command == "resize"
         || command == "salvage"
         || command == "unpack"
+}
+
+// Whether a command shows times.
+fn shows_times(command: &str) -> bool
+    ensures { result ≡ shows_times command.now }
+{
+    command == "list" || command == "search" || command == "groups" || command == "info"
 }
 
 // Prints a note for people, if it is not empty.

@@ -1,7 +1,7 @@
 // The words of `search`.
 use crate::list_tables::{
-    JSON, JSON_LINES, KIND, LABEL_PART, LAST, NAME_PART, PID, PINNED, PROGRAM_PART, SIGNAL, SINCE,
-    SORT, UNTIL, USER,
+    JSON, JSON_LINES, KIND, LABEL_PART, LAST, LOCAL, NAME_PART, PID, PINNED, PROGRAM_PART, SIGNAL,
+    SINCE, SORT, UNTIL, USER,
 };
 use crate::tables::{ARCHIVE, CommandWords, NO_WAIT, Takes, Word};
 
@@ -14,6 +14,7 @@ pub(crate) static SEARCH: CommandWords = CommandWords {
         SOUGHT,
         JSON,
         JSON_LINES,
+        LOCAL,
         SORT,
         KIND,
         NAME_PART,

@@ -3,7 +3,8 @@ use Rattle.std.specs.Prelude.{ℕ, Bool, nat_lt, List, [], ◌∷◌, ◌++◌, 
 use Rattle.script_words.specs.Printing.{shown}
 use Rattle.case_tables.specs.Cells.{known_number, signal_text}
 use Rattle.case_tables.specs.Sizes.{size_text}
-use Rattle.case_tables.specs.Times.{time_text}
+use Rattle.case_tables.specs.Times.{time_in}
+use Rattle.case_tables.specs.declared.zones.Zone.{Zone}
 use Rattle.group_tables.specs.declared.cells.GroupColumn.{GroupColumn}
 use Rattle.group_tables.specs.declared.cells.GroupColumn.TheVariants as group
 use Rattle.group_tables.specs.declared.cells.CaseColumn.{CaseColumn}
@@ -16,16 +17,16 @@ use Rattle.group_tables.specs.Words.{frames_text}
 abbrev pub counts_text : ℕ → ℕ → List ℕ
 counts_text certain perhaps = decimal certain ++ (if nat_lt 0 perhaps then codes "+" ++ decimal perhaps else [])
 
--- how a column shows a group; times after this moment count as none
-abbrev pub group_cell : ℕ → RowSaid → GroupColumn → List ℕ
-group_cell latest r group.Cores = counts_text (certain_count r.members) (perhaps_count r.members)
-group_cell latest r group.First = time_text (first_time latest r.members)
-group_cell latest r group.Last = time_text (last_time latest r.members)
-group_cell latest r group.Signal = signal_text r.crash.signal
-group_cell latest r group.Newest = decimal (newest r.members)
-group_cell latest r group.Labels = labels_text (labels r.members)
-group_cell latest r group.Program = shown r.crash.program
-group_cell latest r group.Frames = frames_text r.crash.signature
+-- how a column shows a group, with times of a zone; those after this moment count as none
+abbrev pub group_cell : Zone → ℕ → RowSaid → GroupColumn → List ℕ
+group_cell zone latest r group.Cores = counts_text (certain_count r.members) (perhaps_count r.members)
+group_cell zone latest r group.First = time_in zone (first_time latest r.members)
+group_cell zone latest r group.Last = time_in zone (last_time latest r.members)
+group_cell zone latest r group.Signal = signal_text r.crash.signal
+group_cell zone latest r group.Newest = decimal (newest r.members)
+group_cell zone latest r group.Labels = labels_text (labels r.members)
+group_cell zone latest r group.Program = shown r.crash.program
+group_cell zone latest r group.Frames = frames_text r.crash.signature
 
 abbrev pub group_heading : GroupColumn → List ℕ
 group_heading group.Cores = codes "CORES"
@@ -42,15 +43,15 @@ abbrev pub label_text : List ℕ → Bool → List ℕ
 label_text label is_perhaps = shown label ++ (if is_perhaps then codes " ?" else [])
 
 -- how a column shows a core of a group: as a list of cases does
-abbrev pub case_cell : MemberSaid → CaseColumn → List ℕ
-case_cell m case.Number = decimal m.case.seq
-case_cell m case.Time = time_text m.case.origin.time
-case_cell m case.Pid = known_number m.case.origin.pid
-case_cell m case.Signal = signal_text m.case.origin.signal
-case_cell m case.Size = size_text m.case.len
-case_cell m case.Kept = if m.case.pinned then codes "pinned" else codes "-"
-case_cell m case.Name = shown m.case.origin.name
-case_cell m case.Label = label_text m.case.label m.is_perhaps
+abbrev pub case_cell : Zone → MemberSaid → CaseColumn → List ℕ
+case_cell zone m case.Number = decimal m.case.seq
+case_cell zone m case.Time = time_in zone m.case.origin.time
+case_cell zone m case.Pid = known_number m.case.origin.pid
+case_cell zone m case.Signal = signal_text m.case.origin.signal
+case_cell zone m case.Size = size_text m.case.len
+case_cell zone m case.Kept = if m.case.pinned then codes "pinned" else codes "-"
+case_cell zone m case.Name = shown m.case.origin.name
+case_cell zone m case.Label = label_text m.case.label m.is_perhaps
 
 abbrev pub case_heading : CaseColumn → List ℕ
 case_heading case.Number = codes "CASE"

@@ -11,7 +11,7 @@ use crate::labels::print_labels;
 use crate::rows::{GroupMember, GroupRow};
 use crate::summary::{certain_count, first_time, last_time, newest, perhaps_count};
 use crate::words::print_frames;
-use case_tables::{print_signal, print_size, print_time};
+use case_tables::{Zone, print_signal, print_size, print_time_in};
 use script_streams::{Output, Reply};
 use std::alloc::{AllocError, Global};
 
@@ -78,17 +78,18 @@ impl CaseColumn {
 // The text of a column of a group's row, with the labels of its cores.
 pub(crate) fn group_cell(
     alloc: Global,
+    zone: Zone<'_>,
     latest: u64,
     row: &GroupRow<'_>,
     labels: &[&[u8]],
     column: GroupColumn,
 ) -> Result<Vec<u8>, AllocError>
     requires { map (λ l. l.now) labels.now ≡ labels_of (row_said row.now).members }
-    ensures { IfOk result (λ text. text.items ≡ spec.group_cell latest (row_said row.now) column) }
+    ensures { IfOk result (λ text. text.items ≡ spec.group_cell zone.entry latest (row_said row.now) column) }
 {
     let mut text = KeptText::new(alloc);
     let mut reply = Reply::new(&mut text);
-    print_group_cell(&mut reply, latest, row, labels, column);
+    print_group_cell(&mut reply, zone, latest, row, labels, column);
     match reply.finish() {
         Ok(()) => Ok(text.into_text()),
         Err(_) => Err(AllocError),
@@ -97,18 +98,19 @@ pub(crate) fn group_cell(
 
 fn print_group_cell<O: Output>(
     reply: &mut Reply<'_, O>,
+    zone: Zone<'_>,
     latest: u64,
     row: &GroupRow<'_>,
     labels: &[&[u8]],
     column: GroupColumn,
 )
     requires { map (λ l. l.now) labels.now ≡ labels_of (row_said row.now).members }
-    ensures { PrintsText (printing O.Output reply.old reply.new) (spec.group_cell latest (row_said row.now) column) }
+    ensures { PrintsText (printing O.Output reply.old reply.new) (spec.group_cell zone.entry latest (row_said row.now) column) }
 {
     match column {
         GroupColumn::Cores => print_counts(reply, &row.members),
-        GroupColumn::First => print_time(reply, first_time(latest, &row.members)),
-        GroupColumn::Last => print_time(reply, last_time(latest, &row.members)),
+        GroupColumn::First => print_time_in(reply, zone, first_time(latest, &row.members)),
+        GroupColumn::Last => print_time_in(reply, zone, last_time(latest, &row.members)),
         GroupColumn::Signal => print_signal(reply, row.crash.signal),
         GroupColumn::Newest => reply.print_decimal(u128::from(newest(&row.members))),
         GroupColumn::Labels => print_labels(reply, labels),
@@ -132,14 +134,15 @@ fn print_counts<O: Output>(reply: &mut Reply<'_, O>, members: &[GroupMember<'_>]
 // The text of a column of the row of a group's core.
 pub(crate) fn case_cell(
     alloc: Global,
+    zone: Zone<'_>,
     member: &GroupMember<'_>,
     column: CaseColumn,
 ) -> Result<Vec<u8>, AllocError>
-    ensures { IfOk result (λ text. text.items ≡ spec.case_cell (member_said member.now) column) }
+    ensures { IfOk result (λ text. text.items ≡ spec.case_cell zone.entry (member_said member.now) column) }
 {
     let mut text = KeptText::new(alloc);
     let mut reply = Reply::new(&mut text);
-    print_case_cell(&mut reply, member, column);
+    print_case_cell(&mut reply, zone, member, column);
     match reply.finish() {
         Ok(()) => Ok(text.into_text()),
         Err(_) => Err(AllocError),
@@ -148,15 +151,16 @@ pub(crate) fn case_cell(
 
 fn print_case_cell<O: Output>(
     reply: &mut Reply<'_, O>,
+    zone: Zone<'_>,
     member: &GroupMember<'_>,
     column: CaseColumn,
 )
-    ensures { PrintsText (printing O.Output reply.old reply.new) (spec.case_cell (member_said member.now) column) }
+    ensures { PrintsText (printing O.Output reply.old reply.new) (spec.case_cell zone.entry (member_said member.now) column) }
 {
     let case = member.case;
     match column {
         CaseColumn::Number => reply.print_decimal(u128::from(case.seq)),
-        CaseColumn::Time => print_time(reply, case.time),
+        CaseColumn::Time => print_time_in(reply, zone, case.time),
         CaseColumn::Pid => print_known(reply, case.pid),
         CaseColumn::Signal => print_signal(reply, case.signal),
         CaseColumn::Size => print_size(reply, case.length),

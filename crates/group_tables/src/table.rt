@@ -10,6 +10,7 @@ use crate::cells::{CaseColumn, GroupColumn, case_cell, group_cell};
 use crate::columns::{Column, Side, column_of, print_rows};
 use crate::labels::labels_of;
 use crate::rows::{GroupMember, GroupRow};
+use case_tables::Zone;
 use script_streams::{Output, Reply};
 use std::alloc::{AllocError, Global};
 
@@ -36,7 +37,7 @@ static CASE_COLUMNS: [CaseColumn; 8] = [
     CaseColumn::Label,
 ];
 
-/// Prints groups as a table: its heads, and a row for each. Times before the
+/// Prints groups as a table, with times of a zone: its heads, and a row for each. Times before the
 /// year 2000 and those after LATEST, in seconds since the epoch, do not count.
 ///
 /// # Errors
@@ -45,13 +46,14 @@ static CASE_COLUMNS: [CaseColumn; 8] = [
 pub fn print_groups<O: Output>(
     alloc: Global,
     reply: &mut Reply<'_, O>,
+    zone: Zone<'_>,
     latest: u64,
     rows: &[GroupRow<'_>],
 ) -> Result<(), AllocError>
-    ensures told { OnOk result (PrintsText (printing O.Output reply.old reply.new) (spec.groups_table latest (map row_said rows.now))) }
+    ensures told { OnOk result (PrintsText (printing O.Output reply.old reply.new) (spec.groups_table zone.entry latest (map row_said rows.now))) }
     ensures refused { OnErr result (reply.new ≡ reply.old) }
 {
-    let texts = group_rows(alloc, latest, rows)?;
+    let texts = group_rows(alloc, zone, latest, rows)?;
     let columns = group_layout(&texts);
     print_rows(reply, &columns, &texts);
     Ok(())
@@ -66,14 +68,15 @@ pub fn print_groups<O: Output>(
 pub fn print_group<O: Output>(
     alloc: Global,
     reply: &mut Reply<'_, O>,
+    zone: Zone<'_>,
     latest: u64,
     row: &GroupRow<'_>,
 ) -> Result<(), AllocError>
-    ensures told { OnOk result (PrintsText (printing O.Output reply.old reply.new) (spec.group_screen latest (row_said row.now))) }
+    ensures told { OnOk result (PrintsText (printing O.Output reply.old reply.new) (spec.group_screen zone.entry latest (row_said row.now))) }
     ensures refused { OnErr result (reply.new ≡ reply.old) }
 {
-    let head = group_row(alloc, latest, row)?;
-    let cores = case_rows(alloc, &row.members)?;
+    let head = group_row(alloc, zone, latest, row)?;
+    let cores = case_rows(alloc, zone, &row.members)?;
     print_rows(reply, &group_layout(&head), &head);
     reply.print(b"\n");
     print_rows(reply, &case_layout(&cores), &cores);
@@ -113,15 +116,16 @@ fn case_layout(rows: &[Vec<Vec<u8>>]) -> [Column; 8]
 // The texts of the table of groups, with its heads.
 fn group_rows(
     alloc: Global,
+    zone: Zone<'_>,
     latest: u64,
     rows: &[GroupRow<'_>],
 ) -> Result<Vec<Vec<Vec<u8>>>, AllocError>
-    ensures { IfOk result (λ all. map texts all.items ≡ spec.group_rows latest (map row_said rows.now)) }
+    ensures { IfOk result (λ all. map texts all.items ≡ spec.group_rows zone.entry latest (map row_said rows.now)) }
 {
     let mut all = Vec::new(alloc);
     all.push(group_heads(alloc)?)?;
     for row in rows {
-        all.push(group_texts(alloc, latest, row)?)?;
+        all.push(group_texts(alloc, zone, latest, row)?)?;
     }
     Ok(all)
 }
@@ -129,14 +133,15 @@ fn group_rows(
 // The same of one group.
 fn group_row(
     alloc: Global,
+    zone: Zone<'_>,
     latest: u64,
     row: &GroupRow<'_>,
 ) -> Result<Vec<Vec<Vec<u8>>>, AllocError>
-    ensures { IfOk result (λ all. map texts all.items ≡ spec.group_rows latest (row_said row.now ∷ [])) }
+    ensures { IfOk result (λ all. map texts all.items ≡ spec.group_rows zone.entry latest (row_said row.now ∷ [])) }
 {
     let mut all = Vec::new(alloc);
     all.push(group_heads(alloc)?)?;
-    all.push(group_texts(alloc, latest, row)?)?;
+    all.push(group_texts(alloc, zone, latest, row)?)?;
     Ok(all)
 }
 
@@ -150,25 +155,34 @@ fn group_heads(alloc: Global) -> Result<Vec<Vec<u8>>, AllocError>
     Ok(all)
 }
 
-fn group_texts(alloc: Global, latest: u64, row: &GroupRow<'_>) -> Result<Vec<Vec<u8>>, AllocError>
-    ensures { IfOk result (λ all. texts all ≡ map (group_cell latest (row_said row.now)) group_columns) }
+fn group_texts(
+    alloc: Global,
+    zone: Zone<'_>,
+    latest: u64,
+    row: &GroupRow<'_>,
+) -> Result<Vec<Vec<u8>>, AllocError>
+    ensures { IfOk result (λ all. texts all ≡ map (group_cell zone.entry latest (row_said row.now)) group_columns) }
 {
     let labels = labels_of(alloc, &row.members)?;
     let mut all = Vec::new(alloc);
     for column in &GROUP_COLUMNS {
-        all.push(group_cell(alloc, latest, row, &labels, *column)?)?;
+        all.push(group_cell(alloc, zone, latest, row, &labels, *column)?)?;
     }
     Ok(all)
 }
 
 // The texts of the table of a group's cores, with its heads.
-fn case_rows(alloc: Global, members: &[GroupMember<'_>]) -> Result<Vec<Vec<Vec<u8>>>, AllocError>
-    ensures { IfOk result (λ all. map texts all.items ≡ spec.case_rows (map member_said members.now)) }
+fn case_rows(
+    alloc: Global,
+    zone: Zone<'_>,
+    members: &[GroupMember<'_>],
+) -> Result<Vec<Vec<Vec<u8>>>, AllocError>
+    ensures { IfOk result (λ all. map texts all.items ≡ spec.case_rows zone.entry (map member_said members.now)) }
 {
     let mut all = Vec::new(alloc);
     all.push(case_heads(alloc)?)?;
-    add_cases(alloc, &mut all, members, false)?;
-    add_cases(alloc, &mut all, members, true)?;
+    add_cases(alloc, zone, &mut all, members, false)?;
+    add_cases(alloc, zone, &mut all, members, true)?;
     Ok(all)
 }
 
@@ -185,26 +199,31 @@ fn case_heads(alloc: Global) -> Result<Vec<Vec<u8>>, AllocError>
 // Adds the rows of those that are certain, or of the others.
 fn add_cases(
     alloc: Global,
+    zone: Zone<'_>,
     all: &mut Vec<Vec<Vec<u8>>>,
     members: &[GroupMember<'_>],
     is_perhaps: bool,
 ) -> Result<(), AllocError>
-    ensures { OnOk result (map texts all.new.items ≡ map texts all.old.items ++ map spec.case_row (filter (spec.is_so is_perhaps) (map member_said members.now))) }
+    ensures { OnOk result (map texts all.new.items ≡ map texts all.old.items ++ map (spec.case_row zone.entry) (filter (spec.is_so is_perhaps) (map member_said members.now))) }
 {
     for member in members {
         if member.is_perhaps == is_perhaps {
-            all.push(case_texts(alloc, member)?)?;
+            all.push(case_texts(alloc, zone, member)?)?;
         }
     }
     Ok(())
 }
 
-fn case_texts(alloc: Global, member: &GroupMember<'_>) -> Result<Vec<Vec<u8>>, AllocError>
-    ensures { IfOk result (λ all. texts all ≡ spec.case_row (member_said member.now)) }
+fn case_texts(
+    alloc: Global,
+    zone: Zone<'_>,
+    member: &GroupMember<'_>,
+) -> Result<Vec<Vec<u8>>, AllocError>
+    ensures { IfOk result (λ all. texts all ≡ spec.case_row zone.entry (member_said member.now)) }
 {
     let mut all = Vec::new(alloc);
     for column in &CASE_COLUMNS {
-        all.push(case_cell(alloc, member, *column)?)?;
+        all.push(case_cell(alloc, zone, member, *column)?)?;
     }
     Ok(all)
 }

@@ -9,4 +9,4 @@ pub returns : goal.returns
 returns g c = λ plain.
     let seen = c.in_ok-front.ensures in
     let same = (rw c.deref.ensures.value at c.header_in.ensures) seen.0 seen.2 in
-    (seen.0, seen.1, subst (λ (h : Result Header ElfFault). IsScreenBy c.front_of.new.archive c.args.seq (Exec h) c.in_ok-put_text.field-0) same (c.in_ok-put_text.ensures plain))
+    (seen.0, seen.1, subst (λ (h : Result Header ElfFault). IsScreenBy c.args.zone c.front_of.new.archive c.args.seq (Exec h) c.in_ok-put_text.field-0) same (c.in_ok-put_text.ensures plain))

@@ -9,4 +9,4 @@ returns-in-Ok c = λ plain.
     let all = told _ _ _ [] c.new-reply.ensures.told in
     let sent = rw c.in-Ok.is at c.finish.ensures.delivered _ _ _ _ all in
     search (all.same, c.finish.ensures.same, sent, c.new-text.ensures, rules))
-    c.args.form.latest c.args.form.case _ (c.in_ok-print_rows.ensures plain)
+    c.args.form.zone c.args.form.latest c.args.form.case _ (c.in_ok-print_rows.ensures plain)

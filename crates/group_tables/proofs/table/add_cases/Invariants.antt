@@ -6,4 +6,4 @@ use Rattle.group_tables.proofs.table.add_cases.Given as goal
 
 abbrev pub invariant-loop-member : goal.invariant-loop-member
 invariant-loop-member l =
-    map texts l.all.items ≡ map texts l.initial.all.items ++ map case_row (filter (is_so l.is_perhaps) (map member_said (take l.member-index l.members)))
+    map texts l.all.items ≡ map texts l.initial.all.items ++ map (case_row l.zone) (filter (is_so l.is_perhaps) (map member_said (take l.member-index l.members)))
