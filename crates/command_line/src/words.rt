@@ -191,36 +191,50 @@ fn answer_words<
         None => words,
     };
     match read_words(rt.alloc(), words) {
-        Ok(
-            ReadWords {
-                asked,
-                is_quiet,
-                is_local,
-            },
-        ) => {
-            if is_quiet {
-                listener.hush();
-            }
-            let machine = machine_zone(rt, is_local, &mut notes.subject);
-            let zone = match &machine {
-                Some(machine) => machine.zone(),
-                None => Zone::Utc,
-            };
-            if let Some(path) = asked.made() {
-                note_shared(rt, path, &mut notes.subject);
-            }
-            let paths = asked.paths();
-            match answer_asked(rt, asked, zone, input, output, notes, listener) {
-                Ok(()) => Ok(()),
-                Err(failure) => Err(ending_of(rt, failure, paths)),
-            }
-        }
+        Ok(read) => carry_out(rt, read, input, output, notes, listener),
         Err(ending) => {
             if ordered.is_some() && !matches!(ending, Ending::Help(_)) {
                 print_lost_words(rt);
             }
             Err(aside_of_an_image(words, ending))
         }
+    }
+}
+
+// Does the task that the words ask for, and notes first what people should know of the machine.
+fn carry_out<
+    R: Env + AllocGlobal + Files<File = File> + Clock + Clone + Drop,
+    I: Read,
+    O: Output,
+    W: Onlooker,
+>(
+    rt: &R,
+    read: ReadWords<'_>,
+    input: &mut I,
+    output: &mut O,
+    notes: &mut Notes,
+    listener: &mut Listener<'_, W>,
+) -> Result<(), Ending> {
+    let ReadWords {
+        asked,
+        is_quiet,
+        is_local,
+    } = read;
+    if is_quiet {
+        listener.hush();
+    }
+    let machine = machine_zone(rt, is_local, &mut notes.subject);
+    let zone = match &machine {
+        Some(machine) => machine.zone(),
+        None => Zone::Utc,
+    };
+    if let Some(path) = asked.made() {
+        note_shared(rt, path, &mut notes.subject);
+    }
+    let paths = asked.paths();
+    match answer_asked(rt, asked, zone, input, output, notes, listener) {
+        Ok(()) => Ok(()),
+        Err(failure) => Err(ending_of(rt, failure, paths)),
     }
 }
 
