@@ -27,7 +27,7 @@ abbrev pub times_text : ArchiveFacts → List ℕ
 times_text a = codes "cores     oldest " ++ (time_text a.oldest ++ (codes ", newest " ++ (time_text a.newest ++ 10 ∷ [])))
 
 abbrev pub numbers_text : ArchiveFacts → List ℕ
-numbers_text a = codes "numbers   " ++ (decimal a.last_number ++ (codes " is the greatest that was given" ++ 10 ∷ []))
+numbers_text a = codes "numbers   " ++ (decimal a.last_number ++ (codes " is the highest that was given" ++ 10 ∷ []))
 
 abbrev pub archive_text : ArchiveFacts → List ℕ
 archive_text a = layout_text a ++ (data_text a ++ (journal_text a ++ (cases_text a ++ (times_text a ++ (numbers_text a ++ days_text a.newest a.days)))))

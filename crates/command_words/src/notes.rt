@@ -72,7 +72,7 @@ fn subject(words: &[String]) -> &'static [u8]
     } else if checks_archive(word.as_str()) {
         b"archive "
     } else if makes_file(word.as_str()) {
-        b"folder "
+        b"directory "
     } else {
         b""
     }
