@@ -28,7 +28,7 @@ abbrev pub times_text : Zone → ArchiveFacts → List ℕ
 times_text zone a = codes "cores     oldest " ++ (time_in zone a.oldest ++ (codes ", newest " ++ (time_in zone a.newest ++ 10 ∷ [])))
 
 abbrev pub numbers_text : ArchiveFacts → List ℕ
-numbers_text a = codes "numbers   " ++ (decimal a.last_number ++ (codes " is the greatest that was given" ++ 10 ∷ []))
+numbers_text a = codes "numbers   " ++ (decimal a.last_number ++ (codes " is the highest that was given" ++ 10 ∷ []))
 
 abbrev pub archive_text : Zone → ArchiveFacts → List ℕ
 archive_text zone a = layout_text a ++ (data_text a ++ (journal_text a ++ (cases_text a ++ (times_text zone a ++ (numbers_text a ++ days_text a.newest a.days)))))

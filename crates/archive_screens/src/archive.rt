@@ -118,5 +118,5 @@ fn print_numbers<O: Output>(reply: &mut Reply<'_, O>, facts: &ArchiveFacts)
 {
     reply.print(b"numbers   ");
     reply.print_decimal(u128::from(facts.last_number));
-    reply.print(b" is the greatest that was given\n");
+    reply.print(b" is the highest that was given\n");
 }

@@ -31,7 +31,7 @@ abbrev pub subject_of : List ℕ → List ℕ
 subject_of command =
     if bytes_eq command (codes "store") then codes "case " else
     if checks_archive command then codes "archive " else
-    if makes_file command then codes "folder " else
+    if makes_file command then codes "directory " else
     if shows_times command then codes "time zone " else []
 
 abbrev pub subject : {Z : Type 0} → List (String Z) → List ℕ

@@ -13,7 +13,7 @@ pub(crate) const ASK_HELP: &str = "Lines (corekeep help LINE says more):\n\
 \x20\x20upgrade                              brings the archive to version 2 of the layout, which keeps labels\n\
 \x20\x20header N                             the file header and the program headers of a core or an executable\n\
 \x20\x20notes N                              the notes of a core\n\
-\x20\x20threads N                            the threads of a core, the one that dumped first\n\
+\x20\x20threads N                            the threads of a core; the thread that dumped comes first\n\
 \x20\x20regs N T                             the registers of thread T\n\
 \x20\x20process N                            the process that dumped core\n\
 \x20\x20signal N                             the signal that ended the process, and the address of the fault\n\

@@ -34,7 +34,7 @@ const PLAIN: Word = Word {
     shown: "",
     takes: Takes::FlagWithoutJson,
     default: None,
-    help: "Print the reply for people: each \\xHH as the byte itself, if that is a space or prints",
+    help: "Print the reply for people: each \\xHH as the byte itself, if that is a space or prints, and each row of `dump` as text too",
 };
 
 // Whether memory is printed as words.

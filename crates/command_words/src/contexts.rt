@@ -31,7 +31,7 @@ pub enum Context {
 static SALVAGE_MEANINGS: [Meaning; 3] = [
     Meaning {
         reason: b"NotAnArchive",
-        words: b"the file is no archive, or its superblock is damaged and nothing else gives its shape: state it with --half N and --data N",
+        words: b"it is not a corekeep archive; if it was one, its superblock is damaged, and nothing else gives its shape: state it with --half N and --data N",
     },
     Meaning {
         reason: b"UnknownVersion",
@@ -51,31 +51,31 @@ const SHAPE: &[u8] =
 static NAME_MEANINGS: [Meaning; 2] = [
     Meaning {
         reason: b"TooLong",
-        words: b"the name has over 128 bytes: take a shorter NAME of --exec, or a shorter --template; or the length that --length states is over the limit (--limit N, 1 GiB if it is left out): raise it, or keep the front by --cut",
+        words: b"the name has over 128 bytes: take a shorter NAME of --exec, or a shorter --template; or the length that --length states is over the limit (--limit N, 1 GiB if it is left out): raise it, or keep the first bytes with --cut",
     },
     Meaning {
         reason: b"BadLine",
-        words: b"a pair, a limit, the length, the SHA-256 or the label can't be read, or --exec has pairs: KEY is comm, exe, host, pid, tid, sig, uid, gid, mode, time or limit, the VALUE of all but comm, exe and host is a number, and --escape takes one that has spaces; --name goes without --exec, --build and --spool",
+        words: b"a word is invalid: pairs go without --exec, --name without --exec, --build and --spool; a VALUE or a label with spaces needs --escape; a limit and --length are numbers, and --sha256 is 64 hexadecimal digits",
     },
 ];
 
 // The same, when it takes the image.
 static STORE_MEANINGS: [Meaning; 1] = [Meaning {
     reason: b"TooLong",
-    words: b"the image is over the limit (--limit N, 1 GiB if it is left out): raise it, or keep the front by --cut; or it has more bytes than --length states",
+    words: b"the image is over the limit (--limit N, 1 GiB if it is left out): raise it, or keep the first bytes with --cut; or it has more bytes than --length states",
 }];
 
 // The same of `handle`.
 static HANDLER_MEANINGS: [Meaning; 1] = [Meaning {
     reason: b"TooLong",
-    words: b"the core is over the limit of the configuration (limit, 1 GiB if it is left out): raise it, or keep the front by cut; or it has more bytes than its stated length",
+    words: b"the core is over the limit of the configuration (limit, 1 GiB if it is left out): raise it, or keep the first bytes with cut; or it has more bytes than its stated length",
 }];
 
 // The same of `list`.
 static LIST_MEANINGS: [Meaning; 2] = [
     Meaning {
         reason: b"BadLine",
-        words: b"the value of a filter can't be read: --kind takes core or exec, --signal a number or a name such as SEGV, --since and --until 2h, 3d, today, yesterday, 2026-11-25, '2026-11-25 14:03', 2026-11-25T14:03:11Z or @SECONDS, --sort time, size or name; or search has no --text TEXT",
+        words: b"the value of a filter is invalid: --kind takes core or exec, --signal a number or a name such as SEGV, --since and --until 2h, 3d, today, yesterday, 2026-11-25, '2026-11-25 14:03', 2026-11-25T14:03:11Z or @SECONDS, --sort time, size or name; or search has no --text TEXT",
     },
     Meaning {
         reason: b"Disk",
@@ -87,7 +87,7 @@ static LIST_MEANINGS: [Meaning; 2] = [
 static GROUPS_MEANINGS: [Meaning; 3] = [
     Meaning {
         reason: b"BadLine",
-        words: b"the value of a filter can't be read: --signal takes a number or a name such as SEGV, --since and --until 2h, 3d, today, yesterday, 2026-11-25, '2026-11-25 14:03', 2026-11-25T14:03:11Z or @SECONDS",
+        words: b"the value of a filter is invalid: --signal takes a number or a name such as SEGV, --since and --until 2h, 3d, today, yesterday, 2026-11-25, '2026-11-25 14:03', 2026-11-25T14:03:11Z or @SECONDS",
     },
     Meaning {
         reason: b"NoCase",
@@ -102,7 +102,7 @@ static GROUPS_MEANINGS: [Meaning; 3] = [
 // The same of `prune`.
 static PRUNE_MEANINGS: [Meaning; 1] = [Meaning {
     reason: b"BadLine",
-    words: b"a limit can't be read: --cores, --bytes and --before each take a number, and --before the seconds since 1970",
+    words: b"a limit is invalid: --cores, --bytes and --before each take a number, and --before the seconds since 1970",
 }];
 
 // The same for the other commands that only look.

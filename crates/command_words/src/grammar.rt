@@ -44,7 +44,7 @@ fn subcommands_of<'a>(
 const STATUSES: &str = "Statuses:\n\
      \x20\x200  it is done\n\
      \x20\x201  it is refused (`no REASON` on standard output, and its meaning on standard error; `extract` and `digest` print both on standard error),\n\
-     \x20\x20   or a session ended before its script (`fault NAME` on standard error)\n\
+     \x20\x20   a session ended before its script (`fault NAME` on standard error), or no case matches the filters\n\
      \x20\x202  the words of the command line are refused";
 
 static PROGRAM: CommandWords = CommandWords {

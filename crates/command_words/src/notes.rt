@@ -81,7 +81,7 @@ fn subject(words: &[String]) -> &'static [u8]
     } else if checks_archive(word.as_str()) {
         b"archive "
     } else if makes_file(word.as_str()) {
-        b"folder "
+        b"directory "
     } else if shows_times(word.as_str()) {
         b"time zone "
     } else {

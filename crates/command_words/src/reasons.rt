@@ -10,7 +10,7 @@ pub(crate) struct Meaning {
 static MEANINGS: [Meaning; 47] = [
     Meaning {
         reason: b"SpaceFull",
-        words: b"the image takes more blocks than are free (corekeep ask ARCHIVE free counts them): delete or retire cases (pinned ones once they are unpinned); if it takes more than the archive has, make that larger (corekeep resize)",
+        words: b"the archive has too few free blocks: delete or retire cases, store with --fit, or corekeep resize",
     },
     Meaning {
         reason: b"JournalFull",
@@ -22,7 +22,7 @@ static MEANINGS: [Meaning; 47] = [
     },
     Meaning {
         reason: b"NameTaken",
-        words: b"a case has this name: delete that case, or take another name (of cores by the process and the time)",
+        words: b"a case has this name: delete that case, or give --name, or other pid= and time=",
     },
     Meaning {
         reason: b"Burst",
@@ -34,7 +34,7 @@ static MEANINGS: [Meaning; 47] = [
     },
     Meaning {
         reason: b"TooLong",
-        words: b"the image is over the limit: raise the limit, or keep the front by cut; or it has more bytes than its stated length; or its name has over 128 bytes: take a shorter one",
+        words: b"the image is over the limit: raise the limit, or keep the first bytes with --cut; or it has more bytes than its stated length; or its name has over 128 bytes: take a shorter one",
     },
     Meaning {
         reason: b"Short",
@@ -70,11 +70,11 @@ static MEANINGS: [Meaning; 47] = [
     },
     Meaning {
         reason: b"Busy",
-        words: b"another process has the archive",
+        words: b"another process is using the archive",
     },
     Meaning {
         reason: b"NotAnArchive",
-        words: b"the file is no archive, or its superblock is damaged: then corekeep salvage ARCHIVE NEW copies what can be read",
+        words: b"it is not a corekeep archive; if it was one, its superblock is damaged: corekeep salvage ARCHIVE NEW",
     },
     Meaning {
         reason: b"NoBuildId",
@@ -114,11 +114,11 @@ static MEANINGS: [Meaning; 47] = [
     },
     Meaning {
         reason: b"NotCore",
-        words: b"the case is an executable, and the line asks a core",
+        words: b"the case is an executable, and this line needs a core",
     },
     Meaning {
         reason: b"NotExec",
-        words: b"the case is a core, and the line asks an executable",
+        words: b"the case is a core, and this line needs an executable",
     },
     Meaning {
         reason: b"NoThread",

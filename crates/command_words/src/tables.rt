@@ -393,7 +393,7 @@ const LENGTH: Word = Word {
     shown: "N",
     takes: Takes::Text,
     default: None,
-    help: "Store FILE only if it has exactly N bytes (otherwise `no Short` or `no TooLong`)",
+    help: "Store the file or the core only if it has exactly N bytes (otherwise `no Short` or `no TooLong`)",
 };
 
 // The digest that FILE has.

@@ -23,7 +23,7 @@ static PARTS: [Part; 6] = [
     },
     Part {
         name: "ADDR",
-        words: b"an address, as 0x11000",
+        words: b"an address, such as 0x11000",
     },
     Part {
         name: "LEN",

@@ -166,7 +166,7 @@ fn print_path<R: AllocGlobal + Files<File = File>, O: Output>(
     }
     if let Some(folder) = shared_folder(rt, path) {
         print_note(reply, key, path);
-        reply.print(b"others may write a folder on its path, ");
+        reply.print(b"others may write a directory on its path, ");
         reply.print_text(folder.as_bytes());
         reply.print(b"\n");
     }
@@ -320,7 +320,7 @@ fn spool_trouble<R: AllocGlobal + Files<File = File>>(
 ) -> Option<&'static [u8]> {
     match folder_fault(rt, folder) {
         Some(FolderFault::Missing) => Some(b" is not there: make it by mkdir -m 700"),
-        Some(FolderFault::NoFolder) => Some(b" is no folder"),
+        Some(FolderFault::NoFolder) => Some(b" is not a directory"),
         Some(FolderFault::Shared) => Some(
             b": others may enter it: chmod 700 takes that right away",
         ),

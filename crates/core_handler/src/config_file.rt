@@ -95,7 +95,7 @@ fn begins_with_key(line: &str, key: &str) -> bool {
 // The fault of an entry, in words.
 fn fault_words(fault: Fault) -> &'static [u8] {
     match fault {
-        Fault::Unknown => b"is no key",
+        Fault::Unknown => b"is an unknown key",
         Fault::NotText => b"is no text",
         Fault::NotNumber => b"is no number from 0 on",
         Fault::NotFlag => b"is neither true nor false",
@@ -139,7 +139,7 @@ fn line_on(alloc: Global, path: &str, trouble: Trouble) -> Collected {
             path,
             line,
             None,
-            b"the file is no TOML: no line of it holds, not even the archive's name",
+            b"the file is not valid TOML, so all of it is ignored, with the archive's name",
         ),
     }
 }

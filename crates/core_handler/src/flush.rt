@@ -56,7 +56,7 @@ pub(crate) fn flush<
         return refuse(output, b"fault spool: none is set\n");
     };
     let Ok(found) = entries_in(rt, folder) else {
-        return refuse(output, b"fault spool: the folder can't be read\n");
+        return refuse(output, b"fault spool: the directory can't be read\n");
     };
     let mut cores = found.cores;
     oldest_first(&mut cores);

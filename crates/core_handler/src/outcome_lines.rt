@@ -249,6 +249,9 @@ fn file_text(alloc: Global, refusal: Refusal) -> Option<String> {
         Refusal::File(FileWord::Archive, FileFault::Missing) => format!(in alloc;
             "there is no such file: corekeep format makes an archive"
         ),
+        Refusal::File(FileWord::Archive, FileFault::Folder) => format!(in alloc;
+            "it is a directory"
+        ),
         Refusal::File(FileWord::Archive, fault) => format!(in alloc; "{fault}"),
         Refusal::File(FileWord::File, fault) => format!(in alloc; "FILE: {fault}"),
         _ => return None,

@@ -501,7 +501,7 @@ fn unspooled_text(why: NotSpooled) -> &'static [u8] {
 // Why a file of the spool could not be made.
 fn fault_text(fault: FileFault) -> &'static [u8] {
     match fault {
-        FileFault::Missing => b"there is no such folder",
+        FileFault::Missing => b"there is no such directory",
         FileFault::Denied => b"permission is denied",
         FileFault::Full => b"the file system is full",
         FileFault::OutOfMemory => b"there is no memory",

@@ -54,8 +54,8 @@ pub static LINES: [LineHelp; 34] = [
     LineHelp {
         name: "retire",
         usage: "retire [keep=K] [bytes=B] [before=T]",
-        does: "deletes cases that are not pinned: those older than T, then the oldest until at most K cases and B bytes are left",
-        reply: "dropped N for each, and unmet if a limit is not met",
+        does: "deletes cases that are not pinned: those older than T, then the lowest numbers, until at most K cases and B bytes are left",
+        reply: "dropped N for each; unmet if the pinned cases alone are over a limit",
         example: "retire keep=20",
         reasons: "Stopped, JournalFull, OutOfMemory, Disk",
     },
@@ -86,7 +86,7 @@ pub static LINES: [LineHelp; 34] = [
     LineHelp {
         name: "threads",
         usage: "threads N",
-        does: "the threads of a core, the one that dumped first; only notes named CORE are read, and none named LINUX",
+        does: "the threads of a core; the thread that dumped comes first; only notes named CORE are read, and none named LINUX",
         reply: "I TID SIGNAL PC for each",
         example: "threads 3",
         reasons: "Stopped, NoCase, NotCore, OutOfMemory, Disk, a field of the headers or notes or of a typed note",
@@ -143,7 +143,7 @@ pub static LINES: [LineHelp; 34] = [
         name: "dump",
         usage: "dump N ADDR LEN",
         does: "LEN bytes of memory from ADDR on, at most 65,536; with --builds also from executables that store --build stored",
-        reply: "ADDR HEX for each 16 bytes, or why there are none",
+        reply: "ADDR HEX for each 16 bytes, or notdumped (left out of the core), cut, unmapped",
         example: "dump 3 0x11000 32",
         reasons: "Stopped, NoCase, NotCore, OutOfMemory, Disk, a field of the headers, notes or typed notes, Range",
     },
