@@ -122,9 +122,6 @@ pub occurs_all : (space : Space) (xs : List ℕ) (b i : ℕ) → length xs ≤ i
 unfolding occurs
 occurs_all space xs b i h = ap (λ ys. occurs space ys b) (drop_all i xs h)
 
-pub occurs_whole : (space : Space) (xs : List ℕ) (a : ℕ) → occurs space xs a ≡ occurs space (drop 0 xs) (a + 0)
-occurs_whole space xs a = let e : a ≡ a + 0 = omega arith in ap (occurs space xs) e
-
 -- what is still to come after some of the values at hand
 module _ (space : Space) (test : ℕ → Bool) (c d : Cursor) (p : IsPlaced space c) (number : d.number ≡ c.number) where
   abbrev of_rest : ℕ → ℕ → List ℕ

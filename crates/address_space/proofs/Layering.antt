@@ -223,10 +223,6 @@ pub none_ahead : (over under others : List Row) (at : ℕ) → length over ≡ 0
 none_ahead [] under others at h m hidden ends same = none_left under others at m hidden ends same
 none_ahead (o ∷ over) under others at h m hidden ends same = absurd (omega (arith, h))
 
--- the first row below does not show before the first on top
-pub hidden_by : (over under rest : List Row) (u : Row) (at start past : ℕ) → under ≡ u ∷ rest → at < past_of u → 0 < u.size → start ≡ max at u.start → past ≡ min (ceiling_of over) (past_of u) → past ≤ start → IsHidden over under at
-hidden_by over under rest u at start past is end wide s p le = subst (λ l. IsHidden over l at) (sym is) (omega (arith, end, wide, s, p, le))
-
 -- each of the rows ends where the answer is another
 abbrev pub EndsIn : (ℕ → Option ℕ) → List Row → Type 0
 EndsIn answer [] = Unit {0}
@@ -241,9 +237,6 @@ pub record IsPut (answer : ℕ → Option ℕ) (rows : List Row) (at : ℕ) : Ty
   pub laid : IsLaid 0 at rows
   pub same : (a : ℕ) → a < at → answer a ≡ holder rows a
   pub ends : EndsIn answer rows
-
-pub put_none : (answer : ℕ → Option ℕ) → IsPut answer [] 0
-put_none answer = record { laid = omega arith; same = λ a h. absurd (omega arith); ends = tt }
 
 -- the row that comes next is put after them
 pub put_next : (answer : ℕ → Option ℕ) (rows : List Row) (at : ℕ) (r : Row) → IsPut answer rows at → IsNext answer at r → IsPut answer (rows ++ r ∷ []) (past_of r)

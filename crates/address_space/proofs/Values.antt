@@ -3,7 +3,7 @@ use Rattle.std.specs.Option.{option_map}
 use Rattle.std.specs.List.{find}
 use Rattle.std.proofs.Common.{◌≡◌, ◌<◌, ◌≤◌, ℕ, ◌+◌, ◌-◌, leb, ltb, cond, Bool, true, false, List, [], ◌∷◌, length, drop, get_or, Option, None, Some, refl, sym, ap, ◌∙◌, arith, inl, inr}
 use Rattle.std.proofs.lemmas.List.{get_or-take, get_or-drop}
-use Rattle.std.proofs.lemmas.Bool.{and_parts, leb-true, cond-true, cond-false, cases_Bool, le-leb, lt-leb}
+use Rattle.std.proofs.lemmas.Bool.{and_parts, leb-true, cond-true, cond-false, cases_Bool, le-leb}
 use Rattle.std.proofs.lemmas.Option.{same_Some, none-some}
 use Rattle.elf_view.specs.Header.{SegmentView}
 use Rattle.elf_view.specs.Field.{part}
@@ -92,13 +92,6 @@ no_byte space b i s none past = elim (cases_Bool (leb s.filesz (b - s.vaddr))) a
   | inl behind ↦ ap (λ p. value_of (content_by (λ x j. get_or x j 0) b p)) (cond-true (leb s.filesz (b - s.vaddr)) (undumped space b i (entry_at space.files b)) (cond (leb (length s.bytes) (b - s.vaddr)) (cut_off i) (dumped i s)) behind) ∙ undumped_alone space b i (entry_at space.files b) none
   | inr within ↦ ap (λ p. value_of (content_by (λ x j. get_or x j 0) b p)) (cond-false (leb s.filesz (b - s.vaddr)) (undumped space b i (entry_at space.files b)) (cond (leb (length s.bytes) (b - s.vaddr)) (cut_off i) (dumped i s)) within ∙ cond-true (leb (length s.bytes) (b - s.vaddr)) (cut_off i) (dumped i s) (le-leb (length s.bytes) (b - s.vaddr) past))
 ]
-
-pub byte_here : (space : Space) (a k n i : ℕ) (s : SegmentView) → s.vaddr ≤ a → k < n → a - s.vaddr + n ≤ length s.bytes → length s.bytes ≤ s.filesz → value_placed space (a + k) i s ≡ Some (get_or (part s.bytes (a - s.vaddr) n) k 0)
-byte_here space a k n i s low h fits held =
-    let b = a + k in
-    let e : b - s.vaddr ≡ a - s.vaddr + k = omega arith in
-    ap (λ p. value_of (content_by (λ x j. get_or x j 0) b p)) (cond-false (leb s.filesz (b - s.vaddr)) (undumped space b i (entry_at space.files b)) (cond (leb (length s.bytes) (b - s.vaddr)) (cut_off i) (dumped i s)) (lt-leb s.filesz (b - s.vaddr) (omega arith)) ∙ cond-false (leb (length s.bytes) (b - s.vaddr)) (cut_off i) (dumped i s) (lt-leb (length s.bytes) (b - s.vaddr) (omega arith)))
-    ∙ ap Some (byte_of_part s.bytes (a - s.vaddr) n k (b - s.vaddr) h e)
 
 -- what is known of addresses that one segment decides, and of those that none does
 pub run_decided_by : (space : Space) (a limit m n : ℕ) (d : ℕ × SegmentView) (bytes : Option (List ℕ)) → decider space a ≡ Some d → IsAlike (decider space) a limit m → 0 < n → n ≤ m → ((k : ℕ) → k < n → value_placed space (a + k) d.0 d.1 ≡ value_in bytes k) → IsRun space a limit n (Some d.0) bytes

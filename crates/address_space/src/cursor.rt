@@ -14,7 +14,7 @@ use crate::space::AddressSpace;
 use elf_view::accepted_segments_fit;
 
 /// The progress of a search.
-#[derive(Clone, Copy, Debug)]
+#[derive(Clone, Copy)]
 pub(crate) struct Cursor<'a> {
     /// The number of the segment at hand.
     pub number: u64,

@@ -14,7 +14,7 @@ use core_notes::{FileMap, Files};
 use std::alloc::{AllocError, Global};
 
 /// The mapped files, in the order of NT_FILE, and the addresses at which each entry is the first that maps them.
-#[derive(Debug, Drop)]
+#[derive(Drop)]
 pub(crate) struct FileSheet<'a> {
     pub(crate) maps: Vec<FileMap<'a>>,
     pub(crate) table: Table,

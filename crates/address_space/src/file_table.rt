@@ -16,7 +16,7 @@ use core_notes::{FileMap, Files};
 use std::alloc::{AllocError, Global};
 
 /// The mapped files, in the order of NT_FILE, and a table of their addresses.
-#[derive(Debug, Drop)]
+#[derive(Drop)]
 pub(crate) struct FileTable<'a> {
     pub(crate) maps: Vec<FileMap<'a>>,
     pub(crate) table: Table,

@@ -12,7 +12,7 @@ use std::alloc::{AllocError, Global};
 const END: u128 = 1 << 64;
 
 /// Two sheets of rows, one over the other, from an address on.
-#[derive(Clone, Copy, Debug)]
+#[derive(Clone, Copy)]
 struct Merge<'r> {
     over: &'r [Row],
     under: &'r [Row],

@@ -26,7 +26,7 @@ use core_notes::FileMap;
 use elf_view::{Segment, a_sound_front_is_enough, part};
 
 /// Addresses of one place.
-#[derive(Clone, Copy, Debug)]
+#[derive(Clone, Copy)]
 pub(crate) struct Located<'a> {
     /// The number of the segment that decides them.
     pub number: Option<u64>,
@@ -37,7 +37,7 @@ pub(crate) struct Located<'a> {
 }
 
 /// Addresses of one place, and the place of their bytes in an image.
-#[derive(Clone, Copy, Debug)]
+#[derive(Clone, Copy)]
 pub(crate) struct Placed<'a> {
     /// The number of the segment that decides them.
     pub number: Option<u64>,

@@ -11,7 +11,7 @@ use std::alloc::{AllocError, Global};
 const ALL: u128 = 1 << 64;
 
 /// Rows by their numbers and then by address.
-#[derive(Debug, Drop)]
+#[derive(Drop)]
 pub(crate) struct Order {
     pub(crate) rows: Vec<Row>,
     ghost rising: { IsNonDecreasingBy key_of rows.items },

@@ -11,7 +11,7 @@ use elf_view::Segments;
 use std::alloc::{AllocError, Global};
 
 /// Addresses in a row, of a program header or an entry of NT_FILE.
-#[derive(Clone, Copy, Debug)]
+#[derive(Clone, Copy)]
 pub(crate) struct Row {
     /// The number of the header or the entry.
     pub number: u64,

@@ -12,7 +12,7 @@ use crate::space::AddressSpace;
 use elf_view::{Segment, part};
 
 /// Addresses with one deciding segment, which all have a value or none.
-#[derive(Clone, Copy, Debug)]
+#[derive(Clone, Copy)]
 pub(crate) struct Run<'a> {
     /// The number of the segment.
     pub number: Option<u64>,

@@ -12,7 +12,7 @@ use core_notes::{FileMap, FileMaps};
 use elf_view::{Segment, Segments};
 
 /// A segment with its number in the table.
-#[derive(Clone, Copy, Debug)]
+#[derive(Clone, Copy)]
 pub(crate) struct Decided<'a> {
     pub number: u64,
     pub segment: Segment<'a>,

@@ -14,7 +14,7 @@ use elf_view::{Elf, accepted_segments_fit};
 use std::alloc::{AllocError, Global};
 
 /// Rows of addresses, each with the number of the segment that decides them: by address, and by number.
-#[derive(Debug, Drop)]
+#[derive(Drop)]
 pub(crate) struct Sheet {
     pub(crate) table: Table,
     pub(crate) order: Order,

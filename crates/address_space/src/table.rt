@@ -15,7 +15,7 @@ use crate::row::Row;
 use std::alloc::{AllocError, Global};
 
 /// Rows sorted by address. None has an address of another.
-#[derive(Debug, Drop)]
+#[derive(Drop)]
 pub(crate) struct Table {
     pub(crate) rows: Vec<Row>,
     /// They are sorted by address.

@@ -25,7 +25,7 @@ use journal_snapshot::Target;
 use std::alloc::Global;
 
 /// The wish for a copy.
-#[derive(Clone, Copy, Debug, PartialEq, Eq)]
+#[derive(Clone, Copy, PartialEq, Eq)]
 pub struct CopyWish {
     /// The shape of the new archive.
     pub shape: Shape,

@@ -1,2 +1,3 @@
 mod CheckLemmas
+mod FrontLemmas
 mod GapLemmas

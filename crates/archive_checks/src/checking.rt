@@ -2,6 +2,7 @@
 ghost use Rattle.std.specs.Prelude.{◌≡◌, ◌≤◌, ℕ, false, List, Option, Some, Result, Ok, OnOk, length, slice_get};
 ghost use Rattle.std.specs.Option.{option_map};
 ghost use Rattle.archive_checks.specs.Checking.{ChecksOnDisk, IsDamageLine, PrintsHoldings, PrintsImage, PrintsImages, ToldOf, case_words, cases_seen, check_end};
+ghost use Rattle.archive_checks.specs.Texts.{place_line};
 ghost use Rattle.case_journal.specs.Viewing.{OnlyReads};
 ghost use Rattle.intake.specs.Parts.{state_of};
 ghost use Rattle.journal_layout.specs.Case.{Case};
@@ -19,7 +20,7 @@ use script_streams::{Output, Reply, StreamFault};
 use std::alloc::Global;
 
 /// Why an archive was not found sound.
-#[derive(Clone, Copy, Debug, PartialEq, Eq)]
+#[derive(Clone, Copy, PartialEq, Eq)]
 pub enum CheckFault {
     /// Its opening is refused so.
     Open(OpenFault),
@@ -195,12 +196,19 @@ fn print_damage<D: Disk, O: Output>(disk: &mut D, fault: OpenFault, output: &mut
     let OpenFault::Damaged { at, .. } = fault else {
         return;
     };
-    let Some(shape) = shape_on(disk) else {
+    let Ok(Some(shape)) = shape_on(disk) else {
         return;
     };
     let place = place_of(disk, shape, at);
+    print_line(output, at / BLOCK, place);
+}
+
+// Prints the place of a block, and sends the line.
+fn print_line<O: Output>(output: &mut O, block: u64, place: Place)
+    ensures { (sent : Result (Unit {0}) StreamFault) × IsDelivered (O.taken output.old) (O.failures output.old) (O.taken output.new) (O.failures output.new) (place_line block place) sent }
+{
     let mut reply = Reply::new(output);
-    print_place(&mut reply, at / BLOCK, place);
+    print_place(&mut reply, block, place);
     let _ = reply.finish();
 }
 

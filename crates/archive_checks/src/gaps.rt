@@ -18,7 +18,7 @@ use std::alloc::Global;
 const HEADER: u64 = 32;
 
 /// A disagreement between the two halves of a journal that no writing leaves.
-#[derive(Clone, Copy, Debug, PartialEq, Eq)]
+#[derive(Clone, Copy, PartialEq, Eq)]
 pub enum Gap {
     /// Both are open. This one has the lower generation, and that isn't the one before the other's.
     Generation { half: Half, is: u64, wants: u64 },

@@ -10,7 +10,7 @@ use journal_layout::Kind;
 use script_streams::{Output, Reply, print_no};
 
 /// The verdict on the image of a case.
-#[derive(Clone, Copy, Debug)]
+#[derive(Clone, Copy)]
 pub enum Verdict {
     /// Its headers and notes are sound.
     Sound,

@@ -1,6 +1,5 @@
 -- A text that goes on piece by piece.
-use Rattle.std.proofs.Common.{◌≡◌, ℕ, zero, suc, ◌+◌, List, [], ◌∷◌, ◌++◌, take, drop, Option, None, Some, refl, sym, ap, ◌∙◌, arith}
-use Rattle.std.specs.Io.KnownBytes.{Appends, Keeps, append_known}
+use Rattle.std.proofs.Common.{◌≡◌, ℕ, zero, suc, ◌+◌, List, [], ◌∷◌, ◌++◌, take, drop, refl, sym, ap, ◌∙◌, arith}
 
 take_none : (k : ℕ) → take {A = ℕ} k [] ≡ []
 take_none zero = refl
@@ -12,9 +11,3 @@ take_both (suc n) m [] = take_none (suc n + m) ∙ sym (take_none m)
 take_both (suc n) m (x ∷ xs) =
     let e : suc n + m ≡ suc (n + m) = omega arith in
     ap (λ (k : ℕ). take k (x ∷ xs)) e ∙ ap (λ (l : List ℕ). x ∷ l) (take_both n m xs)
-
--- what was appended has all
-pub appended_is : (a b : Option (List ℕ)) (bs : List ℕ) → Appends a b bs → Keeps (append_known a bs) b
-appended_is None b bs p = tt
-appended_is (Some x) None bs p = absurd p
-appended_is (Some x) (Some y) bs p = p

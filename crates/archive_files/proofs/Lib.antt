@@ -1,5 +1,4 @@
 pub mod DoneLemmas
-pub mod FrontLemmas
 pub mod HoldLemmas
 pub mod LookLemmas
 pub mod MakeLemmas

@@ -16,10 +16,11 @@ ghost use Rattle.whole_files.specs.Whole.{IsUnnamed, IsMade, IsWritten, IsWhole}
 use crate::archive_path::ArchivePath;
 use crate::failures::{Danger, FileWord, Refusal};
 use crate::making::format_over;
+use archive_checks::shape_on;
 use case_journal::settle;
 use diagnostics::Onlooker;
 use disk_model::{Disk, FileDisk, FileFault, HeldFile, Hold, OpenFile, RawFile};
-use journal_layout::{OpenFault, Shape};
+use journal_layout::{BLOCK, OpenFault, Shape};
 use std::alloc::Global;
 use std::fs::{File, Metadata};
 use std::os::unix::fs::FileExt;
@@ -31,7 +32,7 @@ use whole_files::{
 };
 
 /// The access to an archive. A command that only looks needs no right to write the file, and shares its lock.
-#[derive(Clone, Copy, Debug, PartialEq, Eq)]
+#[derive(Clone, Copy, PartialEq, Eq)]
 pub enum Access {
     Looking,
     Changing,
@@ -48,9 +49,7 @@ const LOCK_TRIES: u32 = 110;
 
 const TRY_MILLIS: u64 = 10;
 
-// The bytes of a block, and the most blocks of a half of a journal.
-const BLOCK: u64 = 4096;
-
+// The most blocks of a half of a journal.
 const MOST_HALF_BLOCKS: u32 = 4096;
 
 // The bytes of one write of zeros.
@@ -297,18 +296,13 @@ fn front_of<D: Disk>(disk: &mut D) -> Result<u64, FileFault>
     ensures journal { (s : Standing) → IsTrue (D.is_honest disk.old) → Stands (D.seen disk.old) s
         → IfOk result (λ n. n ≡ data_start s.shape) }
 {
-    let mut start = [0u8; 24];
-    if disk.length() < BLOCK {
-        return Ok(0);
+    match shape_on(disk) {
+        Ok(Some(shape)) => {
+            Ok(BLOCK * (1 + 2 * u64::from(shape.half_blocks.min(MOST_HALF_BLOCKS))))
+        }
+        Ok(None) => Ok(0),
+        Err(_) => Err(FileFault::Settle),
     }
-    let Ok(()) = disk.read_at(0, &mut start) else {
-        return Err(FileFault::Settle);
-    };
-    if !start[8..].starts_with(b"COREKEEP") {
-        return Ok(0);
-    }
-    let half_blocks = u32::from_le_bytes([start[16], start[17], start[18], start[19]]);
-    Ok(BLOCK * (1 + 2 * u64::from(half_blocks.min(MOST_HALF_BLOCKS))))
 }
 
 // Opens the file and takes its lock. Opening a pipe could wait for ever, so anything but a regular file is refused before. While

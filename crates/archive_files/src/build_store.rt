@@ -27,7 +27,7 @@ use std::rt::Files;
 use std::time::Clock;
 
 /// Why a file can't be stored under the name of its build.
-#[derive(Clone, Copy, Debug, PartialEq, Eq)]
+#[derive(Clone, Copy, PartialEq, Eq)]
 pub enum BuildFault {
     /// It has fewer bytes than was stated.
     Short,

@@ -208,7 +208,7 @@ fn copy_part<'a, R: Files<File = File>, D: Disk + Drop, W: Onlooker>(
         return (Err(refusal), from);
     }
     let mut from = from;
-    let Some(shape) = shape_on(&mut from) else {
+    let Ok(Some(shape)) = shape_on(&mut from) else {
         return (Err(refused(FileFault::Settle)), from);
     };
     let wish = wish_of(wanted, shape);

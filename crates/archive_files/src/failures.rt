@@ -39,10 +39,12 @@ pub enum Failure {
 }
 
 /// Which word of the command line names a file.
-#[derive(Clone, Copy, Debug, PartialEq, Eq)]
+#[derive(Clone, Copy, PartialEq, Eq)]
 pub enum FileWord {
     /// ARCHIVE, an archive that is there.
     Archive,
+    /// The archive of a handler, if nothing names one.
+    Unnamed,
     /// FILE, which is read.
     File,
     /// ARCHIVE, the file of a new archive.
@@ -67,6 +69,7 @@ impl FileWord {
     pub(crate) fn shown(self) -> &'static str {
         match self {
             FileWord::Archive | FileWord::NewArchive => "ARCHIVE",
+            FileWord::Unnamed => "no archive",
             FileWord::File | FileWord::NewFile => "FILE",
             FileWord::New => "NEW",
             FileWord::Made => "the new file",
@@ -89,12 +92,12 @@ impl FileWord {
 
     // Whether its file is to be made. Then the missing part, if there is one, is the directory.
     fn is_made(self) -> bool {
-        !matches!(self, FileWord::Archive | FileWord::File)
+        !matches!(self, FileWord::Archive | FileWord::Unnamed | FileWord::File)
     }
 }
 
 /// Why it isn't safe to put a file under the name that a word says.
-#[derive(Clone, Copy, Debug, PartialEq, Eq)]
+#[derive(Clone, Copy, PartialEq, Eq)]
 pub enum Danger {
     /// Another file is under that name, or under that of its .part.
     Exchanged,
@@ -105,7 +108,7 @@ pub enum Danger {
 }
 
 /// Which part of the command line is not UTF-8.
-#[derive(Clone, Copy, Debug, PartialEq, Eq)]
+#[derive(Clone, Copy, PartialEq, Eq)]
 pub enum WordPart {
     /// The VALUE of a pair, or NAME: `--escape` takes its bytes as they are.
     Value,
@@ -114,7 +117,7 @@ pub enum WordPart {
 }
 
 /// The reason in a line `no REASON`.
-#[derive(Clone, Copy, Debug, PartialEq, Eq)]
+#[derive(Clone, Copy, PartialEq, Eq)]
 pub enum Refusal {
     /// The words contradict one another.
     BadLine,
@@ -215,10 +218,14 @@ impl From<FormatFault> for Refusal {
 /// What is known of the file that a failure names.
 #[derive(Clone, Copy)]
 pub struct NamedFile<'a> {
-    /// Its path, or nothing: then the word for it on the command line is printed.
+    /// Its path as it is printed, so that a terminal acts on no byte of it, or nothing: then the word for it on the command line is printed.
     pub path: &'a str,
     /// The process that holds its lock.
     pub holder: Option<u32>,
+    /// A directory has this path.
+    pub is_folder: bool,
+    /// The words about waiting for a process that has it.
+    pub waiting: &'static str,
 }
 
 /// Prints why the program failed, and returns its status, which is 1.
@@ -307,8 +314,7 @@ fn unwritten_words(kind: io::ErrorKind) -> &'static str {
     }
 }
 
-// Prints what is said of the file that a word names, or of the one under its PATH.part: the path, so that a terminal acts on no byte of
-// it, and then the message, if there is one.
+// Prints what is said of the file that a word names, or of the one under its PATH.part: the path, and then the message, if there is one.
 fn print_named<E: Output>(
     word: FileWord,
     file: NamedFile<'_>,
@@ -324,7 +330,7 @@ fn print_named<E: Output>(
     if file.path.is_empty() {
         reply.print(word.shown().as_bytes());
     } else {
-        reply.print_bytes(file.path.as_bytes());
+        reply.print(file.path.as_bytes());
         if is_part {
             reply.print(b".part");
         }
@@ -338,7 +344,7 @@ fn print_named<E: Output>(
 fn print_in_words<E: Output>(alloc: Global, refusal: Refusal, file: NamedFile<'_>, errors: &mut E) {
     let text = match refusal {
         Refusal::File(word, fault) => {
-            if let Ok(message) = file_text(alloc, word, fault, file.holder) {
+            if let Ok(message) = file_text(alloc, word, fault, file) {
                 print_named(word, file, word.is_part(fault), message.as_str(), errors);
             }
             return;
@@ -361,19 +367,35 @@ fn print_in_words<E: Output>(alloc: Global, refusal: Refusal, file: NamedFile<'_
     let _ = write_whole(errors, text.as_bytes());
 }
 
+// The message if nothing names an archive, after `no archive`.
+const UNNAMED: &str = " is named: give --archive, or archive in the configuration";
+
+// The message if there is no archive, after its name.
+const NO_ARCHIVE: &str =
+    ": there is no such file: corekeep format ARCHIVE --half N --data N makes an archive";
+
 // Why the file of a word is refused, after its name.
 fn file_text(
     alloc: Global,
     word: FileWord,
     fault: FileFault,
-    holder: Option<u32>,
+    file: NamedFile<'_>,
 ) -> Result<String, AllocError> {
     if let FileWord::Named(_, number) = word {
         return named_text(alloc, number);
     }
-    match (fault, holder) {
+    let NamedFile { path, waiting, .. } = file;
+    match (fault, file.holder) {
+        _ if word == FileWord::Unnamed => String::from_str(alloc, UNNAMED),
+        (FileFault::Missing, _) if word == FileWord::Archive => {
+            String::from_str(alloc, NO_ARCHIVE)
+        }
         (FileFault::Exists, _) if word == FileWord::FolderPart => {
             String::from_str(alloc, " is there: an unpack was stopped; remove it")
+        }
+        (FileFault::Exists, _)
+            if file.is_folder && matches!(word, FileWord::NewArchive | FileWord::New) => {
+            format!(in alloc; ": it is a directory: name a file in it, such as {path}/archive")
         }
         (FileFault::Missing, _) if word.is_made() => {
             String::from_str(alloc, ": there is no such directory")
@@ -383,12 +405,9 @@ fn file_text(
             String::from_str(alloc, ": another process is making it")
         }
         (FileFault::Busy, Some(process)) => format!(in alloc;
-            ": process {process} is using it (without --no-wait, corekeep waits until it is done)"
+            ": process {process} is using it ({waiting})"
         ),
-        (FileFault::Busy, None) => String::from_str(
-            alloc,
-            ": another process is using it (without --no-wait, corekeep waits until it is done)",
-        ),
+        (FileFault::Busy, None) => format!(in alloc; ": another process is using it ({waiting})"),
         (fault, _) => format!(in alloc; ": {fault}"),
     }
 }

@@ -145,6 +145,8 @@ fn room_in<D: Disk>(taken: &mut Result<D, Refusal>) -> Option<u64>
     let Ok(disk) = taken else {
         return None;
     };
-    let shape = shape_on(disk)?;
+    let Ok(Some(shape)) = shape_on(disk) else {
+        return None;
+    };
     Some(u64::from(shape.data_blocks) * BLOCK)
 }

@@ -1,7 +1,7 @@
 -- The facts of an archive as the text of Prometheus and of OpenMetrics.
 use Rattle.std.specs.Prelude.{ℕ, ◌==◌, List, [], ◌∷◌, ◌++◌, Option, None, Some, codes, decimal, if◌then◌else◌}
 use Rattle.std.specs.List.{flat_map}
-use Rattle.archive_screens.specs.declared.archive.ArchiveFacts.{ArchiveFacts}
+use Rattle.case_tables.specs.declared.archive_screen.ArchiveFacts.{ArchiveFacts}
 use Rattle.outcome_counts.specs.Counters.{counters, outcome_word, reason_if_lost, reason_word}
 use Rattle.outcome_counts.specs.Counts.{count_of}
 use Rattle.outcome_counts.specs.declared.counters.Counter.{Counter}

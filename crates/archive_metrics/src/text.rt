@@ -4,7 +4,7 @@ ghost use Rattle.std.specs.List.{flat_map};
 ghost use Rattle.script_streams.specs.Replies.{PrintsText, printing};
 ghost use Rattle.archive_metrics.specs.Metrics.{handled_sample, handled_samples, handled_text, label_byte, metric_text, metrics_text, newest_text, reason_label, sample_text};
 
-use archive_screens::ArchiveFacts;
+use case_tables::ArchiveFacts;
 use outcome_counts::{ALL, Counter, Counts, Reason};
 use script_streams::{Output, Reply};
 

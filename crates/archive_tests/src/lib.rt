@@ -11,6 +11,8 @@ mod courses;
 #[cfg(test)]
 mod disks;
 #[cfg(test)]
+mod forgetful;
+#[cfg(test)]
 mod refused;
 #[cfg(test)]
 mod reopened;

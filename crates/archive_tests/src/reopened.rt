@@ -5,11 +5,11 @@ use intake::Archive;
 use std::alloc::Global;
 use std::test::Fail;
 
-// A case that was acknowledged: its number, and the seed of its image.
-type Acknowledged = Option<(u32, u8)>;
+/// A case that was acknowledged: its number, and the seed of its image.
+pub type Acknowledged = Option<(u32, u8)>;
 
-// Stores cases of long names, and deletes the one before each, until the disk fails. Answers the last that was acknowledged.
-fn store_each<D: Disk>(archive: &mut Archive<D>, seeds: &[u8]) -> Result<Acknowledged, Fail> {
+/// Stores cases of long names, and deletes the one before each, until the disk fails. Answers the last that was acknowledged.
+pub fn store_each<D: Disk>(archive: &mut Archive<D>, seeds: &[u8]) -> Result<Acknowledged, Fail> {
     let mut last = None;
     for seed in seeds {
         let Ok(seq) = store(archive, &[*seed; 128], *seed, 5)? else {
@@ -23,15 +23,15 @@ fn store_each<D: Disk>(archive: &mut Archive<D>, seeds: &[u8]) -> Result<Acknowl
     Ok(last)
 }
 
-// Whether a case that was acknowledged is there.
-fn is_there<D: Disk>(archive: &mut Archive<D>, case: Acknowledged) -> bool {
+/// Whether a case that was acknowledged is there.
+pub fn is_there<D: Disk>(archive: &mut Archive<D>, case: Acknowledged) -> bool {
     match case {
         Some((seq, seed)) => has_image(archive, seq, seed, 5),
         None => true,
     }
 }
 
-static FIRST: [u8; 24] = [
+pub static FIRST: [u8; 24] = [
     1, 2, 3, 4, 5, 6, 7, 8, 9, 10, 11, 12, 13, 14, 15, 16, 17, 18, 19, 20, 21, 22, 23, 24,
 ];
 
@@ -57,12 +57,12 @@ fn store_over(alloc: Global, archive: Archive<CachedDisk>) -> Result<(), Fail> {
     Ok(())
 }
 
-// Stores the other cases. Answers the last of them, and the disk.
-fn store_anew(
+/// Stores the other cases. Answers the last of them, and the disk.
+pub fn store_anew<D: Disk + Drop>(
     alloc: Global,
-    disk: CachedDisk,
+    disk: D,
     first: Acknowledged,
-) -> Result<(Acknowledged, CachedDisk), Fail> {
+) -> Result<(Acknowledged, D), Fail> {
     let mut archive = opened(alloc, disk)?;
     let later = store_after(&mut archive, first)?;
     Ok((later, archive.close()))

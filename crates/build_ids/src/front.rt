@@ -13,7 +13,7 @@ const FILE_HEADER: u64 = 64;
 const PROGRAM_HEADER: u64 = 56;
 
 /// The first bytes of an image that are at hand don't determine its build ID.
-#[derive(Clone, Copy, Debug, PartialEq, Eq)]
+#[derive(Clone, Copy, PartialEq, Eq)]
 pub struct ShortFront {
     /// How many first bytes are wanted. Once they are at hand, more may be.
     pub wanted: u64,

@@ -11,7 +11,7 @@ use elf_view::{part, u32_at};
 const NT_GNU_BUILD_ID: u32 = 3;
 
 /// A note (System V gABI, "Note Section").
-#[derive(Clone, Copy, Debug)]
+#[derive(Clone, Copy)]
 pub(crate) struct Note<'a> {
     /// Its name, with each NUL.
     pub name: &'a [u8],

@@ -3,7 +3,7 @@ ghost use Rattle.std.specs.Prelude.{◌≡◌, ◌<◌, ◌+◌, ◌^◌};
 ghost use Rattle.build_ids.specs.Notes as spec;
 
 /// To how many bytes a note's descriptor, and the note after it, are padded (System V gABI, "Note Section").
-#[derive(Clone, Copy, Debug, PartialEq, Eq)]
+#[derive(Clone, Copy, PartialEq, Eq)]
 pub enum Padding {
     /// Their places are multiples of four.
     Four,

@@ -23,7 +23,7 @@ use script_streams::{Output, Reply, print_no, print_ok};
 use std::alloc::Global;
 
 /// A line's question about a core's mapped files.
-#[derive(Clone, Copy, Debug)]
+#[derive(Clone, Copy)]
 pub enum BuildsAsked<'c> {
     /// `NAME CORE STORED VERDICT` for each. CORE is the build ID of the front of the file, as far as
     /// the core has it. STORED is that of the executable that is stored for the file, used or not.

@@ -16,7 +16,7 @@ use elf_view::{Elf, Want};
 use std::alloc::{AllocError, Global};
 
 /// The stored executable that belongs to a mapped file.
-#[derive(Clone, Copy, Debug)]
+#[derive(Clone, Copy)]
 pub enum ChosenFile<'a> {
     /// The one that is stored under the name of its build.
     ByBuild(Attached<'a>),

@@ -19,7 +19,7 @@ use core_notes::{FileMap, Files};
 use std::alloc::{AllocError, Global};
 
 /// The place of the front of a mapped file, as far as the core has it.
-#[derive(Clone, Copy, Debug)]
+#[derive(Clone, Copy)]
 pub struct FrontPlace<'a> {
     /// The file's name.
     pub path: &'a [u8],

@@ -16,7 +16,7 @@ use address_space::Attached;
 use script_streams::{Output, Reply};
 
 /// A case, by its number and its name.
-#[derive(Clone, Copy, Debug)]
+#[derive(Clone, Copy)]
 pub struct NumberedCase<'n> {
     /// Its number.
     pub number: u32,

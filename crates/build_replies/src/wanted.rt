@@ -13,7 +13,7 @@ use build_ids::has_name;
 use std::alloc::{AllocError, Global};
 
 /// A build that a core wants.
-#[derive(Clone, Copy, Debug)]
+#[derive(Clone, Copy)]
 pub struct WantedBuild<'r> {
     /// The name of the first mapped file of that build for which no executable is used.
     pub name: &'r [u8],

@@ -6,7 +6,6 @@ use Rattle.std.proofs.lemmas.List.{length-drop}
 use Rattle.std.proofs.lemmas.List.Sums.{position_or_len_is}
 use Rattle.std.proofs.Math.Pow.{pow_mono}
 use Rattle.std.specs.List.{position, position_or_len}
-use Rattle.std.proofs.Math.Seq.{drop-cons}
 use Rattle.call_frames.specs.Leb.{groups, is_last}
 
 -- a power of 128 as one of 2
@@ -18,11 +17,6 @@ pub groups_small : (xs : List ℕ) → groups xs < 2 ^ (7 * length xs)
 groups_small [] = lit< tt
 groups_small (x ∷ xs) =
     let less = groups_small xs in rw (seven (length xs)) (omega arith)
-
--- one more group
-pub groups_step : (xs : List ℕ) (i : ℕ) → i < length xs → groups (drop i xs) ≡ get_or xs i 0 % 128 + 128 * groups (drop (i + 1) xs)
-groups_step xs i h =
-    let up : suc i ≡ i + 1 = omega arith in ap groups (drop-cons xs i 0 h) ∙ ap (λ k. get_or xs i 0 % 128 + 128 * groups (drop k xs)) up
 
 -- at most ten groups from some place on
 pub groups_fit : (xs : List ℕ) (i : ℕ) → i ≤ length xs → length xs ≤ 10 → groups (drop i xs) < 2 ^ (7 * (length xs - i))

@@ -17,7 +17,7 @@ use elf_view::Elf;
 use std::alloc::{AllocError, Global};
 
 /// The call frame information of an image: the FDEs of `.eh_frame` and of `.debug_frame`, to be found by address.
-#[derive(Debug, Drop)]
+#[derive(Drop)]
 pub struct CallFrames<'a> {
     eh_frame: Indexed<'a>,
     debug_frame: Indexed<'a>,

@@ -10,7 +10,7 @@ use crate::faults::CfiField;
 use crate::leb::{sized, sleb, uleb};
 
 /// Which of the two formats the entries of a section have.
-#[derive(Clone, Copy, Debug, PartialEq, Eq)]
+#[derive(Clone, Copy, PartialEq, Eq)]
 pub(crate) enum Format {
     /// That of `.eh_frame` (LSB Core, "Exception Frames").
     EhFrame,
@@ -19,7 +19,7 @@ pub(crate) enum Format {
 }
 
 /// The fields of a CIE for the FDEs that belong to it.
-#[derive(Clone, Copy, Debug)]
+#[derive(Clone, Copy)]
 pub struct Cie<'a> {
     /// code_alignment_factor: advances of the location are multiples of it.
     pub code_align: u64,
@@ -38,7 +38,7 @@ pub struct Cie<'a> {
 }
 
 /// The fields up to the alignment factors.
-#[derive(Clone, Copy, Debug)]
+#[derive(Clone, Copy)]
 struct Head<'a> {
     version: u8,
     letters: &'a [u8],
@@ -46,7 +46,7 @@ struct Head<'a> {
 }
 
 /// The alignment factors and the return address register.
-#[derive(Clone, Copy, Debug)]
+#[derive(Clone, Copy)]
 struct Factors<'a> {
     code_align: u64,
     data_align: u64,
@@ -55,7 +55,7 @@ struct Factors<'a> {
 }
 
 /// The augmentation data.
-#[derive(Clone, Copy, Debug)]
+#[derive(Clone, Copy)]
 struct Data<'a> {
     encoding: u8,
     rest: &'a [u8],

@@ -14,7 +14,7 @@ use crate::spots::Spot;
 use elf_view::{part, u32_at};
 
 /// A section of call frame information.
-#[derive(Clone, Copy, Debug)]
+#[derive(Clone, Copy)]
 pub(crate) struct Table<'a> {
     /// How its entries are written.
     pub(crate) format: Format,
@@ -25,7 +25,7 @@ pub(crate) struct Table<'a> {
 }
 
 /// A Frame Description Entry with its CIE.
-#[derive(Clone, Copy, Debug)]
+#[derive(Clone, Copy)]
 pub struct Entry<'a> {
     /// Its number among the entries of its section, from 0 on.
     pub index: u64,

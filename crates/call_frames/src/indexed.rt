@@ -15,7 +15,7 @@ use crate::walk::{first_fault, sound_entry};
 use std::alloc::{AllocError, Global};
 
 /// A table with its FDEs, to be found by address.
-#[derive(Debug, Drop)]
+#[derive(Drop)]
 pub(crate) struct Indexed<'a> {
     table: TableData<'a>,
     spans: Vec<Span>,

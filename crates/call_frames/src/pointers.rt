@@ -8,7 +8,7 @@ ghost use Rattle.call_frames.specs.ReadWords.{bytes_of};
 use elf_view::{u16_at, u32_at, u64_at};
 
 /// How many bytes a pointer has.
-#[derive(Clone, Copy, Debug)]
+#[derive(Clone, Copy)]
 pub(crate) enum Width {
     Two,
     Four,

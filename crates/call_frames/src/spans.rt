@@ -11,7 +11,7 @@ use crate::walk::Entries;
 use std::alloc::{AllocError, Global};
 
 /// The spot of an FDE, and the addresses that it describes.
-#[derive(Clone, Copy, Debug)]
+#[derive(Clone, Copy)]
 pub(crate) struct Span {
     /// The first address that it describes.
     pub(crate) begin: u64,

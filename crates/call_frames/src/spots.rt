@@ -7,7 +7,7 @@ use crate::entries::rest_at;
 use elf_view::u32_at;
 
 /// The place of an entry in its table.
-#[derive(Clone, Copy, Debug)]
+#[derive(Clone, Copy)]
 pub(crate) struct Spot {
     /// Its number, from 0 on.
     pub(crate) index: u64,
@@ -16,7 +16,7 @@ pub(crate) struct Spot {
 }
 
 /// The spots of the entries of a table.
-#[derive(Clone, Copy, Debug)]
+#[derive(Clone, Copy)]
 pub(crate) struct Spots<'a> {
     bytes: &'a [u8],
     index: u64,

@@ -8,7 +8,7 @@ use crate::entries::Table;
 use section_data::SectionBytes;
 
 /// A section of call frame information, with its bytes or a slice of the file.
-#[derive(Debug, Drop)]
+#[derive(Drop)]
 pub(crate) struct TableData<'a> {
     /// How its entries are written.
     pub(crate) format: Format,

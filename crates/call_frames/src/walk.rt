@@ -11,7 +11,7 @@ use crate::faults::CfiFault;
 use crate::spots::{Spot, Spots};
 
 /// The FDEs of a table that have no fault, in its order.
-#[derive(Clone, Copy, Debug)]
+#[derive(Clone, Copy)]
 pub(crate) struct Entries<'a> {
     table: Table<'a>,
     spots: Spots<'a>,

@@ -19,7 +19,7 @@ use unlocked_reading::{AskFault, UnlockedFault, stay};
 const PIECE: usize = 131_072;
 
 /// The SHA-256 (FIPS 180-4) of an image, and how many bytes it has.
-#[derive(Clone, Copy, Debug, PartialEq, Eq)]
+#[derive(Clone, Copy, PartialEq, Eq)]
 pub struct ImageDigest {
     pub sha256: [u8; 32],
     pub length: u64,

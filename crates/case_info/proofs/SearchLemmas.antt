@@ -6,8 +6,8 @@ use Rattle.std.proofs.lemmas.Option.{get_or_from_slice_get, none-some, slice_get
 use Rattle.std.specs.List.Sorted.{IsNonDecreasingBy}
 use Rattle.address_space.specs.Source.{ExecutableView}
 use Rattle.build_replies.specs.Builds.{NamedId, told_of, told_or_none}
-use Rattle.case_memory.specs.Reading.{IsOnlyRead}
-use Rattle.case_memory.proofs.ReadingLemmas.{read_none}
+use Rattle.core_crashes.specs.CaseReading.{IsOnlyRead}
+use Rattle.core_crashes.proofs.CaseReadingLemmas.{read_none}
 use Rattle.case_queries.specs.Collecting.{Collects, CollectsAll, Wanted, debugs_by, wanted_by}
 use Rattle.case_queries.specs.CollectingWords.{executable_view, read_as}
 use Rattle.case_queries.specs.Facts.{AreFramesOf, SaysFacts}

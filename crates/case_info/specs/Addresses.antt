@@ -18,7 +18,7 @@ use Rattle.journal_layout.specs.Case.{Case}
 use Rattle.journal_layout.specs.declared.entry.Kind.{Kind}
 use Rattle.journal_layout.specs.declared.entry.Kind.TheVariants.{Core, Exec}
 use Rattle.journal_layout.specs.declared.faults.OpenFault.{OpenFault}
-use Rattle.register_places.specs.Places.{Place, address_in}
+use Rattle.case_screens.specs.RegisterPlaces.{Place, address_in}
 
 -- by the state of a thread, if it is there
 abbrev pub address_of_thread : Option (List ℕ) → Place → Result ℕ reasons.Reason

@@ -2,9 +2,9 @@
 use Rattle.std.specs.Prelude.{◌≡◌, ◌-◌, ℕ, Result, Ok, Err}
 use Rattle.archive_files.specs.declared.failures.Refusal.{Refusal}
 use Rattle.archive_files.specs.declared.failures.Refusal.TheVariants.{Open}
-use Rattle.archive_screens.specs.Days.{cores_by_day}
-use Rattle.archive_screens.specs.Tally.{tally_of}
-use Rattle.archive_screens.specs.declared.archive.ArchiveFacts.{ArchiveFacts}
+use Rattle.case_tables.specs.DayBars.{cores_by_day}
+use Rattle.case_tables.specs.Tally.{tally_of}
+use Rattle.case_tables.specs.declared.archive_screen.ArchiveFacts.{ArchiveFacts}
 use Rattle.case_journal.specs.Opening.{journal_of}
 use Rattle.case_journal.specs.Viewing.{ShowsOpening}
 use Rattle.case_journal.specs.declared.open.Opened.{Opened}

@@ -2,7 +2,7 @@
 use Rattle.std.specs.Prelude.{◌≡◌, ◌++◌, ◌≤◌, ◌<◌, ℕ, List, [], ◌∷◌, length, map, take, Option, None, Some, Ok}
 use Rattle.address_space.specs.Source.{ExecutableView}
 use Rattle.build_replies.specs.Builds.{NamedId}
-use Rattle.case_memory.specs.Reading.{IsOnlyRead}
+use Rattle.core_crashes.specs.CaseReading.{IsOnlyRead}
 use Rattle.case_queries.specs.Collecting.{Collects}
 use Rattle.case_queries.specs.CollectingWords.{executable_view, read_as}
 use Rattle.case_queries.specs.Facts.{SaysFacts}

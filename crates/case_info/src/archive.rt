@@ -4,9 +4,8 @@ ghost use Rattle.extents.specs.FreeSet.{free_count};
 
 use crate::printing::{shown, write_json, write_text};
 use archive_files::{ArchivePath, Collected, Failure, Refusal, take_look};
-use archive_screens::{ArchiveFacts, archive_json, cores_by_day, print_archive_screen, tally_of};
 use case_journal::{Journal, Opened};
-use case_tables::Zone;
+use case_tables::{ArchiveFacts, Zone, archive_json, cores_by_day, print_archive_screen, tally_of};
 use disk_model::Disk;
 use script_streams::{Output, Reply};
 use std::alloc::Global;

@@ -33,7 +33,7 @@ use std::time::Clock;
 use unlocked_reading::{Places, Reads, find_cases, stay};
 
 /// The request that the words of `info` make.
-#[derive(Clone, Copy, Debug)]
+#[derive(Clone, Copy)]
 pub struct InfoWords {
     /// The frames of each thread are shown, in a text those of the first 256.
     pub all_threads: bool,

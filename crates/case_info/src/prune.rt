@@ -20,7 +20,7 @@ use std::rt::Files;
 use std::time::Clock;
 
 /// The request that the words of `prune` make.
-#[derive(Clone, Copy, Debug)]
+#[derive(Clone, Copy)]
 pub struct PruneWords {
     /// The limits for the cores. Without a limit no core goes.
     pub policy: Policy,

@@ -38,7 +38,7 @@ const TRIES: usize = 3;
 const FORMS: [&str; 1] = ["<name:text> <id:digits>"];
 
 /// How the builds are printed.
-#[derive(Clone, Copy, Debug)]
+#[derive(Clone, Copy)]
 pub struct WantsWords {
     /// Their IDs alone are printed, and then `ok`.
     pub ids_alone: bool,

@@ -15,10 +15,13 @@ use crate::gathered::{debug_files_of, executables_of, refusal_of, told_of};
 use crate::printing::{refusal_reply, write_text};
 use address_space::AddressSpace;
 use archive_files::{ArchivePath, Collected, Failure, Refusal, take_look, unasked};
-use case_listing::latest_time;
-use case_memory::words_in_case;
+use case_listing::{latest_time, send_plain};
 use case_queries::{CaseImage, StoredExecutable, ToldFiles, chosen_executables, core_facts};
-use case_screens::{Reason, core_reason, file_place, frame_file, no_thread, thread_count};
+use case_screens::{
+    Reason, RegisterPlace, WordMemory, core_reason, file_place, frame_file, no_thread,
+    print_register, print_word, register_place, thread_count,
+};
+use core_crashes::words_in_case;
 use core_notes::Files as MappedFiles;
 use disk_model::Disk;
 use elf_view::Want;
@@ -27,8 +30,6 @@ use image_replies::CoreImage;
 use intake::{Archive, Settings};
 use journal_layout::Kind;
 use memory_replies::{NamedExecutable, is_out_of_range, named_executables, space_with};
-use plain_replies::send_plain;
-use register_places::{RegisterPlace, register_place};
 use script_streams::{Output, Reply, print_ok};
 use script_words::{parse_case_number, parse_number};
 use shared_disk::{Looked, SharedDisk};
@@ -38,7 +39,6 @@ use std::rt::Files;
 use std::time::Clock;
 use thread_regs::{Reg, threads};
 use unlocked_reading::{Places, Reads, find_cases, stay};
-use word_rows::{WordMemory, print_register, print_word};
 
 // The refusal of memory that ends past the last address, or is too long.
 const RANGE: Reason<'static> = Reason {
@@ -121,7 +121,7 @@ fn place_in(word: &str) -> Option<DumpedPlace> {
 }
 
 /// Prints the answer to a line about a core, from a look at the archive, by the executables that are stored for the core. Words of its memory: a row
-/// for each eight bytes, with the target that they point to (`print_word` of `word_rows`); bytes after the last whole word are left out. The registers
+/// for each eight bytes, with the target that they point to (`print_word` of `case_screens`); bytes after the last whole word are left out. The registers
 /// of a thread: a row for each, with the target that it points to (`print_register`). The frames of a thread: the rows of the script's reply, but a
 /// frame without a function has its file's last component and its place in the file, if a file is mapped there. Why a line is refused is printed as
 /// the script's reply says it.

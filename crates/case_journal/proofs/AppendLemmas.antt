@@ -1,9 +1,9 @@
 -- What the append of a case makes of a journal, and what refuses it.
-use Rattle.std.proofs.Common.{◌≡◌, inl, inr, ℕ, ◌+◌, ◌^◌, ◌<◌, ◌∙◌, true, false, nat_lt, Bor, List, [], map, length, refl, ap, subst, ⊎_elim, Ok, Err, arith}
-use Rattle.std.proofs.lemmas.Bool.{ltb-true, ltb-false}
+use Rattle.std.proofs.Common.{◌≡◌, inl, inr, ℕ, ◌+◌, ◌^◌, ◌<◌, ◌∙◌, false, nat_lt, Bor, List, [], map, length, ap, ⊎_elim, Ok, Err, arith}
+use Rattle.std.proofs.lemmas.Bool.{ltb-false}
 use Rattle.std.proofs.lemmas.List.{append-nil}
 use Rattle.journal_layout.specs.declared.entry.Entry.{Entry}
-use Rattle.journal_layout.specs.Case.{Case, case_of, numbered}
+use Rattle.journal_layout.specs.Case.{case_of, numbered}
 use Rattle.journal_layout.specs.Layout.{half_length}
 use Rattle.journal_layout.specs.Record.{Record, Store, record_size, spelling}
 use Rattle.journal_layout.specs.SpellLaws.{length-spelling}
@@ -17,10 +17,8 @@ use Rattle.journal_snapshot.specs.Measuring.{snapshot_bytes}
 use Rattle.journal_snapshot.specs.Writing.{written_case, written_added}
 use Rattle.case_journal.specs.declared.faults.JournalFault.{JournalFault}
 use Rattle.case_journal.specs.declared.faults.JournalFault.TheVariants.{Stopped, JournalFull, NumbersSpent, OutOfMemory, Disk, OldVersion}
-use Rattle.case_journal.specs.Journaled.{Journaled}
-use Rattle.case_journal.specs.Append.{RecordFits, StoreRefused}
-use Rattle.case_journal.specs.Compacting.{MeasuresSnapshot, noted}
-use Rattle.case_journal.specs.Entering.{PutStep}
+use Rattle.case_journal.specs.Append.{RecordFits}
+use Rattle.case_journal.specs.Compacting.{MeasuresSnapshot}
 use Rattle.case_journal.specs.Putting.{DecidesFit}
 
 -- The room of a case, whose number takes no part in it.
@@ -51,29 +49,3 @@ module _ (s : Standing) (es : List Entry) (b : Bor Entry) (same : s.cases ≡ ma
 
   pub measure_snapshot_is : (m : Measure) → MeasuresSnapshot s.shape s.generation (change.Store 0 b) es (Ok m) → RecordFits s stored
   measure_snapshot_is m found = inr (omega (arith, found.0.0, found.0.1, size_is), found.1)
-
-pub fits_after_records_is : (s : Standing) (r : Record) (size : ℕ) → size ≡ record_size r → nat_lt (s.used + size) (half_length s.shape) ≡ true → RecordFits s r
-fits_after_records_is s r size is fit = let low = ltb-true (s.used + size) (half_length s.shape) fit in inl (omega (arith, low, is))
-
--- no room is found
-pub store_refused : (j : Journaled) (c : Case) (f : JournalFault) → j.stopped ≡ false → DecidesFit j.standing (store_of j.standing c) (Err f) → StoreRefused j c f j
-store_refused j c JournalFull runs in_half = (runs, in_half, refl)
-store_refused j c Stopped runs in_half = absurd in_half
-store_refused j c NumbersSpent runs in_half = absurd in_half
-store_refused j c OutOfMemory runs in_half = absurd in_half
-store_refused j c Disk runs in_half = absurd in_half
-store_refused j c OldVersion runs in_half = absurd in_half
-
--- the record is not written
-pub put_refused : (j : Journaled) (c : Case) (seq : ℕ) (f : JournalFault) → j.stopped ≡ false → j.standing.next < 2 ^ 32 → seq ≡ j.standing.next → PutStep j.standing (Store (numbered seq c)) (Err f)
-    → StoreRefused j c f (noted f j)
-put_refused j c seq f runs left number step =
-    of f (subst (λ (n : ℕ). PutStep j.standing (Store (numbered n c)) (Err f)) number step)
-  where
-    of : (f : JournalFault) → PutStep j.standing (store_of j.standing c) (Err f) → StoreRefused j c f (noted f j)
-    of JournalFull step = (runs, step, refl)
-    of OutOfMemory step = (runs, step, left, refl)
-    of Disk step = (runs, step, left, refl)
-    of Stopped step = absurd step
-    of NumbersSpent step = absurd step
-    of OldVersion step = absurd step

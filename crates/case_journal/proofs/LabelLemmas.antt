@@ -1,5 +1,5 @@
 -- What the append of a label and an upgrade make of a journal, and what refuses them.
-use Rattle.std.proofs.Common.{◌≡◌, inl, inr, ◌⊎◌, ◌∙◌, ℕ, Bool, List, false, IsTrue, Result, Ok, Err, refl, ap}
+use Rattle.std.proofs.Common.{◌≡◌, inl, inr, ◌⊎◌, ◌∙◌, ℕ, Bool, List, false, IsTrue, Ok, Err, refl, ap}
 use Rattle.disk_model.specs.Moments.{LeavesOnly}
 use Rattle.disk_model.specs.MomentLaws.{started}
 use Rattle.disk_model.specs.declared.disk.Disk as disk
@@ -14,23 +14,13 @@ use Rattle.case_journal.specs.declared.faults.JournalFault.{JournalFault}
 use Rattle.case_journal.specs.declared.faults.JournalFault.TheVariants.{Stopped, JournalFull, NumbersSpent, OutOfMemory, Disk, OldVersion}
 use Rattle.case_journal.specs.Journaled.{Journaled, running}
 use Rattle.case_journal.specs.Keeping.{Keeps}
-use Rattle.case_journal.specs.Append.{MayFollow, MayLabel, AppendStep, LabelStep}
+use Rattle.case_journal.specs.Append.{MayFollow, MayLabel}
 use Rattle.case_journal.specs.Compacting.{SnapshotStep, UpgradeStep, anew_in_two, moved, noted}
 use Rattle.case_journal.specs.Entering.{in_two}
 
 -- the record of a label that a case may get may follow, in version 2
 pub label_follows : (s : Standing) (seq : ℕ) (text : List ℕ) → AreLive s.shape.data_blocks s.cases s.next → s.version ≡ 2 → MayLabel s seq text → MayFollow s (Label seq text)
 label_follows s seq text live two may = label_sound s.shape.data_blocks (folded_of s) seq text live two may.0 may.1
-
--- in version 2 the append of a label is that of its record
-pub label_appended : (old new : Journaled) (seq : ℕ) (text : List ℕ) (r : Result (Unit {0}) JournalFault) → old.standing.version ≡ 2 → AppendStep old (Label seq text) r new → LabelStep old seq text r new
-label_appended old new seq text (Ok u) two step = (two, step)
-label_appended old new seq text (Err Stopped) two step = step
-label_appended old new seq text (Err JournalFull) two step = (two, step)
-label_appended old new seq text (Err NumbersSpent) two step = (two, step)
-label_appended old new seq text (Err OutOfMemory) two step = (two, step)
-label_appended old new seq text (Err Disk) two step = (two, step)
-label_appended old new seq text (Err OldVersion) two step = absurd step
 
 module _ (j : Journaled) (runs : j.stopped ≡ false) (one : j.standing.version ≡ 1) where
   -- an upgrade that is refused

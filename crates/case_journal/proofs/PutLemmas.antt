@@ -1,5 +1,5 @@
 -- A record that is put, after the others or in the other half, and what an append makes of a journal then.
-use Rattle.std.proofs.Common.{◌≡◌, ◌⊎◌, inl, inr, ⊎_elim, cond, ◌+◌, ◌*◌, ◌<◌, ◌≤◌, ◌^◌, ◌∙◌, ℕ, Bool, true, false, List, IsTrue, Result, Ok, Err, OnOk, IfOk, length, refl, sym, ap, subst, arith}
+use Rattle.std.proofs.Common.{◌≡◌, ◌⊎◌, inl, inr, ⊎_elim, cond, ◌+◌, ◌*◌, ◌<◌, ◌≤◌, ◌^◌, ◌∙◌, ℕ, Bool, true, false, List, IsTrue, Result, Ok, Err, OnOk, length, refl, sym, ap, subst, arith}
 use Rattle.std.proofs.lemmas.Bool.{ltb-true, ltb-false, false≢true}
 use Rattle.disk_model.specs.Moments.{LeavesOnly, IsSettled}
 use Rattle.disk_model.specs.Places.{part}
@@ -103,11 +103,6 @@ module _ (s : Standing) (r : Record) where
     doubts = λ honest. doubts (sym honesty ∙ honest);
   }
   kept_in_other_half g old new (Err f) e size honesty holds doubts = tt
-
--- the next record goes after a header then
-pub put_lies : (s : Standing) (r : Record) (res : Result JournalEnd JournalFault) → 32 ≤ s.used → PutStep s r res → IfOk res (λ (p : JournalEnd). 32 ≤ p.used)
-put_lies s r (Ok p) header step = (place_lies s r p header step.0 step.1).0
-put_lies s r (Err f) header step = tt
 
 -- an append that is refused, or that did what it says
 module _ (j : Journaled) (runs : j.stopped ≡ false) where

@@ -1,5 +1,5 @@
 -- Whether a record has room in a journal.
-use Rattle.std.proofs.Common.{◌≡◌, ⊎_elim, ℕ, ◌+◌, ◌-◌, ◌≤◌, Bool, true, false, List, map, Some, None, sym, ap, ◌∙◌, arith}
+use Rattle.std.proofs.Common.{◌≡◌, ⊎_elim, ℕ, ◌+◌, ◌-◌, ◌≤◌, Bool, false, List, map, Some, None, sym, ap, ◌∙◌, arith}
 use Rattle.std.specs.Prelude.{◌||◌, nat_lt}
 use Rattle.std.proofs.lemmas.Bool.{cases_Bool, lt-ltb, le-ltb}
 use Rattle.std.proofs.lemmas.Bool.{ltb-true, ltb-false}
@@ -38,7 +38,3 @@ module _ (s : Standing) (es : List Entry) (size : ℕ) (same : s.cases ≡ map c
   pub room_none : nat_lt (s.used + size) (half_length s.shape) ≡ false → IsMeasure half change.Nothing es None → false ≡ has_room s size
   room_none full measure =
       anew false full (sym (le-ltb (snapshot_size (folded_of s) + size) (half_length s.shape) (let e = bytes_are in omega (arith, e, measure, half_is))))
-
--- after the records
-pub room_behind : (s : Standing) (size : ℕ) → nat_lt (s.used + size) (half_length s.shape) ≡ true → true ≡ has_room s size
-room_behind s size fits = sym (ap (λ (b : Bool). b || nat_lt (snapshot_size (folded_of s) + size) (half_length s.shape)) fits)

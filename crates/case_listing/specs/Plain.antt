@@ -3,7 +3,7 @@ use Rattle.std.specs.Prelude.{◌≡◌, ℕ, List, Option, Result, Ok, Err}
 use Rattle.archive_files.specs.declared.failures.Failure.{Failure}
 use Rattle.archive_files.specs.declared.failures.Failure.TheVariants.{Faulted}
 use Rattle.inspector_cli.specs.declared.session.SessionFault.TheVariants.{WriteFailed}
-use Rattle.plain_replies.specs.Plain.{plain_of}
+use Rattle.case_listing.specs.PlainText.{plain_of}
 use Rattle.script_streams.specs.Printing.{IsDelivered}
 use Rattle.script_streams.specs.declared.streams.StreamFault.{StreamFault}
 

@@ -1,8 +1,8 @@
 // The reply to `dump` as people read it: after the bytes of each row they stand as text.
+use crate::print_plain;
 use archive_files::Failure;
 use arrayvec::ArrayVec;
 use case_tables::print_spaces;
-use plain_replies::print_plain;
 use script_streams::{Output, Reply};
 use script_words::{Words, decode_hex};
 

@@ -3,10 +3,10 @@ ghost use Rattle.case_listing.specs.Plain.{DeliversPlain};
 
 use crate::case_words::{NamedLine, ask_case};
 use crate::dump::deliver_dump;
+use crate::send_plain;
 use archive_files::{ArchivePath, Collected, Failure, ask};
 use diagnostics::Onlooker;
 use inspector_cli::SessionFault;
-use plain_replies::send_plain;
 use script_lines::Question;
 use script_streams::Output;
 use std::fs::File;

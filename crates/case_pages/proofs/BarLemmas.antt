@@ -1,7 +1,5 @@
 -- The bars of a plot.
-use Rattle.std.proofs.Common.{◌≡◌, ◌<◌, ◌≤◌, ◌+◌, ◌-◌, ◌/◌, max, ◌==◌, ◌&&◌, ◌||◌, ◌++◌, ◌∷◌, [], ℕ, zero, suc, Bool, true, false, List, filter, length, nat_le, nat_lt, if◌then◌else◌, ap, refl, sym, ◌∙◌, arith}
-use Rattle.std.proofs.Math.Nat.{div-mul-le_self, le_trans}
-use Rattle.std.proofs.lemmas.Nat.{le-div}
+use Rattle.std.proofs.Common.{◌≡◌, ◌<◌, ◌≤◌, ◌+◌, ◌-◌, ◌/◌, ◌==◌, ◌&&◌, ◌||◌, ◌++◌, ◌∷◌, [], ℕ, zero, suc, Bool, true, false, List, filter, length, nat_le, nat_lt, if◌then◌else◌, refl, sym, ◌∙◌, arith}
 use Rattle.std.specs.List.{sum}
 use Rattle.std.proofs.lemmas.List.Sums.{sum_by-append}
 use Rattle.case_pages.specs.Bars.{bars, height, is_among, is_in_bar}
@@ -40,17 +38,3 @@ each_in_one step first (suc n) ts =
     let r = each_in_one step first n ts in
     let s = split step first n ts in
     omega (arith, h, r, s)
-
--- a later time has as many whole steps before it, or more
-pub steps_grow : (k a b : ℕ) → 0 < k → a ≤ b → a / k ≤ b / k
-steps_grow k a b some order = le-div (a / k) b k some (le_trans (div-mul-le_self a k) order)
-
--- the bar q is one of those from the first of `old` and of the last 60 on, up to the last
-pub among_all : (old q last first count : ℕ) → first ≡ max old (last - 59) → count ≡ last - first + 1 → last - old < 60 → old ≤ q → q ≤ last → nat_le first q && nat_lt q (first + count) ≡ true
-among_all old q last first count e c fits before within = grind (arith, e, c, fits, before, within)
-
-pub last_among : (old last first count : ℕ) → first ≡ max old (last - 59) → count ≡ last - first + 1 → old ≤ last → nat_le first last && nat_lt last (first + count) ≡ true
-last_among old last first count e c order = grind (arith, e, c, order)
-
-pub few_bars : (old last first count : ℕ) → first ≡ max old (last - 59) → count ≡ last - first + 1 → count ≤ 60
-few_bars old last first count e c = grind (arith, e, c)

@@ -2,7 +2,7 @@
 use crate::groups::put_groups;
 use crate::plot::put_plot;
 use crate::texts::{open, put, put_decimal, put_time};
-use archive_screens::tally_of;
+use case_tables::tally_of;
 use group_tables::GroupRow;
 use html_pages::{Page, Tag};
 use journal_layout::{Entry, Kind};

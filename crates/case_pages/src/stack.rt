@@ -27,7 +27,7 @@ const FRAMES: usize = 24;
 const ZEROS: u64 = 2;
 
 /// The addresses that a page shows as a stack.
-#[derive(Clone, Copy, Debug)]
+#[derive(Clone, Copy)]
 pub struct StackRange {
     /// The first of them: the stack pointer of the thread that dumped.
     pub first: u64,

@@ -17,9 +17,9 @@ use Rattle.build_replies.specs.declared.mapped.MappedFiles.{MappedFiles}
 use Rattle.build_replies.specs.declared.ids.FrontId.{FrontId}
 use Rattle.build_replies.specs.declared.places.FrontPlace.{FrontPlace}
 use Rattle.intake.specs.Parts.{Parts}
-use Rattle.seen_bytes.specs.Gathering.{GathersBytes}
-use Rattle.seen_bytes.specs.declared.gathered.GatherFault.{GatherFault}
-use Rattle.seen_bytes.specs.declared.gathered.GatherFault.TheVariants as gather_fault
+use Rattle.seen_memory.specs.Gathering.{GathersBytes}
+use Rattle.seen_memory.specs.declared.gathered.GatherFault.{GatherFault}
+use Rattle.seen_memory.specs.declared.gathered.GatherFault.TheVariants as gather_fault
 use Rattle.seen_memory.specs.Parts.{IsPartOf}
 use Rattle.seen_memory.specs.declared.part.Part as seen
 use Rattle.case_queries.specs.FrontIds.{AreIdsAt, GathersOn, ReadsId}

@@ -203,9 +203,6 @@ found_outcome (Err OutOfMemory) done is = subst (λ t. IsOutcome t memory_reply)
 pub memory_outcome : (done : Bool) → done ≡ false → IsOutcome done memory_reply
 memory_outcome done is = subst (λ t. IsOutcome t memory_reply) (sym is) (codes "OutOfMemory", refl)
 
-pub refused_outcome : (reason : List ℕ) → IsOutcome false (no_reply reason)
-refused_outcome reason = (reason, refl)
-
 -- a core whose first bytes are sound, and have no fault
 pub still_clean : (front image : List ℕ) → ((b : List ℕ) (n : ℕ) → IsHeaderWhole (take n b) → IsSound Core (take n b) → core_fault_of (take n b) ≡ core_fault_of b) → front ≡ take (length front) image → IsSoundFront Core front → core_fault_of front ≡ None → core_fault_of image ≡ None
 still_clean front image law cut sound clean =

@@ -7,8 +7,8 @@ use Rattle.build_replies.specs.Mapped.{AreIdsOf, id_view}
 use Rattle.build_replies.specs.declared.ids.FrontId.{FrontId}
 use Rattle.build_replies.specs.declared.mapped.MappedFiles.{MappedFiles}
 use Rattle.build_replies.specs.declared.places.FrontPlace.{FrontPlace}
-use Rattle.seen_bytes.specs.declared.gathered.GatherFault.{GatherFault}
-use Rattle.seen_bytes.specs.declared.gathered.GatherFault.TheVariants as gather_fault
+use Rattle.seen_memory.specs.declared.gathered.GatherFault.{GatherFault}
+use Rattle.seen_memory.specs.declared.gathered.GatherFault.TheVariants as gather_fault
 use Rattle.seen_memory.specs.Parts.{IsPartOf}
 use Rattle.case_queries.specs.Pieces.{AreBeside, BeginsWith, HasMore}
 use Rattle.case_queries.specs.declared.walk.CaseImage.{CaseImage}

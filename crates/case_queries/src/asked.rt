@@ -9,7 +9,7 @@ use script_lines::BuildQuery;
 use windowed_search::Sought;
 
 // The question of a line about a core that is read piece by piece.
-#[derive(Clone, Copy, Debug)]
+#[derive(Clone, Copy)]
 pub(crate) enum Asked<'n> {
     // A search through all of its memory.
     Sought(Sought<'n>),
@@ -18,7 +18,7 @@ pub(crate) enum Asked<'n> {
 }
 
 // A question that these executables answer.
-#[derive(Clone, Copy, Debug)]
+#[derive(Clone, Copy)]
 pub(crate) enum AskedFiles {
     // The frames of a thread.
     Frames { thread: u64, asked: FramesAsked },
@@ -27,7 +27,7 @@ pub(crate) enum AskedFiles {
 }
 
 // A question about the frames of a thread.
-#[derive(Clone, Copy, Debug)]
+#[derive(Clone, Copy)]
 pub(crate) enum FramesAsked {
     // A line for each.
     Shown(Shown),

@@ -15,7 +15,7 @@ use build_ids::build_id_by_front;
 use build_replies::{FrontId, FrontPlace};
 use disk_model::Disk;
 use intake::Archive;
-use seen_bytes::{GatherFault, gather};
+use seen_memory::{GatherFault, gather};
 use std::alloc::Global;
 
 // Gathers `count` bytes of an image from place `start` on, of which these are the first, as far as the first bytes of the image and

@@ -25,7 +25,7 @@ use script_streams::{Output, Reply, print_no};
 use std::alloc::Global;
 
 /// What is asked of an address of an executable.
-#[derive(Clone, Copy, Debug)]
+#[derive(Clone, Copy)]
 pub(crate) enum CodeQuery {
     /// The function that covers it.
     Function,

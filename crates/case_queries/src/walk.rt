@@ -37,7 +37,7 @@ pub(crate) struct Walk<'n> {
 }
 
 /// Why a walk through an image stops.
-#[derive(Clone, Copy, Debug)]
+#[derive(Clone, Copy)]
 pub enum WalkFault {
     /// The image can't be read.
     Unread(ArchiveFault),

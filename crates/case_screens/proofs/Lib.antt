@@ -1,4 +1,4 @@
 pub mod FoundLemmas
+pub mod QuoteLemmas
 pub mod TextLemmas
 pub mod ThreadLemmas
-pub mod QuoteLemmas

@@ -2,7 +2,7 @@
 use script_words::Words;
 
 // The kind of a word of a row.
-#[derive(Clone, Copy, Debug, PartialEq, Eq)]
+#[derive(Clone, Copy, PartialEq, Eq)]
 pub(crate) enum FieldKind {
     // A number, or a word. `-` and `?` stand for nothing.
     Word,

@@ -1,10 +1,11 @@
+pub mod DayBarLemmas
 pub mod DayLemmas
-pub mod TableLemmas
-pub mod NamedLemmas
-pub mod HiddenLemmas
 pub mod EscapeLemmas
+pub mod HiddenLemmas
 pub mod JsonLemmas
-pub mod SignalLemmas
-pub mod OrderLemmas
 pub mod LineLemmas
+pub mod NamedLemmas
+pub mod OrderLemmas
+pub mod SignalLemmas
+pub mod TableLemmas
 pub mod ZoneLemmas

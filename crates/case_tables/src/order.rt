@@ -6,7 +6,7 @@ ghost use Rattle.case_tables.specs.Order.{IsShown, rank};
 use journal_layout::Entry;
 
 /// In which order cases are shown.
-#[derive(Clone, Copy, PartialEq, Eq, Debug)]
+#[derive(Clone, Copy, PartialEq, Eq)]
 pub enum Order {
     /// By their numbers, as they are stored.
     Number,

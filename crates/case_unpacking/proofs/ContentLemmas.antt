@@ -3,7 +3,7 @@ use Rattle.std.proofs.Common.{◌≡◌, ◌<◌, ◌≤◌, ◌+◌, ℕ, zero,
 use Rattle.std.proofs.lemmas.Grind.{flat_map-append}
 use Rattle.std.proofs.lemmas.List.{map-append, take_more}
 use Rattle.std.specs.List.{flat_map, zip}
-use Rattle.unpacked_places.specs.Places.{FileSaid}
+use Rattle.case_unpacking.specs.Places.{FileSaid}
 use Rattle.case_info.specs.Unpacking.{UnpackedValue, unpacked_view}
 use Rattle.case_unpacking.specs.Contents.{files_said, said_with}
 use Rattle.case_info.specs.declared.unpacked_files.UnpackedFile.{UnpackedFile}

@@ -5,8 +5,8 @@ use Rattle.std.specs.List.{flat_map, slice_get}
 use Rattle.std.specs.Option.{option_and_then}
 use Rattle.std.specs.Str.{bytes_eq}
 use Rattle.case_info.specs.Unpacking.{UnpackedValue}
-use Rattle.unpacked_places.specs.Places.{FileSaid}
-use Rattle.unpacked_places.specs.declared.places.NamedCase.{NamedCase}
+use Rattle.case_unpacking.specs.Places.{FileSaid}
+use Rattle.case_unpacking.specs.declared.places.NamedCase.{NamedCase}
 
 -- a file with the number of the executable that is used for it, if one is
 abbrev pub said_with : List ℕ → Option ℕ → List FileSaid

@@ -1,9 +1,9 @@
 -- The code's record of the contents that are unpacked.
 use Rattle.std.specs.Prelude.{◌≡◌, is_some, map}
 use Rattle.std.specs.List.{list_any}
-use Rattle.unpacked_places.specs.PlaceViews.{file_said, place_said}
-use Rattle.unpacked_places.specs.Places.{ArePlaces}
-use Rattle.unpacked_places.specs.declared.commands.Unpacked.{Unpacked}
+use Rattle.case_unpacking.specs.PlaceViews.{file_said, place_said}
+use Rattle.case_unpacking.specs.Places.{ArePlaces}
+use Rattle.case_unpacking.specs.declared.gdb_commands.Unpacked.{Unpacked}
 use Rattle.case_info.specs.Unpacking.{name_kept, unpacked_view}
 use Rattle.case_info.specs.declared.unpacked_files.UnpackedFile.{UnpackedFile}
 use Rattle.case_info.specs.declared.unpacking.Unpacking.{Unpacking}

@@ -1,4 +1,9 @@
 pub mod Contents
 pub mod ContentsWords
 pub mod Copies
+pub mod GdbCommands
+pub mod Names
+pub mod PlaceLaws
+pub mod PlaceViews
+pub mod Places
 pub mod Told

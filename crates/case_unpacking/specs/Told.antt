@@ -2,9 +2,9 @@
 use Rattle.std.specs.Prelude.{ℕ, List, ◌++◌, codes, decimal}
 use Rattle.std.specs.List.{flat_map, zip}
 use Rattle.script_words.specs.Printing.{shown}
-use Rattle.unpacked_places.specs.Commands.{text_of}
-use Rattle.unpacked_places.specs.declared.places.NamedCase.{NamedCase}
-use Rattle.unpacked_places.specs.declared.places.Place.{Place}
+use Rattle.case_unpacking.specs.GdbCommands.{text_of}
+use Rattle.case_unpacking.specs.declared.places.NamedCase.{NamedCase}
+use Rattle.case_unpacking.specs.declared.places.Place.{Place}
 
 -- `N PLACE`
 abbrev pub place_line : NamedCase × Place → List ℕ

@@ -2,12 +2,12 @@
 ghost use Rattle.std.specs.Prelude.{◌≡◌, ◌++◌, IfOk, OnOk, Some, is_some, map};
 ghost use Rattle.std.specs.List.{list_any};
 ghost use Rattle.case_info.specs.Unpacking.{name_kept, unpacked_view};
-ghost use Rattle.unpacked_places.specs.PlaceViews.{file_said};
+ghost use Rattle.case_unpacking.specs.PlaceViews.{file_said};
 ghost use Rattle.case_unpacking.specs.Contents.{at_index, but_index, files_said, program_at, said_with};
 
+use crate::{NamedCase, Place, Unpacked, places_of};
 use case_info::{DebugFile, UnpackedFile, Unpacking};
 use std::alloc::{AllocError, Global};
-use unpacked_places::{NamedCase, Place, Unpacked, places_of};
 
 // The executables that are unpacked, each with the name of a file that it is used for, and their places.
 #[derive(Drop)]

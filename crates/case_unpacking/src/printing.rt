@@ -4,15 +4,15 @@ ghost use Rattle.std.specs.List.{flat_map, zip};
 ghost use Rattle.case_info.specs.Screens.{held};
 ghost use Rattle.script_streams.specs.Replies.{PrintsText, printing};
 ghost use Rattle.script_streams.specs.Printing.{IsDelivered};
-ghost use Rattle.unpacked_places.specs.Commands.{gdb_text, lldb_text, text_of};
+ghost use Rattle.case_unpacking.specs.GdbCommands.{gdb_text, lldb_text, text_of};
 ghost use Rattle.case_unpacking.specs.Told.{place_line, unpacked_text};
 
+use crate::{NamedCase, Place, Unpacked, print_gdb, print_lldb};
 use archive_files::{Collected, Refusal};
 use case_info::Unpacking;
 use image_replies::{CoreFault, print_core_fault};
 use script_streams::{Output, Reply, StreamFault};
 use std::alloc::Global;
-use unpacked_places::{NamedCase, Place, Unpacked, print_gdb, print_lldb};
 
 // The commands for GDB.
 pub(crate) fn gdb_text(alloc: Global, unpacked: &Unpacked<'_>) -> Result<Collected, Refusal>

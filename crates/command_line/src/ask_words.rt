@@ -29,7 +29,7 @@ const DUMP: &str = "dump N ADDR LEN --words";
 const TEXT: &str = "find N --text TEXT";
 
 // The form in which a reply is printed.
-#[derive(Clone, Copy, Debug, PartialEq, Eq)]
+#[derive(Clone, Copy, PartialEq, Eq)]
 pub(crate) enum Form {
     // As the script has it.
     Reply,

@@ -1,15 +1,16 @@
 // Why the program ends with a status other than 0, and how it says so.
 ghost use Rattle.std.specs.Prelude.{◌≡◌, ◌≤◌};
 
-use archive_files::{Failure, FileWord, NamedFile, Refusal, print_failure, reason_of};
+use archive_files::{Collected, Failure, NamedFile, Refusal, print_failure, reason_of};
 use command_words::{
-    Context, Unread, meaning_when, print_how_it_is_asked, print_meaning, print_no_line,
-    print_wrong_word,
+    Context, Unread, asked_case, meaning_of_words, print_how_it_is_asked, print_meaning,
+    print_no_line, print_word, print_wrong_word,
 };
 use diagnostics::Trouble;
 use line_help::LineHelp;
 use script_streams::{Output, Reply, write_whole};
 use std::alloc::{AllocError, Global};
+use std::str;
 
 // Why the program did not carry out the command.
 #[derive(Drop)]
@@ -28,6 +29,8 @@ pub(crate) struct Named {
     pub(crate) path: Option<String>,
     // The process that holds its lock.
     pub(crate) holder: Option<u32>,
+    // A directory has its path.
+    pub(crate) is_folder: bool,
 }
 
 impl Named {
@@ -36,6 +39,7 @@ impl Named {
         Named {
             path: None,
             holder: None,
+            is_folder: false,
         }
     }
 }
@@ -109,12 +113,39 @@ pub(crate) fn print_ending<O: Output, E: Output>(
         }
         Ending::Failed(failure, named) => {
             print_why(alloc, failure, named, clues, errors);
+            let shown = shown_path(alloc, named);
             let file = NamedFile {
-                path: named.path.as_deref().unwrap_or(""),
+                path: str::from_utf8(shown.text()).unwrap_or(""),
                 holder: named.holder,
+                is_folder: named.is_folder,
+                waiting: waiting_of(clues.words),
             };
             print_failure(alloc, failure, file, output, errors)
         }
+    }
+}
+
+// The path of the file that a failure names as it is printed; empty if it is not known.
+fn shown_path(alloc: Global, named: &Named) -> Collected {
+    let mut shown = Collected::new(alloc);
+    let mut reply = Reply::new(&mut shown);
+    if let Some(path) = &named.path {
+        print_word(&mut reply, path);
+    }
+    let _ = reply.finish();
+    shown
+}
+
+// How to wait for a process that has the archive: by an option, if the command has it.
+fn waiting_of(words: &[String]) -> &'static str {
+    match words.first() {
+        Some(command) if command.as_str() == "handle" => {
+            "no-wait is set in the configuration: without it, corekeep waits until it is done"
+        }
+        Some(_) if words.iter().any(|word| word.as_str() == "--metrics") => {
+            "--metrics never waits: run it again later"
+        }
+        _ => "without --no-wait, corekeep waits until it is done",
     }
 }
 
@@ -166,21 +197,32 @@ fn is_told(refusal: Refusal) -> bool {
 
 // Explains a reason, if there are words for it.
 fn print_words_of<E: Output>(reason: &[u8], named: &Named, clues: Clues<'_>, errors: &mut E) {
-    if meaning_when(clues.context, reason).is_empty() {
+    let Clues { context, words, .. } = clues;
+    if meaning_of_words(context, words, reason).is_empty() {
         return;
     }
-    if reason == b"BadLine".as_slice() && print_wrong_word(clues.words, errors) {
+    let is_of_a_word = reason == b"BadLine".as_slice() || reason == b"BadShape".as_slice();
+    if is_of_a_word && print_wrong_word(words, errors) {
         return;
     }
     let mut reply = Reply::new(errors);
     reply.print(b"corekeep: ");
-    if let Some(path) = &named.path {
-        if is_of_an_opening(reason) {
-            reply.print_bytes(path.as_bytes());
-            reply.print(b": ");
-        }
+    let path = named.path.as_deref();
+    let is_of_the_file = is_of_an_opening(reason);
+    let subject = if reason == b"NoCase".as_slice() {
+        asked_case(words)
+    } else if is_of_the_file {
+        path
+    } else {
+        None
+    };
+    if let Some(subject) = subject {
+        print_word(&mut reply, subject);
+        reply.print(b": ");
     }
-    print_meaning(&mut reply, clues.context, reason, clues.trouble);
+    // A path that stands before the meaning is not printed once more.
+    let within = if is_of_the_file { None } else { path };
+    print_meaning(&mut reply, context, words, reason, clues.trouble, within);
     reply.print(b"\n");
     let _ = reply.finish();
 }

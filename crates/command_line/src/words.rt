@@ -3,7 +3,7 @@ ghost use Rattle.std.specs.Prelude.{◌≡◌, ◌≤◌, false};
 ghost use Rattle.command_words.specs.Notes.{IsQuietButForNotes, IsQuietButForSomeNotes, may_note, second_subject, subject};
 
 use crate::ask_words::{AskedLine, Form};
-use crate::asked::{Asked, ReadWords, SessionWords, naming_of, read_words};
+use crate::asked::{Asked, Paths, ReadWords, SessionWords, naming_of, read_words};
 use crate::endings::{Clues, Ending, print_ending};
 use crate::named_files::ending_of;
 use archive_files::{
@@ -25,7 +25,7 @@ use case_tables::Zone;
 use case_unpacking::unpack;
 use command_words::{
     Context, Watched, asked_help, context_of, in_order, line_in_place_of_a_command, print_help,
-    print_notes, words_of,
+    print_notes, signed_option, words_of,
 };
 use core_handler::{
     Log, Notes, Printer, Source, SpoolWords, handle, print_lost_words, store_build_told,
@@ -185,6 +185,11 @@ fn answer_words<
     if let Some(help) = asked_help(words) {
         return print_help(help, output).map_err(|_| Ending::from(Failure::Told));
     }
+    if let Some(option) = signed_option(words) {
+        return Err(Ending::Wrong(format!(in rt.alloc();
+            "error: {option} takes the number of blocks in all, without a sign\n"
+        )?));
+    }
     let ordered = in_order(rt.alloc(), words)?;
     let words = match &ordered {
         Some(ordered) => ordered.as_slice(),
@@ -234,7 +239,10 @@ fn carry_out<
     let paths = asked.paths();
     match answer_asked(rt, asked, zone, input, output, notes, listener) {
         Ok(()) => Ok(()),
-        Err(failure) => Err(ending_of(rt, failure, paths)),
+        Err(failure) => {
+            let archive = paths.archive.or(notes.archive.as_deref());
+            Err(ending_of(rt, failure, Paths { archive, ..paths }))
+        }
     }
 }
 
@@ -331,7 +339,7 @@ fn answer_asked<
             &mut notes.second,
             onlooker,
         ),
-        Asked::Handle(words) => handle(rt, words, input, output, &mut notes.subject, onlooker),
+        Asked::Handle(words) => handle(rt, words, input, output, notes, onlooker),
         Asked::List { archive, wanted } => list(rt, archive, wanted, zone, output),
         Asked::Ask {
             archive,

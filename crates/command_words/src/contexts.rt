@@ -1,9 +1,10 @@
 // The meaning of a reason, by the work that was refused.
 use crate::reasons::{Meaning, first_word, meaning_in, meaning_of};
 use crate::watched::LastLine;
+use crate::wrong_words::asked_case;
 
 /// The work that was refused, if a reason means more then.
-#[derive(Clone, Copy, Debug, PartialEq, Eq)]
+#[derive(Clone, Copy, PartialEq, Eq)]
 pub enum Context {
     /// `salvage` looked for the cases of an archive.
     Salvaging,
@@ -64,6 +65,35 @@ static STORE_MEANINGS: [Meaning; 1] = [Meaning {
     reason: b"TooLong",
     words: b"the image is over the limit (--limit N, 1 GiB if it is left out): raise it, or keep the first bytes with --cut; or it has more bytes than --length states",
 }];
+
+// The meaning of a reason that more is known of if `store` has this option.
+struct OptionMeaning {
+    option: &'static str,
+    meaning: Meaning,
+}
+
+const STORED_ALREADY: Meaning = Meaning {
+    reason: b"NameTaken",
+    words: b"a case of this path or build is stored already: to replace it, delete that case first (corekeep list ARCHIVE --kind exec shows it)",
+};
+
+static OPTION_MEANINGS: [OptionMeaning; 3] = [
+    OptionMeaning {
+        option: "--exec",
+        meaning: STORED_ALREADY,
+    },
+    OptionMeaning {
+        option: "--build",
+        meaning: STORED_ALREADY,
+    },
+    OptionMeaning {
+        option: "--fit",
+        meaning: Meaning {
+            reason: b"SpaceFull",
+            words: b"FILE has no room even if every unpinned case goes: unpin or delete cases, keep its first bytes with --cut, or corekeep resize ARCHIVE --data N",
+        },
+    },
+];
 
 // The same of `handle`.
 static HANDLER_MEANINGS: [Meaning; 1] = [Meaning {
@@ -144,8 +174,25 @@ pub fn context_of(words: &[String], line: &LastLine) -> Context {
     }
 }
 
-/// The meaning of a reason after this work. Empty if there is nothing to say.
-pub fn meaning_when(context: Context, reason: &[u8]) -> &'static [u8] {
+/// The meaning of a reason after this work of these words. Empty if there is nothing to say.
+pub fn meaning_of_words(context: Context, words: &[String], reason: &[u8]) -> &'static [u8] {
+    if reason == b"NoCase".as_slice() && matches!(asked_case(words), Some("last" | "latest")) {
+        return b"the archive has no core: corekeep list ARCHIVE shows its cases";
+    }
+    if context == Context::Naming || context == Context::Storing {
+        for row in &OPTION_MEANINGS {
+            if row.meaning.reason == reason
+                && words.iter().any(|word| word.starts_with(row.option))
+            {
+                return row.meaning.words;
+            }
+        }
+    }
+    meaning_when(context, reason)
+}
+
+// The meaning of a reason after this work. Empty if there is nothing to say.
+fn meaning_when(context: Context, reason: &[u8]) -> &'static [u8] {
     if reason.ends_with(b" shape") {
         return SHAPE;
     }

@@ -5,7 +5,7 @@ ghost use Rattle.command_words.specs.Handling.{asks_to_handle};
 use std::alloc::{AllocError, Global};
 
 // The kind of word.
-#[derive(Clone, Copy, Debug, PartialEq, Eq)]
+#[derive(Clone, Copy, PartialEq, Eq)]
 enum Kind {
     // An option that is known, or the value of one.
     Known,

@@ -29,7 +29,7 @@ mod watched;
 mod wrong_values;
 mod wrong_words;
 
-pub use contexts::{Context, context_of, meaning_when};
+pub use contexts::{Context, context_of, meaning_of_words};
 pub use given::{Given, Unread};
 pub use handler_words::in_order;
 pub use helps::{
@@ -41,5 +41,5 @@ pub use raw_words::{is_text, push_escaped, words_of};
 pub use text_digits::digits_of;
 pub use troubles::print_meaning;
 pub use watched::{LastLine, Watched};
-pub use wrong_values::print_wrong_word;
-pub use wrong_words::print_no_line;
+pub use wrong_values::{print_wrong_word, signed_option};
+pub use wrong_words::{asked_case, print_no_line, print_word};

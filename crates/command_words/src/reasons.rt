@@ -7,14 +7,14 @@ pub(crate) struct Meaning {
 }
 
 // The reasons for which something is refused. Other reasons are fields of an image.
-static MEANINGS: [Meaning; 47] = [
+static MEANINGS: [Meaning; 49] = [
     Meaning {
         reason: b"SpaceFull",
-        words: b"the archive has too few free blocks: delete or retire cases, store with --fit, or corekeep resize",
+        words: b"the archive has too few free blocks: delete or retire cases, store with --fit (handle: fit = true in its configuration), or corekeep resize ARCHIVE --data N",
     },
     Meaning {
         reason: b"JournalFull",
-        words: b"the journal is full of live cases: delete or retire some",
+        words: b"the journal is full of live cases: delete or retire some, or corekeep resize ARCHIVE --half N",
     },
     Meaning {
         reason: b"NumbersSpent",
@@ -22,7 +22,7 @@ static MEANINGS: [Meaning; 47] = [
     },
     Meaning {
         reason: b"NameTaken",
-        words: b"a case has this name: delete that case, or give --name, or other pid= and time=",
+        words: b"a case has this name: delete that case, or give --name, or another pid= (time= is in a name only by a --template with %t)",
     },
     Meaning {
         reason: b"Burst",
@@ -122,7 +122,7 @@ static MEANINGS: [Meaning; 47] = [
     },
     Meaning {
         reason: b"NoThread",
-        words: b"the core has no thread of this number: T is the first word of a line of threads N, not the TID; if it lists none, see by notes N whether those of type 0x1 are named LINUX: only those named CORE are read",
+        words: b"the core has no thread of this number: T is the first word of a line of threads N, from 0 on, and not the TID; if threads N lists none, notes N may: notes of type 0x1 are read only if they are named CORE, and not LINUX",
     },
     Meaning {
         reason: b"NoFrame",
@@ -138,11 +138,11 @@ static MEANINGS: [Meaning; 47] = [
     },
     Meaning {
         reason: b"Compressed",
-        words: b"the line tables are compressed by another method than zlib, or damaged: objcopy --decompress-debug-sections FILE NEW, then store NEW",
+        words: b"the line tables are compressed by another method than zlib, such as zstd, or damaged: objcopy --decompress-debug-sections FILE NEW makes a file to store instead (delete the case of FILE first), and fails if FILE is damaged",
     },
     Meaning {
         reason: b"Missing",
-        words: b"the core has no such note",
+        words: b"the core lacks the note that this line shows: NT_FILE for files, builds, used and wants, NT_PRPSINFO for process, NT_SIGINFO for signal, NT_AUXV for auxv",
     },
     Meaning {
         reason: b"Range",
@@ -171,6 +171,14 @@ static MEANINGS: [Meaning; 47] = [
     Meaning {
         reason: b"Magic",
         words: b"the file does not begin with the four bytes of an ELF file",
+    },
+    Meaning {
+        reason: b"Length",
+        words: b"the file is too short for the headers of an ELF file: it is no ELF file, or it was cut",
+    },
+    Meaning {
+        reason: b"p_offset",
+        words: b"a segment begins past the end of the file: the file was cut, or is damaged",
     },
     Meaning {
         reason: b"e_machine",

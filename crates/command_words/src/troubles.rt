@@ -1,5 +1,6 @@
 // Why a call on an archive's file failed, in words for people.
-use crate::contexts::{Context, meaning_when};
+use crate::contexts::{Context, meaning_of_words};
+use crate::wrong_words::print_word;
 use diagnostics::{Call, Trouble};
 use script_streams::{Output, Reply};
 
@@ -59,19 +60,35 @@ static ERRORS: [SystemError; 9] = [
     },
 ];
 
-/// Prints the meaning of a reason after this work. If the disk failed, now or before, so that the archive
-/// is stopped, and the call of the system is known that failed, that is printed with the system's reason.
+/// Prints the meaning of a reason after this work of these words. If the disk failed, now or before, so that the archive
+/// is stopped, and the call of the system is known that failed, that is printed with the system's reason. If the path of the
+/// archive is given, it stands instead of ARCHIVE.
 pub fn print_meaning<O: Output>(
     reply: &mut Reply<'_, O>,
     context: Context,
+    words: &[String],
     reason: &[u8],
     trouble: Option<Trouble>,
+    path: Option<&str>,
 ) {
     match trouble {
         Some(trouble) if reason == b"Disk".as_slice() || reason == b"Stopped".as_slice() => {
             print_trouble(reply, trouble);
         }
-        _ => reply.print(meaning_when(context, reason)),
+        _ => print_about(reply, meaning_of_words(context, words, reason), path),
+    }
+}
+
+// Prints a meaning about the archive at this path, if that is given.
+fn print_about<O: Output>(reply: &mut Reply<'_, O>, meaning: &[u8], path: Option<&str>) {
+    let mut space: &[u8] = b"";
+    for word in meaning.split(|byte| *byte == b' ') {
+        reply.print(space);
+        match path {
+            Some(path) if word == b"ARCHIVE".as_slice() => print_word(reply, path),
+            _ => reply.print(word),
+        }
+        space = b" ";
     }
 }
 

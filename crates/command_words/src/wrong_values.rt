@@ -1,6 +1,7 @@
 // Values of the command line that can't be read: the message for people.
+use crate::wrong_words::print_word;
 use script_streams::{Output, Reply};
-use script_words::{parse_number, parse_u32};
+use script_words::{parse_number, parse_number_within, parse_u32};
 
 // What may stand as a value.
 enum Allowed {
@@ -8,6 +9,8 @@ enum Allowed {
     Number,
     // A number of 32 bits.
     Small,
+    // A number from 1 on, at most this one.
+    Within(u64),
     // One of these words.
     One(&'static [&'static str]),
     // Any text of at least one byte.
@@ -28,7 +31,17 @@ const NO_NUMBER: &[u8] = b"not a number";
 const NO_TIME: &[u8] =
     b"not a time: today, yesterday, 2h, 3d, 2026-11-25, '2026-11-25 14:03', 2026-11-25T14:03:11Z or @SECONDS";
 
-static VALUED: [Valued; 13] = [
+static VALUED: [Valued; 15] = [
+    Valued {
+        option: "--half",
+        allowed: Allowed::Within(4_096),
+        why: b"1 to 4,096 blocks",
+    },
+    Valued {
+        option: "--data",
+        allowed: Allowed::Within(16_777_216),
+        why: b"1 to 16,777,216 blocks",
+    },
     Valued {
         option: "--text",
         allowed: Allowed::Text,
@@ -104,7 +117,18 @@ struct Wrong<'a> {
     why: &'static [u8],
 }
 
-/// Prints which word of a command that was refused as `BadLine` can't be read, if the words alone say so, and whether they do.
+/// The first of `--half` and `--data` whose value has a sign: it could be meant as a change of the number of blocks.
+pub fn signed_option(words: &[String]) -> Option<&'static str> {
+    for option in ["--half", "--data"] {
+        match value_of(words, option) {
+            Some(value) if value.starts_with('+') || value.starts_with('-') => return Some(option),
+            _ => {}
+        }
+    }
+    None
+}
+
+/// Prints which word of a command that was refused as `BadLine` or `BadShape` can't be read, if the words alone say so, and whether they do.
 pub fn print_wrong_word<E: Output>(words: &[String], errors: &mut E) -> bool {
     let Some(wrong) = wrong_word(words) else {
         return false;
@@ -115,7 +139,9 @@ pub fn print_wrong_word<E: Output>(words: &[String], errors: &mut E) -> bool {
     if !wrong.option.is_empty() && !wrong.word.is_empty() {
         reply.print(b" ");
     }
-    reply.print_bytes(wrong.word.as_bytes());
+    if !wrong.word.is_empty() {
+        print_word(&mut reply, wrong.word);
+    }
     reply.print(b": ");
     reply.print(wrong.why);
     reply.print(b"\n");
@@ -132,29 +158,28 @@ fn wrong_word(words: &[String]) -> Option<Wrong<'_>> {
         }),
         "store" => wrong_pair(words).or(wrong_value(words)),
         "list" | "search" | "groups" | "prune" => wrong_value(words),
+        "format" | "memory" | "copy" | "resize" => wrong_value(words),
         _ => None,
     }
 }
 
-// The first pair of `store` that can't be read. A word behind an option may be its value, and is passed over.
+// The first pair of `store` that can't be read. A word behind an option may be its value, and is passed over. ARCHIVE and FILE come
+// before the pairs.
 fn wrong_pair(words: &[String]) -> Option<Wrong<'_>> {
+    let escapes = words.iter().any(|word| word.as_str() == "--escape");
     let mut is_value = false;
-    for word in words.iter().skip(3) {
+    let mut before = 2u32;
+    for word in words.iter().skip(1) {
         let was_value = is_value;
         is_value = word.starts_with("--") && !word.contains('=');
         if was_value || word.starts_with("--") {
             continue;
         }
-        let Some((key, value)) = word.split_once('=') else {
+        if before > 0 && !word.contains('=') {
+            before -= 1;
             continue;
-        };
-        let why: &'static [u8] = match key {
-            "comm" | "exe" | "host" => continue,
-            "pid" | "tid" | "sig" | "uid" | "gid" | "mode" | "time" | "limit" => NO_NUMBER,
-            _ =>
-                b"unknown KEY: it is comm, exe, host, pid, tid, sig, uid, gid, mode, time or limit",
-        };
-        if why != NO_NUMBER || parse_number(value.as_bytes()).is_none() {
+        }
+        if let Some(why) = fault_of_pair(word, escapes) {
             return Some(Wrong {
                 option: "",
                 word: word.as_str(),
@@ -163,6 +188,29 @@ fn wrong_pair(words: &[String]) -> Option<Wrong<'_>> {
         }
     }
     None
+}
+
+// Why a word can't be read as a pair, if it can't. A space in a VALUE can if it is escaped.
+fn fault_of_pair(word: &str, escapes: bool) -> Option<&'static [u8]> {
+    let Some((key, value)) = word.split_once('=') else {
+        return Some(b"not KEY=VALUE");
+    };
+    match key {
+        "comm" | "exe" | "host" if value.contains(' ') && !escapes => Some(
+            b"a space in a VALUE needs --escape",
+        ),
+        "comm" | "exe" | "host" => None,
+        "pid" | "tid" | "sig" | "uid" | "gid" | "mode" | "time" | "limit" => {
+            if parse_number(value.as_bytes()).is_none() {
+                Some(NO_NUMBER)
+            } else {
+                None
+            }
+        }
+        _ => Some(
+            b"unknown KEY: it is comm, exe, host, pid, tid, sig, uid, gid, mode, time or limit",
+        ),
+    }
 }
 
 // The value of an option that can't be read, if it is the only one of which that may be so.
@@ -209,6 +257,7 @@ fn may_stand(allowed: &Allowed, value: &str) -> bool {
     match allowed {
         Allowed::Number => parse_number(value.as_bytes()).is_some(),
         Allowed::Small => parse_u32(value.as_bytes()).is_some(),
+        Allowed::Within(most) => parse_number_within(value.as_bytes(), 1, *most).is_some(),
         Allowed::One(words) => words.contains(&value),
         Allowed::Text => !value.is_empty(),
         Allowed::Other => false,

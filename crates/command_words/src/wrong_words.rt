@@ -23,7 +23,7 @@ static PARTS: [Part; 6] = [
     },
     Part {
         name: "ADDR",
-        words: b"an address, such as 0x11000",
+        words: b"an address, such as 0x11000; for dump also a register, such as sp or sp+0x10",
     },
     Part {
         name: "LEN",
@@ -45,11 +45,34 @@ enum Fault<'a> {
     Surplus(&'a str),
 }
 
+/// Prints a word that was given so that a terminal acts on no byte of it: as it is within single quotes, if it is empty or has
+/// spaces and all else prints.
+pub fn print_word<O: Output>(reply: &mut Reply<'_, O>, word: &str) {
+    let is_plain = word
+        .as_bytes()
+        .iter()
+        .all(|byte| matches!(*byte, b' '..=b'~') && *byte != b'\'');
+    if is_plain && (word.is_empty() || word.contains(' ')) {
+        reply.print(b"'");
+        reply.print(word.as_bytes());
+        reply.print(b"'");
+    } else {
+        reply.print_bytes(word.as_bytes());
+    }
+}
+
 /// Prints the usage of the line that the words of `ask` begin like, and which word is wrong. Without a usage no line begins so.
 pub fn print_no_line<E: Output>(usage: &str, words: &[String], errors: &mut E) {
     let mut reply = Reply::new(errors);
     if usage.is_empty() {
-        reply.print(b"corekeep: no line begins so: corekeep ask --help lists them\n");
+        reply.print(b"corekeep: no line begins with ");
+        // The command and the archive come first; options may stand anywhere.
+        let mut given = words.iter().filter(|word| !word.starts_with("--")).skip(2);
+        print_word(
+            &mut reply,
+            given.next().map_or("these words", |word| word.as_str()),
+        );
+        reply.print(b": corekeep ask --help lists the lines\n");
     } else {
         reply.print(b"corekeep: the line is: ");
         reply.print(usage.as_bytes());
@@ -70,7 +93,7 @@ fn print_fault<E: Output>(reply: &mut Reply<'_, E>, fault: Option<Fault<'_>>) {
         }
         Some(Fault::Wrong(word, part)) => {
             reply.print(b"; ");
-            reply.print_text(word.as_bytes());
+            print_word(reply, word);
             reply.print(b" is no ");
             reply.print(part.name.as_bytes());
             reply.print(b": ");
@@ -78,7 +101,7 @@ fn print_fault<E: Output>(reply: &mut Reply<'_, E>, fault: Option<Fault<'_>>) {
         }
         Some(Fault::Surplus(word)) => {
             reply.print(b"; ");
-            reply.print_text(word.as_bytes());
+            print_word(reply, word);
             reply.print(b" is one word too many");
         }
         None => {}
@@ -92,10 +115,18 @@ fn fault_in<'a>(usage: &str, words: &'a [String]) -> Option<Fault<'a>> {
     }
     // The command, the archive and the name of the line come first; options may stand anywhere.
     let mut given = words.iter().filter(|word| !word.starts_with("--")).skip(3);
+    let takes_register = usage.starts_with("dump ");
     for name in usage.split(' ').skip(1) {
         let part = part_of(name)?;
         match given.next() {
             Some(word) if is_such(part, word) => {}
+            // It may be a register. Whether there is such a one is not known here.
+            Some(word) if takes_register && name == "ADDR" => {
+                return Some(match given.next() {
+                    Some(_) => Fault::Wrong(word.as_str(), part),
+                    None => Fault::Missing(part_of("LEN")?),
+                });
+            }
             Some(word) => return Some(Fault::Wrong(word.as_str(), part)),
             None => return Some(Fault::Missing(part)),
         }
@@ -119,4 +150,26 @@ fn is_such(part: &Part, word: &str) -> bool {
         "MIN" => parse_number_within(word.as_bytes(), 1, 1_024).is_some(),
         _ => parse_number(word.as_bytes()).is_some(),
     }
+}
+
+/// The word that names the one case that these words ask for, if they are of a command that takes one, and its place is certain.
+pub fn asked_case(words: &[String]) -> Option<&str> {
+    let command = words.first()?.as_str();
+    let before: usize = match command {
+        "ask" if !words.iter().any(|word| word.starts_with("--text")) => 3,
+        "extract" | "info" | "wants" | "unpack" | "digest" | "report" => 2,
+        // The filters of `groups` have values.
+        "groups" if words.len() == 3 => 2,
+        _ => return None,
+    };
+    let mut given = words
+        .iter()
+        .filter(|word| !word.starts_with("--"))
+        .skip(before);
+    let case = given.next()?;
+    let takes_many = command == "digest" || command == "report";
+    if takes_many && given.next().is_some() {
+        return None;
+    }
+    Some(case.as_str())
 }

@@ -1,6 +1,7 @@
-pub mod Notes
-pub mod Walks
-pub mod Handled
+pub mod CaseReading
 pub mod Crashes
-pub mod Views
+pub mod Handled
+pub mod Notes
 pub mod Reading
+pub mod Views
+pub mod Walks

@@ -3,7 +3,7 @@ use Rattle.std.specs.Prelude.{◌≡◌, ℕ, List, [], Option}
 use Rattle.std.specs.Option.{option_and_then}
 use Rattle.address_space.specs.Source.{Space}
 use Rattle.address_space.specs.Whole.{space_in}
-use Rattle.case_memory.specs.Reading.{IsImageOf, IsOnlyRead}
+use Rattle.core_crashes.specs.CaseReading.{IsImageOf, IsOnlyRead}
 use Rattle.disk_model.specs.declared.disk.Disk as disk
 use Rattle.frame_replies.specs.FrameValues.{ThreadFrames}
 use Rattle.intake.specs.Parts.{Parts}

@@ -1,13 +1,13 @@
 //! The signal that was being handled, of a case of an archive.
 ghost use Rattle.std.specs.Prelude.{IfOk};
-ghost use Rattle.case_memory.specs.Reading.{HasLength};
+ghost use Rattle.core_crashes.specs.CaseReading.{HasLength};
 ghost use Rattle.frame_replies.specs.FrameValues.{frames_view};
 ghost use Rattle.image_replies.specs.CoreWords.{core_bytes};
 ghost use Rattle.intake.specs.Parts.{state_of};
 ghost use Rattle.core_crashes.specs.Reading.{Handles};
 
 use crate::handled::{number_in, signal_stack};
-use case_memory::word_in_case;
+use crate::word_in_case;
 use disk_model::Disk;
 use frame_replies::FramesAnswer;
 use image_replies::CoreImage;

@@ -4,7 +4,7 @@ use Rattle.std.specs.Option.{option_copied}
 use Rattle.std.specs.declared.time.Duration.{Duration}
 use Rattle.archive_files.specs.OverDisks.{reason_found}
 use Rattle.archive_files.specs.declared.storing.StoreRequest.{StoreRequest}
-use Rattle.handler_config.specs.declared.config.Config.{Config}
+use Rattle.core_handler.specs.declared.config.Config.{Config}
 use Rattle.intake.specs.State.{StreamFacts}
 use Rattle.name_template.specs.Naming.{template_bytes}
 use Rattle.name_template.specs.Template.{template_fault}

@@ -1,5 +1,8 @@
-pub mod Requesting
-pub mod Fronts
-pub mod Spooling
-pub mod Printing
+pub mod Config
 pub mod Counting
+pub mod Fronts
+pub mod Keys
+pub mod Printing
+pub mod Requesting
+pub mod Spooling
+pub mod Values

@@ -5,8 +5,8 @@ use Rattle.std.specs.Option.{option_copied, unwrap_or}
 use Rattle.std.specs.declared.time.Duration.{Duration}
 use Rattle.arrayvec.specs.ArrayVec.{ArrayVec}
 use Rattle.archive_files.specs.declared.storing.StoreRequest.{StoreRequest}
-use Rattle.handler_config.specs.declared.config.Config.{Config}
-use Rattle.handler_config.specs.declared.config.Burst as allowed
+use Rattle.core_handler.specs.declared.config.Config.{Config}
+use Rattle.core_handler.specs.declared.config.Burst as allowed
 use Rattle.inspector_cli.specs.Storing.{line_stream}
 use Rattle.inspector_cli.specs.declared.burst.Burst.{Burst}
 use Rattle.inspector_cli.specs.declared.session.Order.{Order}

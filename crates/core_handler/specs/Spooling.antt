@@ -1,7 +1,7 @@
 -- The bytes of a core that are taken into the spool, and the place of the core then.
 use Rattle.std.specs.Prelude.{ℕ, Bool, true, false, Result, Ok, Err}
 use Rattle.std.specs.Option.{unwrap_or}
-use Rattle.handler_config.specs.declared.config.Config.{Config}
+use Rattle.core_handler.specs.declared.config.Config.{Config}
 use Rattle.spool.specs.declared.reception.NotSpooled.{NotSpooled}
 use Rattle.spool.specs.declared.reception.NotSpooled.TheVariants.{Name}
 use Rattle.spool.specs.declared.reception.Unspooled.{Unspooled}

@@ -5,13 +5,13 @@ use crate::labels::escaped_label;
 use crate::log::{KERNEL_LOG, Log, LogFault};
 use crate::outcome_lines::words_of;
 use crate::spool_paths::path_in;
+use crate::{Burst, Config};
 use archive_files::{
     ArchivePath, Collected, Failure, Refusal, fault_found, note_file_system, note_gap, reason_of,
     shape_on, shared_folder, take_look,
 };
 use diagnostics::Nobody;
 use disk_model::Disk;
-use handler_config::{Burst, Config};
 use intake::{Archive, Settings};
 use journal_layout::Shape;
 use memchr::memmem;
@@ -416,9 +416,16 @@ fn print_archive<D: Disk + Drop, O: Output>(
     disk: D,
 ) -> bool {
     let mut disk = disk;
-    let Some(shape) = shape_on(&mut disk) else {
-        reply.print(b"fault the file is no archive\n");
-        return false;
+    let shape = match shape_on(&mut disk) {
+        Ok(Some(shape)) => shape,
+        Ok(None) => {
+            reply.print(b"fault the file is no archive\n");
+            return false;
+        }
+        Err(_) => {
+            print_refused(alloc, reply, b"can't be read", Refusal::Disk);
+            return false;
+        }
     };
     let is_large = print_blocks(reply, config, shape);
     match Archive::open(alloc, disk, Settings { limit: 0 }) {

@@ -1,6 +1,6 @@
 // The file of a handler's configuration.
+use crate::{Fault, entry_fault};
 use archive_files::Collected;
-use handler_config::{Fault, entry_fault};
 use script_streams::Reply;
 use std::alloc::{AllocError, Global};
 use std::fs;
@@ -22,7 +22,7 @@ pub(crate) struct Document {
 }
 
 // Why a file is no configuration.
-#[derive(Clone, Copy, Debug, PartialEq, Eq)]
+#[derive(Clone, Copy, PartialEq, Eq)]
 pub(crate) enum Trouble {
     // The file is missing.
     Missing,

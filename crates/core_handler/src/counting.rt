@@ -21,7 +21,7 @@ const TRIES: u32 = 500;
 const TRY_MILLIS: u64 = 10;
 
 // Why an outcome is not counted.
-#[derive(Clone, Copy, Debug, PartialEq, Eq)]
+#[derive(Clone, Copy, PartialEq, Eq)]
 pub(crate) enum Uncounted {
     // The file of the counts can't be read.
     Unread,

@@ -1,5 +1,5 @@
 // The cores that wait in the spool are stored.
-ghost use Rattle.std.specs.Prelude.{◌≡◌, IfSome};
+ghost use Rattle.std.specs.Prelude.{◌≡◌, None, IfSome};
 
 use crate::handling::{HandleWords, Handler};
 use crate::line_numbers::number_in_line;
@@ -158,7 +158,10 @@ fn flush_entry<R: AllocGlobal + Files<File = File> + Clock, O: Output, W: Onlook
 }
 
 // The words of a core at this stage. One that was cut on its way has not the length that was stated: it is stored as it came.
-fn words_at(stage: Stage, words: HandleWords<'static>) -> HandleWords<'static> {
+fn words_at(stage: Stage, words: HandleWords<'static>) -> HandleWords<'static>
+    ensures cut { stage ≡ Stage.Part → result ≡ record words.entry { length = None } }
+    ensures whole { stage ≡ Stage.Whole → result ≡ words.entry }
+{
     match stage {
         Stage::Part => HandleWords {
             length: None,

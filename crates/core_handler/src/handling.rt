@@ -9,6 +9,7 @@ ghost use Rattle.core_handler.specs.Counting.{counts_by};
 ghost use Rattle.core_handler.specs.Requesting.{AsksBy, IsRequested, IsTime, IsWanted, template_of};
 ghost use Rattle.core_handler.specs.Printing as spec;
 
+use crate::Config;
 use crate::checking::check;
 use crate::config_file::{DEFAULT_CONFIG, Document, Trouble, read_document};
 use crate::flush::flush;
@@ -24,7 +25,6 @@ use archive_files::{ArchivePath, Collected, Failure, FileWord, Refusal, StoreReq
 use arrayvec::ArrayVec;
 use diagnostics::Onlooker;
 use disk_model::FileFault;
-use handler_config::Config;
 use name_template::Template;
 use script_streams::{Output, Reply};
 use spool::Outcome;
@@ -94,7 +94,7 @@ impl<'a> HandleWords<'a> {
 
 /// Stores a core from the input as a configuration says, and logs its outcome. With `--check` nothing is stored,
 /// and the values that hold are printed on the output; a difference between the two halves of the archive's
-/// journal is a note. With a spool the core goes there first, and with `--flush` those that wait there are stored.
+/// journal is a note. The archive that is named is noted for messages. With a spool the core goes there first, and with `--flush` those that wait there are stored.
 ///
 /// # Errors
 ///
@@ -111,21 +111,24 @@ pub fn handle<
     words: HandleWords<'_>,
     input: &mut I,
     output: &mut O,
-    note: &mut Collected,
+    notes: &mut Notes,
     onlooker: &mut W,
 ) -> Result<(), Failure> {
     let document = read_document(rt, words.path());
     let config = with_stall(Config::of(&document.value), words.stall);
     if words.is_check {
-        return check(rt, &words, &document, output, note);
+        return check(rt, &words, &document, output, &mut notes.subject);
     }
     let handler = handler_of(rt.alloc(), config, words.archive, words.mode);
     print_faults(rt, &handler, &words, &document);
     match handler.printer.log.archive {
-        Some(archive) => handle_in(rt, &handler, &words, archive, input, output, onlooker),
+        Some(archive) => {
+            notes.archive = String::from_str(rt.alloc(), archive).ok();
+            handle_in(rt, &handler, &words, archive, input, output, onlooker)
+        }
         None => {
             handler.print_lost(rt, &words, "", b"File", UNNAMED);
-            Err(Failure::Refused(Refusal::File(FileWord::Archive, FileFault::Missing)))
+            Err(Failure::Refused(Refusal::File(FileWord::Unnamed, FileFault::Missing)))
         }
     }
 }

@@ -3,6 +3,7 @@
 
 mod berth;
 mod checking;
+mod config;
 mod config_file;
 mod counting;
 mod examine;
@@ -10,6 +11,7 @@ mod file_limit;
 mod flush;
 mod fronts;
 mod handling;
+mod keys;
 mod labels;
 mod line_numbers;
 mod lock_watch;
@@ -23,9 +25,12 @@ mod spool_paths;
 mod spool_store;
 mod time_source;
 mod twin;
+mod values;
 
+pub use config::{Burst, Config};
 pub use file_limit::write_trouble;
 pub use handling::{HandleWords, handle, print_lost_words};
+pub use keys::{Fault, Key, entry_fault};
 pub use labels::label_in;
 pub use log::Log;
 pub use notes::Notes;

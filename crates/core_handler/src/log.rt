@@ -19,7 +19,7 @@ const LONGEST: usize = 900;
 const OWNER_ALONE: u32 = 0o600;
 
 // How grave a line is, as the kernel's log counts it (syslog(2)).
-#[derive(Clone, Copy, Debug, PartialEq, Eq)]
+#[derive(Clone, Copy, PartialEq, Eq)]
 pub(crate) enum Level {
     // A core is lost.
     Error,
@@ -39,7 +39,7 @@ pub struct Log<'a> {
 }
 
 // Why a log takes no line.
-#[derive(Clone, Copy, Debug, PartialEq, Eq)]
+#[derive(Clone, Copy, PartialEq, Eq)]
 pub(crate) enum LogFault {
     // It can't be made or opened.
     Closed,

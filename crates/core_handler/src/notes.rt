@@ -9,6 +9,8 @@ pub struct Notes {
     pub subject: Collected,
     /// On the file system of the archive, or on the spool of the case.
     pub second: Collected,
+    /// The archive that a handler's configuration or its words name, for a message about it.
+    pub archive: Option<String>,
 }
 
 impl Notes {
@@ -17,6 +19,7 @@ impl Notes {
         Notes {
             subject: Collected::new(alloc),
             second: Collected::new(alloc),
+            archive: None,
         }
     }
 }

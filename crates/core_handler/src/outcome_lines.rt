@@ -238,7 +238,7 @@ pub(crate) fn words_of(
     let mut reply = Reply::new(&mut words);
     match refusal.and_then(|refusal| file_text(alloc, refusal)) {
         Some(text) => reply.print(text.as_bytes()),
-        None => print_meaning(&mut reply, Context::Other, reason, trouble),
+        None => print_meaning(&mut reply, Context::Other, &[], reason, trouble, None),
     }
     let _ = reply.finish();
     words

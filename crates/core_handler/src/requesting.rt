@@ -5,11 +5,11 @@ ghost use Rattle.script_lines.specs.Said.{said};
 ghost use Rattle.core_handler.specs.Fronts as fronts;
 ghost use Rattle.core_handler.specs.Requesting as spec;
 
+use crate::Config;
 use crate::fronts::program_front;
 use crate::handling::HANDLER_LIMIT;
 use archive_files::{StoreRequest, StoreWords};
 use arrayvec::ArrayVec;
-use handler_config::Config;
 use inspector_cli::{Burst, Naming, Order, StoreOptions};
 use name_template::{Template, TemplateFault};
 use retention::Policy;

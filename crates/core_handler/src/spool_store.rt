@@ -3,6 +3,7 @@ ghost use Rattle.std.specs.Prelude.{◌≡◌, ◌^◌, ◌+◌, ◌-◌, true, 
 ghost use Rattle.core_handler.specs.Spooling.{is_under_name, limit_in};
 ghost use Rattle.whole_files.specs.Whole.{IsMade};
 
+use crate::Config;
 use crate::berth::{Berth, make_berth};
 use crate::handling::{HANDLER_LIMIT, Handler};
 use crate::line_numbers::number_in_line;
@@ -14,7 +15,6 @@ use crate::spool_paths::SpoolPaths;
 use archive_files::{ArchivePath, Collected, Failure, StoreRequest};
 use diagnostics::Onlooker;
 use disk_model::FileFault;
-use handler_config::Config;
 use outcome_counts::{Counter, Reason};
 use script_streams::{Output, Reply};
 use spool::{

@@ -15,7 +15,7 @@ use std::rt::Files;
 const CHUNK: usize = 4096;
 
 // The case that an archive has under the name of a core.
-#[derive(Clone, Copy, Debug, PartialEq, Eq)]
+#[derive(Clone, Copy, PartialEq, Eq)]
 pub(crate) enum Twin {
     // No case; or that is not known.
     None,
@@ -26,7 +26,7 @@ pub(crate) enum Twin {
 }
 
 // The result of a search for a case by its name.
-#[derive(Clone, Copy, Debug, PartialEq, Eq)]
+#[derive(Clone, Copy, PartialEq, Eq)]
 struct Found {
     seq: u32,
     length: u64,

@@ -1,5 +1,5 @@
 -- The first note of each type, and the first fault, as the notes go by.
-use Rattle.std.proofs.Common.{◌≡◌, ℕ, Bool, true, false, cond, List, [], ◌∷◌, ◌++◌, Option, Some, None, find, filter, map, length, eqb, refl, sym, ap, subst, ◌∙◌}
+use Rattle.std.proofs.Common.{◌≡◌, ℕ, Bool, true, false, cond, List, [], ◌∷◌, ◌++◌, Option, Some, None, find, length, eqb, refl, sym, ap, subst, ◌∙◌}
 use Rattle.std.specs.Prelude.{is_none}
 use Rattle.std.specs.Option.{option_or, option_map}
 use Rattle.std.specs.List.{list_all}
@@ -7,7 +7,7 @@ use Rattle.std.proofs.lemmas.Bool.{false≢true, and_from, and_parts, eqb-true}
 use Rattle.elf_view.specs.NoteList.{NoteView}
 use Rattle.elf_view.specs.Sound.{next_index}
 use Rattle.core_notes.specs.Descriptor.{status_fault}
-use Rattle.core_notes.specs.Typed.{is_typed, first_desc, desc_if, FirstDescs, first_descs, next_descs, fault_if, fault_after, note_fault_at, first_note_fault, core_fault, is_status_whole, AreStatusesWhole, all_descs}
+use Rattle.core_notes.specs.Typed.{is_typed, first_desc, desc_if, FirstDescs, first_descs, next_descs, fault_if, fault_after, note_fault_at, first_note_fault, core_fault, is_status_whole, AreStatusesWhole}
 use Rattle.core_notes.specs.declared.faults.NoteField.{NoteField}
 use Rattle.core_notes.specs.declared.faults.NoteField.TheVariants.{DescSize}
 
@@ -89,12 +89,3 @@ pub status_size : (notes rest : List NoteView) (n : NoteView) → notes ≡ n �
 status_size notes rest n is whole typed =
     let all : AreStatusesWhole (n ∷ rest) = subst AreStatusesWhole is whole in
     eqb-true (length n.desc) 376 (size_of (is_typed 1 n) (eqb (length n.desc) 376) DescSize typed (and_parts (is_status_whole n) (list_all is_status_whole rest) all).0)
-
--- the descriptors of a type, where the first note is of it and where it is not
-pub descs_first : (kind : ℕ) (notes rest : List NoteView) (n : NoteView) → notes ≡ n ∷ rest → is_typed kind n ≡ true → all_descs kind notes ≡ n.desc ∷ all_descs kind rest
-descs_first kind notes rest n is typed =
-    ap (all_descs kind) is ∙ ap (λ t. map (λ (note : NoteView). note.desc) (cond t (n ∷ filter (is_typed kind) rest) (filter (is_typed kind) rest))) typed
-
-pub descs_pass : (kind : ℕ) (notes rest : List NoteView) (n : NoteView) → notes ≡ n ∷ rest → is_typed kind n ≡ false → all_descs kind notes ≡ all_descs kind rest
-descs_pass kind notes rest n is other =
-    ap (all_descs kind) is ∙ ap (λ t. map (λ (note : NoteView). note.desc) (cond t (n ∷ filter (is_typed kind) rest) (filter (is_typed kind) rest))) other

@@ -16,7 +16,7 @@ use diagnostics::after_failure;
 use std::alloc::{AllocError, Global};
 
 // The part of a disk's bytes that is known to be stable.
-#[derive(Clone, Copy, Debug, PartialEq, Eq)]
+#[derive(Clone, Copy, PartialEq, Eq)]
 pub(crate) enum Durability {
     // All that reads give.
     Synced,

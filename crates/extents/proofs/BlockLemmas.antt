@@ -48,10 +48,6 @@ pub last_from : (first : Run) (front : List Run) (last : Run) → AreApartFrom f
 last_from first [] last h = h.2
 last_from first (r ∷ front) last h = last_from r front last h.2
 
-pub last_is_run : (front : List Run) (last : Run) → AreApart (front ++ last ∷ []) → IsRun last
-last_is_run [] last h = h
-last_is_run (r ∷ front) last h = last_from r front last h
-
 pub push_from : (first : Run) (front : List Run) (last r : Run) → AreApartFrom first (front ++ last ∷ []) → IsRun r → last.start + last.count ≢ r.start → AreApartFrom first ((front ++ last ∷ []) ++ r ∷ [])
 push_from first [] last r h is_run apart = (h.0, h.1, (h.2, apart, is_run))
 push_from first (s ∷ front) last r h is_run apart = (h.0, h.1, push_from s front last r h.2 is_run apart)

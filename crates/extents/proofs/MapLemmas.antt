@@ -162,10 +162,6 @@ module _ (words groups : List ℕ) (n free first : ℕ) (m : IsMap words groups 
     is_map_with second written none =
         map_with words groups put put_groups n free first run m put_long put_groups_long (put_second second) run_below (put_written 1 written) (all_used_here none)
 
-pub same_second : (lent lent_groups words groups : List ℕ) → lent ≡ words → lent_groups ≡ groups → IsSecondLevel groups words → IsSecondLevel lent_groups lent
-same_second lent lent_groups words groups same same_groups second place =
-    ap (λ gs. bit_of gs place) same_groups ∙ second place ∙ ap (λ ws. one_if (ltb 0 (get_or ws place 0))) (sym same)
-
 -- The search for the lowest free block.
 module _ (words groups : List ℕ) (n free first : ℕ) (m : IsMap words groups n free first) where
   -- what a bit of the second level tells

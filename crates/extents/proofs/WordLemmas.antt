@@ -1,6 +1,6 @@
 -- Bits in words of 64 bits, and the second level over these words.
 use Rattle.std.proofs.Common.{◌≡◌, ◌≢◌, inl, inr, ℕ, ◌+◌, ◌-◌, ◌*◌, ◌/◌, ◌%◌, ◌^◌, ◌<◌, ◌≤◌, true, false, cond, List, length, get_or, set, refl, sym, ap, ◌∙◌, arith, min, max, bit_and, bit_or}
-use Rattle.std.proofs.lemmas.List.{get_or-set_same, get_or-set_other, get_or_past}
+use Rattle.std.proofs.lemmas.List.{get_or-set_same, get_or-set_other}
 use Rattle.std.proofs.Math.Dec.{ltb}
 use Rattle.std.proofs.lemmas.Bool.{cases_lt, cases_eq}
 use Rattle.std.specs.Int.{bit_at, bit_not, w64, trailing_zeros}
@@ -19,9 +19,6 @@ bit_same words place word k within row =
 
 pub bit_other : (words : List ℕ) (place word k : ℕ) → k / 64 ≢ place → bit_of (set words place word) k ≡ bit_of words k
 bit_other words place word k row = ap (λ w. bit_at w (k % 64)) (get_or-set_other words place (k / 64) word 0 row)
-
-pub bit_past : (words : List ℕ) (k : ℕ) → 64 * length words ≤ k → bit_of words k ≡ 0
-bit_past words k past = ap (λ w. bit_at w (k % 64)) (get_or_past words (k / 64) 0 (omega arith)) ∙ bit_at-zero (k % 64)
 
 -- The bits of a run in one word.
 
@@ -87,12 +84,6 @@ module _ (run : Run) (place word mask : ℕ) (fits : mask < 2 ^ 64) (bits_are : 
 pub record IsWrittenTo (old now : List ℕ) (run : Run) (value place : ℕ) : Type 0 where
   pub done : (k : ℕ) → k < 64 * place → bit_of now k ≡ cond (is_within run k) value (bit_of old k)
   pub left : (k : ℕ) → 64 * place ≤ k → bit_of now k ≡ bit_of old k
-
-pub written_none : (words : List ℕ) (run : Run) (value : ℕ) → IsWrittenTo words words run value (run.start / 64)
-written_none words run value = record {
-  done = λ k before. rw (below_run run k (omega arith)) refl;
-  left = λ k _. refl;
-}
 
 pub written_more : (old now : List ℕ) (run : Run) (value place word before : ℕ) → place < length now → before ≡ get_or now place 0
     → ((i : ℕ) → i < 64 → bit_at word i ≡ cond (is_within run (64 * place + i)) value (bit_at before i))

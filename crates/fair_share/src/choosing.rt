@@ -15,7 +15,7 @@ use journal_layout::{Entry, Kind};
 use std::alloc::Global;
 
 /// Whose cores are counted together.
-#[derive(Clone, Copy, PartialEq, Eq, Debug)]
+#[derive(Clone, Copy, PartialEq, Eq)]
 pub enum Scope {
     /// All of them.
     All,

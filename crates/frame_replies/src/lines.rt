@@ -29,7 +29,7 @@ use std::alloc::{AllocError, Global};
 use unwind::Stop;
 
 /// What a frame's line shows beside its place.
-#[derive(Clone, Copy, PartialEq, Eq, Debug)]
+#[derive(Clone, Copy, PartialEq, Eq)]
 pub enum Shown {
     /// The stack pointer, and the return address register of frame 0.
     Stack,

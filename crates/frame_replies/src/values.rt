@@ -18,7 +18,7 @@ use unwind::columns::{RA, SP};
 use unwind::{Frame, Stop};
 
 /// A frame of a thread's stack.
-#[derive(Clone, Copy, Debug)]
+#[derive(Clone, Copy)]
 pub struct FrameAnswer<'a> {
     /// Where execution is or was, or the address to which a call returns.
     pub pc: u64,

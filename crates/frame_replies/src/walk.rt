@@ -12,7 +12,7 @@ use thread_regs::threads;
 use unwind::{Frame, Frames, Stop, UnwoundExecutable, is_trampoline};
 
 /// A frame that was found.
-#[derive(Clone, Copy, Debug)]
+#[derive(Clone, Copy)]
 pub(crate) struct WalkedFrame {
     /// The frame.
     pub(crate) frame: Frame,
@@ -28,7 +28,7 @@ pub struct Walk {
 }
 
 /// Why a walk stops before the last frame.
-#[derive(Clone, Copy, Debug, PartialEq, Eq)]
+#[derive(Clone, Copy, PartialEq, Eq)]
 pub enum WalkFault {
     /// A byte of the core's image is wanted and not at hand.
     Unread(Unread),

@@ -14,7 +14,7 @@ use call_frames::Entry;
 const LIMIT: u32 = 65_536;
 
 /// The aim of the execution of a program.
-#[derive(Clone, Copy, Debug)]
+#[derive(Clone, Copy)]
 pub(crate) struct Target {
     /// code_alignment_factor.
     pub(crate) code_align: u64,

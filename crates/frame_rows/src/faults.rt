@@ -3,7 +3,7 @@ ghost use Rattle.std.specs.Prelude.{◌≡◌};
 ghost use Rattle.frame_rows.specs.FieldNames as names;
 
 /// Why the first call frame instruction that can't be executed is refused (DWARF 5, 6.4.2).
-#[derive(Clone, Copy, Debug, PartialEq, Eq)]
+#[derive(Clone, Copy, PartialEq, Eq)]
 pub enum RowField {
     /// The opcode is not known, or is an advance of the location in the program of a CIE.
     Opcode,

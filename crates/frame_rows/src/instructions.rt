@@ -7,7 +7,7 @@ use crate::operands::{Operands, Shape};
 use crate::rows::Rule;
 
 /// The operation of a call frame instruction (DWARF 5, 6.4.2). Columns may be any number. Offsets are modulo 2^64.
-#[derive(Clone, Copy, Debug)]
+#[derive(Clone, Copy)]
 pub(crate) enum Instruction {
     /// Advances the location by so many code_alignment_factors.
     Advance(u64),
@@ -32,7 +32,7 @@ pub(crate) enum Instruction {
 }
 
 /// An instruction, and the bytes after it.
-#[derive(Clone, Copy, Debug)]
+#[derive(Clone, Copy)]
 pub(crate) struct Step<'a> {
     pub(crate) instruction: Instruction,
     pub(crate) rest: &'a [u8],

@@ -9,7 +9,7 @@ use call_frames::{sized, sleb, uleb};
 use elf_view::{u16_at, u32_at};
 
 /// The kinds of operands that an opcode has (DWARF 5, 7.24).
-#[derive(Clone, Copy, Debug)]
+#[derive(Clone, Copy)]
 pub(crate) enum Shape {
     /// None.
     Nothing,
@@ -34,7 +34,7 @@ pub(crate) enum Shape {
 }
 
 /// The numbers among the operands, 0 for a missing one, and the bytes after them. Signed ones are modulo 2^64.
-#[derive(Clone, Copy, Debug)]
+#[derive(Clone, Copy)]
 pub(crate) struct Operands<'a> {
     pub(crate) first: u64,
     pub(crate) second: u64,

@@ -6,7 +6,7 @@ ghost use Rattle.frame_rows.specs.Rows as spec;
 const COLUMNS: usize = 32;
 
 /// How the value that a register has in the caller is found (DWARF 5, 6.4.1). Offsets are signed, and modulo 2^64.
-#[derive(Clone, Copy, Debug, PartialEq, Eq)]
+#[derive(Clone, Copy, PartialEq, Eq)]
 pub enum Rule {
     /// It is not known.
     Undefined,
@@ -23,7 +23,7 @@ pub enum Rule {
 }
 
 /// The rule of the Canonical Frame Address.
-#[derive(Clone, Copy, Debug, PartialEq, Eq)]
+#[derive(Clone, Copy, PartialEq, Eq)]
 pub struct Cfa {
     /// The column of the register that it is reckoned from.
     pub column: u64,
@@ -34,7 +34,7 @@ pub struct Cfa {
 }
 
 /// The row of an address.
-#[derive(Clone, Copy, Debug)]
+#[derive(Clone, Copy)]
 pub struct Row {
     /// The rule of the CFA.
     pub cfa: Cfa,

@@ -1,12 +1,12 @@
 -- Pages that go on.
 use Rattle.std.proofs.Common.{◌≡◌, ℕ, ◌==◌, Bool, true, false, not, cond, List, [], ◌∷◌, ◌++◌, drop, map, Option, Some, Result, Ok, Err, OnOk, refl, sym, ap, subst, ◌∙◌}
 use Rattle.std.proofs.lemmas.Bool.{and_parts, not-true}
-use Rattle.std.proofs.lemmas.List.{append-nil, reverse-append}
+use Rattle.std.proofs.lemmas.List.{reverse-append}
 use Rattle.std.specs.List.{list_all}
 use Rattle.html_pages.specs.Escaping.{escape, plain}
 use Rattle.html_pages.specs.Html.{Place, Step, Token, char, chars, in_attributes, in_name, in_reference, in_text, is_void, nest, nested, nowhere, read, tag, tags}
 use Rattle.html_pages.specs.Names.{tag_name}
-use Rattle.html_pages.specs.Pages.{GoesOn, IsFront, IsPage, end_of_first, end_tokens, is_in_text, is_style_byte, names, style}
+use Rattle.html_pages.specs.Pages.{GoesOn, IsFront, end_of_first, end_tokens, is_in_text, is_style_byte, names, style}
 use Rattle.html_pages.specs.Pieces.{attributes_text, end_text, start_text}
 use Rattle.html_pages.specs.declared.attributes.Attribute.{Attribute}
 use Rattle.html_pages.specs.declared.tags.Tag.{Tag}
@@ -40,14 +40,6 @@ front_on text outer text' outer' ts is goes =
 -- and what is read of it is followed by the tokens
 pub tokens_on : (text : List ℕ) (outer : List Tag) (text' : List ℕ) (outer' : List Tag) (ts : List Token) → IsFront text outer → GoesOn text outer text' outer' ts → (read in_text text').1 ≡ (read in_text text).1 ++ ts
 tokens_on text outer text' outer' ts is goes = ap (λ (s : Step). s.1) (on_reads text outer text' outer' ts is goes)
-
--- A front in which nothing is open is a page.
-pub front_whole : (text : List ℕ) (outer : List Tag) → IsFront text outer → outer ≡ [] → IsPage text
-front_whole text outer is none = record {
-  tokens = (read in_text text).1;
-  reads = front_reads text outer is;
-  nests = is.nests ∙ ap (λ (o : List Tag). Some (names o)) none;
-}
 
 pub names_more : (outer : List Tag) (t : Tag) → names (outer ++ t ∷ []) ≡ tag_name t ∷ names outer
 names_more outer t = ap (map tag_name) (reverse-append outer (t ∷ []))
@@ -109,14 +101,6 @@ pub innermost_goes : (text : List ℕ) (outer : List Tag) (t : Tag) (text' : Lis
     → text' ≡ text ++ end_text t → outer ≡ outer' ++ t ∷ [] → GoesOn text outer text' outer' (end_tokens outer)
 innermost_goes text outer t text' outer' written opened =
     subst (GoesOn text outer text' outer') (sym (ap end_tokens opened ∙ ap end_of_first (names_more outer' t))) (end_goes text outer t text' outer' written opened)
-
-pub nothing_goes : (text : List ℕ) (outer outer' : List Tag) → outer ≡ [] → outer' ≡ [] → GoesOn text outer text outer' (end_tokens outer)
-nothing_goes text outer outer' none none' = record {
-  piece = [];
-  written = sym (append-nil text);
-  reads = ap (λ (o : List Tag). (in_text, end_tokens o)) (sym none);
-  nests = ap (λ (o : List Tag). nested (Some (names o)) (end_tokens o)) none ∙ ap (λ (o : List Tag). Some (names o)) (sym none');
-}
 
 pub opened_one : (t : Tag) (outer outer' : List Tag) (b : Bool) → b ≡ is_void (tag_name t) → b ≡ false → outer' ≡ outer ++ t ∷ [] → outer' ≡ cond (is_void (tag_name t)) outer (outer ++ t ∷ [])
 opened_one t outer outer' b is isnt written = written ∙ sym (ap (λ (v : Bool). cond v outer (outer ++ t ∷ [])) (sym is ∙ isnt))

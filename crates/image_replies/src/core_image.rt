@@ -10,7 +10,7 @@ use core_notes::{CoreNotes, NoteFault};
 use elf_view::{Elf, ElfFault, Want};
 
 /// Why a core is not shown: the first fault of its headers and notes, or else that of its typed notes.
-#[derive(Clone, Copy, Debug, PartialEq, Eq)]
+#[derive(Clone, Copy, PartialEq, Eq)]
 pub enum CoreFault {
     /// A field of a header, of a program header or of a note is bad.
     Elf(ElfFault),
@@ -20,7 +20,7 @@ pub enum CoreFault {
 
 /// A core whose headers, notes and typed notes pass their checks.
 /// The values that it gives may be kept as long as the image.
-#[derive(Clone, Copy, Debug)]
+#[derive(Clone, Copy)]
 pub struct CoreImage<'a> {
     elf: Elf<'a>,
     notes: CoreNotes<'a>,

@@ -21,7 +21,7 @@ use Rattle.script_streams.specs.Printing.{Sink, Told, IsDelivered}
 use Rattle.script_streams.specs.declared.streams.StreamFault.{StreamFault}
 use Rattle.script_lines.specs.Said.{silence, end_of}
 use Rattle.archive_replies.specs.Texts.{plain_reply}
-use Rattle.inspector_cli.specs.Fitting.{CutsBehind, CutsWell, EndsAt, FillsWhole, Going, IsServed, IsShort, IsUnder, IsUncut, IsWithin, MeetsLength, TakesWhile, going_text}
+use Rattle.inspector_cli.specs.Fitting.{CutsBehind, CutsWell, EndsAt, FillsWhole, Going, IsServed, IsShort, IsUnder, IsWithin, MeetsLength, TakesWhile, going_text}
 use Rattle.inspector_cli.proofs.SpentLemmas.{silence_unspent}
 use Rattle.inspector_cli.proofs.FitLemmas.{texts_more, either}
 use Rattle.intake.specs.Marks.{Mark, IsRunOfMarks, Passes}
@@ -150,29 +150,6 @@ behind_well fit most taken s File behind = tt
 behind_well fit most taken s (Refused fault) behind = tt
 behind_well fit most taken s (Cut kept) behind = (behind.2, behind.3, behind.4, behind.5)
 behind_well fit most taken s (Differs f) behind = tt
-
--- no step but a look finds either
-pub uncut_behind : (fit : Bool) (most : Option ℕ) (taken : ℕ) (s : ArchiveState) (r : Result ℕ TakeStop) → IsUncut r → CutsBehind fit most taken r s
-uncut_behind fit most taken s (Ok n) uncut = tt
-uncut_behind fit most taken s (Err File) uncut = tt
-uncut_behind fit most taken s (Err (Refused fault)) uncut = tt
-uncut_behind fit most taken s (Err (Cut kept)) uncut = absurd uncut
-uncut_behind fit most taken s (Err (Differs f)) uncut = tt
-
-pub uncut_meets : (want : Option ℕ) (taken : ℕ) (r : Result ℕ TakeStop) → IsUncut r → MeetsLength want taken r
-uncut_meets want taken (Ok n) uncut = tt
-uncut_meets want taken (Err File) uncut = tt
-uncut_meets want taken (Err (Refused fault)) uncut = tt
-uncut_meets want taken (Err (Cut kept)) uncut = absurd uncut
-uncut_meets want taken (Err (Differs f)) uncut = absurd uncut
-
--- what is not to be cut is not
-pub never_well : (fit : Bool) (most : Option ℕ) (s : ArchiveState) (r : Result (Unit {0}) TakeStop) → CutsWell fit None r s → CutsWell fit most r s
-never_well fit most s (Ok u) well = tt
-never_well fit most s (Err File) well = tt
-never_well fit most s (Err (Refused fault)) well = tt
-never_well fit most s (Err (Cut kept)) well = absurd (let e : None ≡ Some well.0 = well.1 in cc)
-never_well fit most s (Err (Differs f)) well = tt
 
 -- a file that has ended is not cut
 pub end_well : (fit : Bool) (most : Option ℕ) (want : Stated) (taken : List ℕ) (s : ArchiveState) (r : Result (Unit {0}) TakeStop) → EndsAt want taken r → CutsWell fit most r s

@@ -33,7 +33,7 @@ pub enum CopyFault {
 }
 
 /// Why a copy ended before its end.
-#[derive(Clone, Copy, Debug)]
+#[derive(Clone, Copy)]
 pub(crate) enum Halt {
     /// The disk failed.
     Disk,

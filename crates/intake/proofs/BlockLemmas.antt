@@ -14,7 +14,7 @@ use Rattle.case_journal.specs.Journaled.{Journaled}
 use Rattle.intake.specs.Balance.{AreHeld}
 use Rattle.intake.specs.Blocks.{block_start, block_bytes, joined}
 use Rattle.intake.specs.Contents.{zero_block, advanced, next_free}
-use Rattle.intake.specs.Growth.{DiskReply, BlockReply, ChangesFree, Adds, NeedsBlock, lengthened, refreshed}
+use Rattle.intake.specs.Growth.{DiskReply, BlockReply, Adds, NeedsBlock, lengthened, refreshed}
 use Rattle.intake.specs.Parts.{StreamParts, taken_in}
 use Rattle.intake.specs.declared.faults.ArchiveFault.{ArchiveFault}
 use Rattle.intake.proofs.CountLemmas.{not_held}
@@ -47,11 +47,6 @@ module _ (shape : Shape) (k : ℕ) (a b : List ℕ) (same : SameOutside (block_s
         | inr ne ↦ ap (λ (x : List ℕ). x ++ joined shape b rest) (other i ne) ∙ ap (λ (x : List ℕ). block_bytes shape a i ++ x) (joined_other rest (omega (arith, s)))
       ]
 
--- bytes of blocks that are held, where a free block was changed at most
-pub joined_held : (shape : Shape) (flags : List Bool) (a b : List ℕ) (held : List ℕ) → AreHeld flags held → ChangesFree shape flags a b → joined shape b held ≡ joined shape a held
-joined_held shape flags a b held are changes =
-    ⊎_elim (λ e. ap (λ (x : List ℕ). joined shape x held) e) (λ h. joined_other shape h.0 a b h.2 held (not_held flags held h.0 are h.1)) changes
-
 -- a cleared block is zeros
 pub cleared : (b : List ℕ) → length b ≡ 4096 → take 0 b ++ replicate (length b - 0) 0 ≡ zero_block
 unfolding zero_block
@@ -60,11 +55,6 @@ cleared b is = let e : length b - 0 ≡ 4096 = omega arith in ap (λ (k : ℕ). 
 -- what the code tests of n bytes that fill a block
 pub needed : (len n : ℕ) → (n ≢ 0) → 4096 ≤ len % 4096 + n → len % 4096 + n ≤ 4096 → NeedsBlock len n
 needed len n some most fits = (some, omega arith)
-
--- bytes that fill no block leave some of it free
-pub fits_below : (len n : ℕ) → len % 4096 + n ≤ 4096 → (NeedsBlock len n → ⊥) → len % 4096 + n < 4096
-fits_below len zero fits no_need = omega arith
-fits_below len (suc n) fits no_need = elim (cases_eq (len % 4096 + suc n) 4096) as (λ _. len % 4096 + suc n < 4096) [ inl full ↦ absurd (no_need ((λ e. omega (arith, e)), full)) | inr less ↦ omega (arith, less) ]
 
 take_nil : (k : ℕ) → take {A = ℕ} k [] ≡ []
 take_nil zero = refl

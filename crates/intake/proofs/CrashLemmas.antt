@@ -7,19 +7,17 @@ use Rattle.disk_model.specs.declared.disk.Disk as disk
 use Rattle.extents.specs.FreeSet.{one_if}
 use Rattle.journal_layout.specs.Case.{Case}
 use Rattle.journal_layout.specs.Rewriting.{appended}
-use Rattle.journal_layout.specs.Standing.{Standing, store_of}
-use Rattle.journal_layout.specs.declared.faults.OpenFault.{OpenFault}
+use Rattle.journal_layout.specs.Standing.{store_of}
 use Rattle.journal_layout.specs.declared.faults.OpenFault.TheVariants as open_fault
 use Rattle.case_journal.specs.Journaled.{Journaled}
-use Rattle.case_journal.specs.Viewing.{FindsStanding}
 use Rattle.intake.specs.Blocks.{image_in}
 use Rattle.intake.specs.Closing.{with_blocks}
 use Rattle.extents.specs.Runs.{runs_of}
 use Rattle.std.proofs.Common.{length}
 use Rattle.intake.specs.Step.{MayHaveRuns}
-use Rattle.intake.specs.Durable.{Durable, StandsFor, durable_in, durable_of, with_case}
+use Rattle.intake.specs.Durable.{Durable, StandsFor, durable_in, with_case}
 use Rattle.intake.specs.Guarding.{Guards, LeavesCases, UsesNoFreeBlock, Leaves, LeavesNew, LeavesStored, StoresIn}
-use Rattle.intake.specs.Parts.{Parts, StreamParts, state_of, stream_facts, contents_of, taken_in}
+use Rattle.intake.specs.Parts.{StreamParts, state_of, stream_facts, contents_of, taken_in}
 use Rattle.intake.specs.Slots.{stream_at}
 use Rattle.intake.specs.Sound.{IsRunning}
 use Rattle.intake.specs.StreamView.{case_from_parts}
@@ -134,17 +132,6 @@ stored_doubt g d j most streams b slot s blocks y is fits stored = (
     at_map f [] i = refl
     at_map f (o ∷ rest) zero = refl
     at_map f (o ∷ rest) (suc i) = at_map f rest i
-
--- an opening finds what stands
-pub found_ok : {D : Type 0} (seen : D → List ℕ) (before : List ℕ) (a : Parts D) (x : Durable) (stands : StandsFor before x) → seen a.disk ≡ before → a.journal.standing ≡ stands.standing → durable_of seen a ≡ x
-found_ok seen before a x stands same is = ap (λ (b : List ℕ). durable_in b a.journal.standing) same ∙ ap (durable_in before) is ∙ stands.is
-
-pub found_err : (f : OpenFault) (s : Standing) → FindsStanding (Err f) s → (f ≡ open_fault.Disk) ⊎ (f ≡ open_fault.OutOfMemory)
-found_err open_fault.Disk s found = inl refl
-found_err open_fault.OutOfMemory s found = inr refl
-found_err open_fault.NotAnArchive s found = absurd found
-found_err (open_fault.UnknownVersion v) s found = absurd found
-found_err (open_fault.Damaged at which) s found = absurd found
 
 -- the append of a record that moves no block
 module _ {D : Type 0} (g : disk.Ghosts D) (d d' : D) (j j' : Journaled) (r : Record) (guards : Guards g d j) (runs : j.stopped ≡ false) (honest : IsTrue (g.is_honest d)) (whole : IsWholeAfter g d d' j r)

@@ -25,14 +25,6 @@ or_none : (a : Bool) → (a || false) ≡ a
 or_none true = refl
 or_none false = refl
 
--- one case alone
-pub one_stays : (name seqs : List ℕ) (c : Case) → stays_named name seqs (c ∷ []) ≡ (not (is_among seqs c.seq) && bytes_eq c.origin.name name)
-one_stays name seqs c = of (not (is_among seqs c.seq))
-  where
-    of : (t : Bool) → is_named name (cond t (c ∷ []) []) ≡ (t && bytes_eq c.origin.name name)
-    of true = or_none (bytes_eq c.origin.name name)
-    of false = refl
-
 -- one case more
 pub stays_more : (name seqs : List ℕ) (cases : List Case) (c : Case) → stays_named name seqs (cases ++ c ∷ []) ≡ (stays_named name seqs cases || stays_named name seqs (c ∷ []))
 stays_more name seqs [] c = refl

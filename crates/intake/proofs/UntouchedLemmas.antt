@@ -25,9 +25,6 @@ pub disk_spares : {D : Type 0} (r : Result (Unit {0}) ArchiveFault) (old new : D
 disk_spares (Ok u) old new told = tt
 disk_spares (Err f) old new told = subst (λ (x : ArchiveFault). RefusalSpares {T = Unit {0}} (Err x) old new) (sym told) tt
 
-pub fault_spares : {D : Type 0} (T : Type 0) (f : ArchiveFault) (old new : D) → f ≡ fault.Disk → RefusalSpares {T = T} (Err f) old new
-fault_spares T f old new told = subst (λ (x : ArchiveFault). RefusalSpares {T = T} (Err x) old new) (sym told) tt
-
 -- a refusal that is told as one of the journal's
 pub journal_spares : {D : Type 0} (T : Type 0) (jf : JournalFault) (f : ArchiveFault) (old new : D) → f ≡ fault_of jf → LeavesDisk jf old new → RefusalSpares {T = T} (Err f) old new
 journal_spares T jf f old new told leaves = subst (λ (x : ArchiveFault). RefusalSpares {T = T} (Err x) old new) (sym told) (by_fault jf leaves)

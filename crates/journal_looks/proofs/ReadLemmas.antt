@@ -1,5 +1,5 @@
 -- Reads in a wider time.
-use Rattle.std.proofs.Common.{◌≡◌, ℕ, zero, suc, [], ◌∷◌, refl, ◌+◌, ◌-◌, ◌<◌, ◌≤◌, List, ◌++◌, length, take, drop, slice_index, sym, ap, ◌∙◌, subst, arith, length-drop, ◌⊎◌, inl, inr, ⊎_elim, Option, Some, IfSome, Result, Ok, Err, OnOk}
+use Rattle.std.proofs.Common.{◌≡◌, ℕ, [], ◌∷◌, ◌+◌, ◌-◌, ◌<◌, ◌≤◌, List, ◌++◌, length, take, drop, slice_index, sym, ap, ◌∙◌, subst, arith, length-drop, ◌⊎◌, inl, inr, ⊎_elim, Option, Some, IfSome, Result, Ok, Err, OnOk}
 use Rattle.std.proofs.lemmas.Bool.{cases_lt}
 use Rattle.std.proofs.lemmas.List.{length-take-le}
 use Rattle.disk_model.specs.Places.{part, overwritten, SameOutside}
@@ -10,8 +10,8 @@ use Rattle.journal_looks.specs.History.{moment}
 use Rattle.journal_layout.specs.declared.shape.Shape.{Shape}
 use Rattle.journal_layout.specs.declared.shape.Half.{Half}
 use Rattle.journal_layout.specs.declared.shape.Half.TheVariants.{A, B}
-use Rattle.journal_layout.specs.Layout.{field, half_start}
-use Rattle.journal_looks.specs.Looks.{IsRead, IsReadIn, GivesSeen, OpensInTurn, IsChain}
+use Rattle.journal_layout.specs.Layout.{half_start}
+use Rattle.journal_looks.specs.Looks.{IsRead, IsReadIn, GivesSeen, OpensInTurn}
 use Rattle.journal_looks.specs.declared.heads.Heads.{Heads}
 use Rattle.journal_looks.specs.Heads.{ReadsGates, ReadsGenerations}
 use Rattle.journal_looks.specs.Reading.{AreReadIn}
@@ -52,21 +52,6 @@ turn_later moments i j k (p ∷ rest) more turn = (turn.0, turn.1, turn.2, turn_
 pub turn_push : (moments : List (List ℕ)) (i j k m : ℕ) (places : List ℕ) (p : ℕ) → j ≤ m → m ≤ k → slice_index (moment moments m) p ≡ 165 → OpensInTurn moments i j places → OpensInTurn moments i k (places ++ p ∷ [])
 turn_push moments i j k m [] p before after opened turn = (m, omega (arith, before, turn), opened, after)
 turn_push moments i j k m (q ∷ rest) p before after opened turn = (turn.0, turn.1, turn.2, turn_push moments turn.0 j k m rest p before after opened turn.3)
-
--- a record in front of a chain
-pub chain_more : (seen : List ℕ) (at next : ℕ) (places : List ℕ) (behind : ℕ) → slice_index seen at ≡ 165 → 16 ≤ field seen (at + 4) 4 → at + field seen (at + 4) 4 ≡ next → IsChain seen next places behind
-    → IsChain seen at (at ∷ places) behind
-chain_more seen at next places behind opened long here chain = (refl, opened, long, subst (λ (n : ℕ). IsChain seen n places behind) (sym here) chain)
-
-pub drop_one : (l : List ℕ) (n : ℕ) → 0 < n → n ≤ length l → drop (n - 1) l ≡ slice_index l (n - 1) ∷ drop n l
-drop_one [] n some few = absurd (omega (arith, some, few))
-drop_one (x ∷ xs) (suc zero) some few = refl
-drop_one (x ∷ xs) (suc (suc n)) some few =
-    let e : suc (suc n) - 1 ≡ suc n = omega arith in
-    let d : suc n - 1 ≡ n = omega arith in
-    let deeper = drop_one xs (suc n) (omega arith) (omega (arith, few)) in
-    rw e (ap (λ (k : ℕ). drop k xs) (sym d) ∙ deeper ∙ ap (λ (k : ℕ). slice_index xs k ∷ drop (suc n) xs) d)
-drop_one (x ∷ xs) zero some few = absurd (omega (arith, some))
 
 -- in moments that are the same
 pub opened_then : (one two : List (List ℕ)) (k p : ℕ) → one ≡ two → slice_index (moment one k) p ≡ 165 → slice_index (moment two k) p ≡ 165

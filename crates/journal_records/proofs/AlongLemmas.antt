@@ -1,5 +1,5 @@
 -- Records in a row, as they are read.
-use Rattle.std.proofs.Common.{◌≡◌, ℕ, ◌+◌, ◌-◌, List, [], ◌∷◌, ◌++◌, length, take, drop, slice_index, Option, None, Some, refl, sym, ap, ◌∙◌, subst, arith}
+use Rattle.std.proofs.Common.{◌≡◌, ℕ, ◌+◌, ◌-◌, List, [], ◌∷◌, ◌++◌, length, take, drop, slice_index, Option, None, Some, sym, ap, ◌∙◌, subst, arith}
 use Rattle.std.proofs.lemmas.List.{get_or-drop, length-drop}
 use Rattle.std.proofs.Math.Seq.{take-length}
 use Rattle.disk_model.specs.Places.{AreBytes}
@@ -14,9 +14,6 @@ use Rattle.journal_layout.specs.RowLaws.{row_push, replayed_push, sizes_push, la
 use Rattle.journal_layout.specs.RecordLaws.{record_found, size_found}
 use Rattle.journal_records.specs.Head.{SaysFault}
 use Rattle.journal_records.specs.Said.{IsAlong, SaysFaulty}
-
-pub along_first : (limit version : ℕ) (bytes : List ℕ) (said : Folded) → nothing_yet version ≡ said → IsAlong limit version bytes said None 0
-along_first limit version bytes said is = record { records = []; row = tt; folded = is; ends = refl; size = refl }
 
 -- one record more
 pub along_more : (limit version at : ℕ) (bytes : List ℕ) (said next : Folded) (last : Option ℕ) (used size : ℕ) → AreBytes bytes → IsAlong limit version bytes said last used → slice_index bytes used ≡ 165

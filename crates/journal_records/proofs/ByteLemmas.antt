@@ -7,7 +7,6 @@ use Rattle.disk_model.specs.Places.{part}
 use Rattle.extents.specs.declared.run_list.Run.{Run}
 use Rattle.journal_layout.specs.Layout.{field}
 use Rattle.journal_layout.specs.Reading.{seqs_at, runs_at}
-use Rattle.journal_layout.specs.Record.{rounded}
 use Rattle.journal_layout.specs.Checks.{first_set}
 
 -- a number in the bytes after place p
@@ -17,9 +16,6 @@ from_dropped i p (suc w) bytes =
     let e : p + suc i ≡ suc (p + i) = omega arith in
     let rest : little_from (suc i) w (drop p bytes) ≡ little_from (suc (p + i)) w bytes = from_dropped (suc i) p w bytes ∙ ap (λ k. little_from k w bytes) e in
     ap (λ a. a + 256 * little_from (suc i) w (drop p bytes)) (get_or-drop p bytes i 0) ∙ ap (λ b. get_or bytes (p + i) 0 + 256 * b) rest
-
-pub field_dropped : (i p w : ℕ) (bytes : List ℕ) → field (drop p bytes) i w ≡ field bytes (p + i) w
-field_dropped i p w bytes = from_dropped i p w bytes
 
 -- the first of some numbers, and those after it
 pub seqs_step : (p n : ℕ) (bytes : List ℕ) → 0 < n → seqs_at (drop p bytes) n ≡ field bytes p 4 ∷ seqs_at (drop (p + 4) bytes) (n - 1)
@@ -46,10 +42,6 @@ runs_step p (suc n) bytes some =
     ap (λ (r : Run). r ∷ runs_at (drop 8 (drop p bytes)) n) first
     ∙ ap (λ (bs : List ℕ). run_at bytes p ∷ runs_at bs n) (drop-drop 8 p bytes)
     ∙ ap (λ k. run_at bytes p ∷ runs_at (drop (p + 8) bytes) k) (sym e)
-
--- a rounded number is no less
-pub rounded_no_less : (n : ℕ) → n ≤ rounded n
-rounded_no_less n = omega arith
 
 -- the first byte of a part, and those after it
 pub part_step : (p n : ℕ) (bytes : List ℕ) → p < length bytes → part bytes p (suc n) ≡ get_or bytes p 0 ∷ part bytes (p + 1) n

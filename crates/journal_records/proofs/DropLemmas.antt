@@ -1,5 +1,5 @@
 -- Steps of a Drop record's numbers.
-use Rattle.std.proofs.Common.{◌≡◌, ℕ, ◌+◌, ◌-◌, ◌*◌, ◌<◌, ◌≤◌, Bool, true, false, ◌||◌, cond, List, [], ◌∷◌, drop, Some, None, ap, ◌∙◌, arith}
+use Rattle.std.proofs.Common.{◌≡◌, ℕ, ◌+◌, ◌-◌, ◌*◌, ◌<◌, ◌≤◌, Bool, true, false, ◌||◌, cond, List, [], ◌∷◌, drop, Some, ap, ◌∙◌, arith}
 use Rattle.std.specs.Prelude.{nat_le}
 use Rattle.journal_layout.specs.Case.{Case}
 use Rattle.journal_layout.specs.Layout.{field}
@@ -32,12 +32,6 @@ seqs_next cases last index count rest =
     let f : count - index - 1 ≡ count - (index + 1) = omega arith in
     ap (λ p. first_bad_seq cases last p (seqs_at (drop p rest) (count - index - 1))) e
     ∙ ap (λ n. first_bad_seq cases last (12 + 4 * (index + 1)) (seqs_at (drop (12 + 4 * (index + 1)) rest) n)) f
-
-pub seqs_all : (cases : List Case) (last count : ℕ) (rest : List ℕ) → first_bad_seq cases last (12 + 4 * 0) (seqs_at (drop (12 + 4 * 0) rest) (count - 0)) ≡ first_bad_seq cases last 12 (seqs_at (drop 12 rest) count)
-seqs_all cases last count rest = (let e : count - 0 ≡ count = omega arith in ap (λ n. first_bad_seq cases last 12 (seqs_at (drop 12 rest) n)) e)
-
-pub seqs_end : (cases : List Case) (last p count index : ℕ) (rest : List ℕ) → count ≤ index → first_bad_seq cases last p (seqs_at (drop p rest) (count - index)) ≡ None
-seqs_end cases last p count index rest past = (let e : count - index ≡ 0 = omega arith in ap (λ n. first_bad_seq cases last p (seqs_at (drop p rest) n)) e)
 
 -- the number at an index, and those after it
 pub seqs_here : (index count : ℕ) (rest : List ℕ) → index < count

@@ -28,14 +28,6 @@ pub cases_append : (xs ys : List (ℕ × Entry)) → cases_of (xs ++ ys) ≡ cas
 cases_append [] ys = refl
 cases_append (e ∷ xs) ys = ap (λ (cs : List Case). case_of e.1 ∷ cs) (cases_append xs ys)
 
--- a number below all of them is that of no entry
-pub numbered_none : (low high s : ℕ) (es : List (ℕ × Entry)) → AreNumbered low high es → s < low → case_numbered s (cases_of es) ≡ None
-numbered_none low high s [] are below = refl
-numbered_none low high s (e ∷ es) are below =
-    let number : e.1.seq ≡ e.0 = are.1 in
-    let other : e.1.seq ≡ s → ⊥ = λ same. absurd (omega arith) in
-    rw (ne_eqb e.1.seq s other) (numbered_none (e.0 + 1) high s es are.2 (omega arith))
-
 -- the case of a number is what the entry under it says
 pub numbered_found : (low high s : ℕ) (es : List (ℕ × Entry)) → AreNumbered low high es → case_numbered s (cases_of es) ≡ option_map case_of (lookup (is_at (nat_cmp s)) es)
 numbered_found low high s [] are = refl
@@ -45,11 +37,6 @@ numbered_found low high s (e ∷ es) are =
       | inl same ↦ rw (test_same s e.0 same, eq-eqb e.1.seq s (number ∙ same)) refl
       | inr other ↦ rw (test_other s e.0 other, ne_eqb e.1.seq s (λ f. other (sym number ∙ f))) (numbered_found (e.0 + 1) high s es are.2)
     ]
-
--- the numbers end after where they begin
-pub numbered_ends : (low high : ℕ) (es : List (ℕ × Entry)) → AreNumbered low high es → low ≤ high
-numbered_ends low high [] are = are
-numbered_ends low high (e ∷ es) are = (let rest = numbered_ends (e.0 + 1) high es are.2 in let first : low ≤ e.0 = are.0 in omega arith)
 
 -- one more after the others
 pub numbered_push : (low high k : ℕ) (v : Entry) (es : List (ℕ × Entry)) → AreNumbered low high es → high ≤ k → v.seq ≡ k → AreNumbered low (k + 1) (es ++ (k, v) ∷ [])

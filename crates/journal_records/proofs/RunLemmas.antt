@@ -10,7 +10,7 @@ use Rattle.extents.specs.FreeSet as flags
 use Rattle.extents.specs.FreeLaws.{uses_cons, one_free_without, length_without}
 use Rattle.journal_layout.specs.Soundness.{uses}
 use Rattle.journal_layout.specs.SpareLaws.{uses-append, uses_within, run_holds, apart_passed, apart_passes}
-use Rattle.journal_layout.specs.Reading.{runs_at, store_runs, run_count_at}
+use Rattle.journal_layout.specs.Reading.{runs_at, store_runs}
 use Rattle.journal_layout.specs.Checks.{is_adjoining, is_overlapping, is_bad_run, first_bad_run, block_count}
 use Rattle.journal_records.specs.Taken.{Accounts, AreTaken}
 use Rattle.journal_records.proofs.ByteLemmas.{run_at, runs_step}
@@ -99,17 +99,6 @@ pub record AreSoFar (limit : ℕ) (used rest : List ℕ) (n index : ℕ) (end : 
 append_none : (xs : List ℕ) → xs ++ [] ≡ xs
 append_none [] = refl
 append_none (x ∷ xs) = ap (λ (ys : List ℕ). x ∷ ys) (append_none xs)
-
-pub so_far_first : (limit : ℕ) (used rest : List ℕ) (n : ℕ) (now : List Bool) → n ≡ run_count_at rest → Accounts used now → AreSoFar limit used rest n 0 None [] 0 now
-so_far_first limit used rest n now all accounts =
-    let e : n - 0 ≡ run_count_at rest = (let f : n - 0 ≡ n = omega arith in f ∙ all) in
-    let left : runs_left rest n 0 ≡ store_runs rest = ap (runs_at (drop 48 rest)) e in
-    record {
-      fault = ap (λ (l : List ℕ). first_bad_run limit l None 48 (runs_left rest n 0)) (append_none used) ∙ ap (first_bad_run limit used None 48) left;
-      all = ap blocks_of left;
-      number = (let c : block_count (runs_left rest n 0) ≡ block_count (store_runs rest) = ap block_count left in omega (arith, c));
-      accounts = subst (λ (l : List ℕ). Accounts l now) (sym (append_none used)) accounts;
-    }
 
 pub so_far_bad : (limit : ℕ) (used rest : List ℕ) (n index : ℕ) (end : Option ℕ) (blocks : List ℕ) (count : ℕ) (now : List Bool)
     → AreSoFar limit used rest n index end blocks count now → index < n → is_bad_run limit (used ++ blocks) end (run_at rest (48 + 8 * index)) ≡ true

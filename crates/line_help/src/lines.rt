@@ -158,7 +158,7 @@ pub static LINES: [LineHelp; 34] = [
     LineHelp {
         name: "find",
         usage: "find N HEX",
-        does: "each address at which these bytes begin; with --builds also in executables that store --build stored",
+        does: "each address at which these bytes begin; HEX has them in the order of their addresses, so a little-endian word has its lowest byte first: find 3 44332211 looks for 0x11223344; with --builds also in executables that store --build stored",
         reply: "ADDR for each",
         example: "find 3 7f454c46",
         reasons: "Stopped, NoCase, NotCore, OutOfMemory, Disk, a field of the headers, notes or typed notes",

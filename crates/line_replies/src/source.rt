@@ -13,7 +13,7 @@ use section_data::{FoundSection, SectionBytes, read_section};
 use std::alloc::{AllocError, Global};
 
 /// Why an executable has no line tables.
-#[derive(Clone, Copy, Debug, PartialEq, Eq)]
+#[derive(Clone, Copy, PartialEq, Eq)]
 pub enum NoTables {
     /// Its section `.debug_line`, or that of its debug file, is compressed and cannot be decompressed.
     Compressed,

@@ -16,7 +16,7 @@ use line_tables::{FilePath, Line, LineTables, NoLine};
 use std::alloc::{AllocError, Global};
 
 /// A source line.
-#[derive(Debug, Drop)]
+#[derive(Drop)]
 pub struct SourceLine {
     /// The path of the file.
     pub file: Vec<u8>,

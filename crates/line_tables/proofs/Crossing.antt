@@ -79,10 +79,6 @@ sequences_fault r rs f h = fault_by r rs f r.end_sequence h (before_fault r rs f
 abbrev pub with_found : Option Row → Result (Option Row) LineField → Result (Option Row) LineField
 with_found o r = and_then r (λ p. Ok (option_or o p))
 
-pub found_begin : (r : Result (Option Row) LineField) → r ≡ with_found None r
-found_begin (Ok p) = refl
-found_begin (Err f) = refl
-
 pub found_end : (v : ℕ) (rs : List (Result Row LineField)) (found : Option Row) → rs ≡ [] → with_found found (row_in v rs) ≡ Ok found
 unfolding sequences_in
 found_end v rs None is = ap (λ q. with_found None (row_in v q)) is

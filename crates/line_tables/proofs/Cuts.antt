@@ -85,9 +85,6 @@ pub record IsRead (v : ℕ) (all : List (Result Row LineField)) (found : Option 
   pub last : last_address (first_sequence all) ≡ last_address (first_sequence left)
   pub row : row_at v (first_sequence all) ≡ option_or found (row_at v (first_sequence left))
 
-pub read_begin : (v : ℕ) (rs : List (Result Row LineField)) → IsRead v rs None rs
-read_begin v rs = record { fault = refl; behind = refl; last = refl; row = refl }
-
 pub read_on : (v : ℕ) (all ls rest : List (Result Row LineField)) (found new : Option Row) (r q : Row) → IsRead v all found (rows_with r ls) → ls ≡ rows_with q rest → r.end_sequence ≡ false → new ≡ crossed v found r q → IsRead v all new (rows_with q rest)
 read_on v all ls rest found new r q read is h at =
     let to = ap (rows_with r) is in

@@ -5,7 +5,7 @@ use Rattle.std.specs.Prelude.{slice_get}
 use Rattle.line_tables.specs.Chain.{and_then}
 use Rattle.line_tables.specs.Entries.{EntryView}
 use Rattle.line_tables.specs.Files.{added_by, with_entry, added_among}
-use Rattle.line_tables.specs.Finding.{TablesView, TableView, PlaceView, LineView, header_of, table_of, table_in, place, place_among, place_by, place_in, first_place, fault_by, first_fault, line_of, answer}
+use Rattle.line_tables.specs.Finding.{TablesView, PlaceView, LineView, header_of, table_of, table_in, place, place_among, place_by, place_in, first_place, fault_by, first_fault, line_of, answer}
 use Rattle.line_tables.specs.Header.{HeaderView}
 use Rattle.line_tables.specs.Instructions.{StepView}
 use Rattle.line_tables.specs.Rows.{rows_of}
@@ -35,23 +35,8 @@ place_found t v u h r is at =
 same_ok : (o p : Option PlaceView) → ◌≡◌ {A = Result (Option PlaceView) LineField} (Ok o) (Ok p) → o ≡ p
 same_ok o p h = cc
 
-looked_by : (v i : ℕ) (r : Result TableView LineField) (o : Option PlaceView) → Ok o ≡ and_then r (λ table. Ok (place_among v table)) → (o ≡ place_by v r) × (None ≡ fault_by i r)
-looked_by v i (Err f) o h = absurd (cc)
-looked_by v i (Ok table) o h = (same_ok o (place_among v table) h, refl)
-
-pub looked_place : (t : TablesView) (v : ℕ) (u : UnitView) (i : ℕ) (o : Option PlaceView) → Ok o ≡ place_in t v u → (o ≡ place_by v (table_in t u)) × (None ≡ fault_by i (table_in t u))
-looked_place t v u i o h = looked_by v i (table_in t u) o h
-
 fault_is : (f e : LineField) → ◌≡◌ {A = Result (Option PlaceView) LineField} (Err f) (Err e) → f ≡ e
 fault_is f e h = cc
-
-missed_by : (v i : ℕ) (r : Result TableView LineField) (f : LineField) → Err f ≡ and_then r (λ table. Ok (place_among v table)) → (None ≡ place_by v r) × (Some (record { «field» = f; index = i }) ≡ fault_by i r)
-missed_by v i (Ok table) f h = absurd (cc)
-missed_by v i (Err e) f h =
-    let fault : LineField → Option LineFault = λ g. Some (record { «field» = g; index = i }) in (refl, ap fault (fault_is f e h))
-
-pub looked_fault : (t : TablesView) (v : ℕ) (u : UnitView) (i : ℕ) (f : LineField) → Err f ≡ place_in t v u → (None ≡ place_by v (table_in t u)) × (Some (record { «field» = f; index = i }) ≡ fault_by i (table_in t u))
-looked_fault t v u i f h = missed_by v i (table_in t u) f h
 
 or_or : (a b c : Option LineFault) → option_or a (option_or b c) ≡ option_or (option_or a b) c
 or_or None b c = refl
@@ -60,9 +45,6 @@ or_or (Some x) b c = refl
 -- what is answered of units, with a fault of those before
 abbrev pub answer_of : TablesView → ℕ → Option LineFault → List UnitView → Result LineView NoLine
 answer_of t v fault us = answer (first_place t v us) (option_or fault (first_fault t us))
-
-answer_found : (p : PlaceView) (rest : Option PlaceView) (fault : Option LineFault) → answer (option_or (Some p) rest) fault ≡ line_of p
-answer_found p rest fault = refl
 
 pub unit_found : (t : TablesView) (v : ℕ) (fault : Option LineFault) (us rest : List UnitView) (u : UnitView) (p : PlaceView) → us ≡ u ∷ rest → Some p ≡ place_by v (table_in t u) → answer_of t v fault us ≡ line_of p
 unfolding first_place

@@ -7,7 +7,7 @@ use crate::header::Machine;
 use crate::instructions::Instruction;
 
 /// A row of the line number table (DWARF 5, 6.2.2).
-#[derive(Clone, Copy, Debug)]
+#[derive(Clone, Copy)]
 pub struct Row {
     /// The address of the code.
     pub address: u64,

@@ -56,11 +56,6 @@ shown_one space a n value is value_is =
     ∙ ap shown (sym (values_step space a 0))
     ∙ ap (λ m. shown (values_between space a m)) (sym is)
 
-pub shown_many : (xs : List ℕ) → 2 ≤ length xs → flat_map shown_byte xs ≡ shown xs
-shown_many [] h = absurd (omega arith)
-shown_many (x ∷ []) h = absurd (omega arith)
-shown_many (x ∷ y ∷ xs) h = refl
-
 pub text_len_within : (space : Space) (n a : ℕ) → text_len space a n ≤ n
 unfolding text_len
 text_len_within space zero a = omega arith

@@ -15,7 +15,7 @@ use script_streams::{Output, Reply};
 use symbols::vaddr_of_offset;
 
 /// A place in a function.
-#[derive(Clone, Copy, Debug)]
+#[derive(Clone, Copy)]
 pub struct Location<'a> {
     /// The function's name.
     pub name: &'a [u8],

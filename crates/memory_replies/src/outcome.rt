@@ -3,7 +3,7 @@ ghost use Rattle.std.specs.Prelude.{◌≡◌};
 ghost use Rattle.memory_replies.specs.Answers.{outcome_by, is_done, had_memory};
 
 /// The outcome of a line whose work takes memory.
-#[derive(Clone, Copy, PartialEq, Eq, Debug)]
+#[derive(Clone, Copy, PartialEq, Eq)]
 pub enum Outcome {
     /// The reply shows the answer, and ends with `ok`.
     Done,

@@ -6,7 +6,7 @@ ghost use Rattle.memory_replies.specs.Window.{IsPartOf, past_of};
 use elf_view::part;
 
 /// The bytes at hand of an image, apart from its first bytes.
-#[derive(Clone, Copy, Debug)]
+#[derive(Clone, Copy)]
 pub struct Window<'a> {
     /// How many bytes the image has.
     pub size: u64,

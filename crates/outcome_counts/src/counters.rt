@@ -7,7 +7,7 @@ ghost use Rattle.outcome_counts.specs.declared.counters.Counter.{Counter};
 use crate::reasons::Reason;
 
 /// The outcome of a core, as it is counted.
-#[derive(Clone, Copy, Debug, PartialEq, Eq)]
+#[derive(Clone, Copy, PartialEq, Eq)]
 pub enum Counter {
     /// It is stored whole.
     Stored,

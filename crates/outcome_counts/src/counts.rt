@@ -12,7 +12,7 @@ use script_words::print_decimal;
 use std::alloc::{AllocError, Global};
 
 /// How many cores each counter has counted.
-#[derive(Clone, Copy, Debug, PartialEq, Eq)]
+#[derive(Clone, Copy, PartialEq, Eq)]
 pub struct Counts {
     counts: [u64; COUNTERS],
 }

@@ -12,7 +12,7 @@ use std::rt::Files;
 const LONGEST: u64 = 4096;
 
 /// Why a file gives no counts.
-#[derive(Clone, Copy, Debug, PartialEq, Eq)]
+#[derive(Clone, Copy, PartialEq, Eq)]
 pub enum CountsFault {
     /// It can't be opened or read.
     Unread,

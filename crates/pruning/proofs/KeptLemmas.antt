@@ -19,8 +19,5 @@ pub one_more : {X : Type 0} (p : X → Bool) (all old new : Bool) (x : X) (left 
 one_more p all old new x left rest before is after =
     before ∙ ap (λ ys. old || list_any p ys) is ∙ or_assoc old (p x) (list_any p rest) ∙ ap (λ t. t || list_any p rest) (sym after)
 
-pub stays_first : (gone : List ℕ) (c : LiveCase) (cs : List LiveCase) → stays gone c ≡ true → cores_that_stay gone (c ∷ cs) ≡ c ∷ cores_that_stay gone cs
-stays_first gone c cs is = ap (λ t. cond t (c ∷ cores_that_stay gone cs) (cores_that_stay gone cs)) is
-
 pub goes_first : (gone : List ℕ) (c : LiveCase) (cs : List LiveCase) → stays gone c ≡ false → cores_that_stay gone (c ∷ cs) ≡ cores_that_stay gone cs
 goes_first gone c cs is = ap (λ t. cond t (c ∷ cores_that_stay gone cs) (cores_that_stay gone cs)) is

@@ -1,6 +1,6 @@
 -- Why the cases of an archive were not found.
 use Rattle.std.proofs.Common.{◌≡◌, ◌≢◌, inl, inr, ℕ, List, refl, ap, ◌∙◌, subst, Option, None, Some, Result, Ok, Err}
-use Rattle.case_journal.specs.Viewing.{Gives, IsOpenRefusal}
+use Rattle.case_journal.specs.Viewing.{Gives}
 use Rattle.journal_layout.specs.ReadingLaws.{stands_once, stands_or_refused}
 use Rattle.journal_layout.specs.Standing.{Standing}
 use Rattle.journal_layout.specs.Stands.{Stands}
@@ -20,13 +20,6 @@ opens_short b patch opens OutOfMemory gives = inr refl
 opens_short b patch opens NotAnArchive gives = absurd (stands_or_refused (shown patch b) opens.0 NotAnArchive opens.1 gives)
 opens_short b patch opens (UnknownVersion v) gives = absurd (stands_or_refused (shown patch b) opens.0 (UnknownVersion v) opens.1 gives)
 opens_short b patch opens (Damaged at which) gives = absurd (stands_or_refused (shown patch b) opens.0 (Damaged at which) opens.1 gives)
-
-pub refusal_short : (T : Type 0) (fault : OpenFault) → IsOpenRefusal {T = T} (Err fault) → IsShort fault
-refusal_short T Disk only = inl refl
-refusal_short T OutOfMemory only = inr refl
-refusal_short T NotAnArchive only = absurd only
-refusal_short T (UnknownVersion v) only = absurd only
-refusal_short T (Damaged at which) only = absurd only
 
 -- where a record is read on after, something is at fault
 pub gate_sound : {X : Type 0} (fault : Option OpenFault) (shut : Option ℕ) (o : Option X) (x : X) → (fault ≡ None → shut ≡ None → o ≡ None) → o ≡ Some x → fault_by fault shut ≡ None → ⊥

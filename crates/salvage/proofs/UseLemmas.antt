@@ -1,7 +1,5 @@
 -- Blocks that are used.
-use Rattle.std.proofs.Common.{◌≡◌, ◌⊎◌, inl, inr, ℕ, zero, suc, ◌+◌, ◌<◌, ◌≤◌, Bool, true, List, [], ◌∷◌, ◌++◌, length, refl, drop, set, get_or, sym, ◌∙◌, subst, arith}
-use Rattle.std.proofs.lemmas.Bool.{cases_eq}
-use Rattle.std.proofs.lemmas.List.{get_or-set_same, get_or-set_other}
+use Rattle.std.proofs.Common.{◌≡◌, ◌⊎◌, inl, inr, ℕ, zero, suc, ◌+◌, ◌<◌, ◌≤◌, Bool, true, List, [], ◌∷◌, ◌++◌, length, refl, drop, get_or, sym, ◌∙◌, subst, arith}
 use Rattle.std.proofs.lemmas.List.Elements.{Contains-append_cases}
 use Rattle.std.proofs.lemmas.List.FromFn.{get_or-range_with_len, length-range_with_len}
 use Rattle.std.specs.List.{Contains, range_with_len}
@@ -34,17 +32,6 @@ none_behind P [] zero past b (k, low, is) = absurd (omega (arith, low))
 none_behind P [] (suc i) past b (k, low, is) = absurd (omega (arith, low))
 none_behind P (x ∷ xs) zero past b has = absurd (omega (arith, past))
 none_behind P (x ∷ xs) (suc i) past b has = none_behind P xs i (omega (arith, past)) b has
-
--- a block that is used now is used, and what was used still is
-pub used_now : (used : List Bool) (block : ℕ) → block < length used → is_used (set used block true) block ≡ true
-used_now used block low = get_or-set_same used block true true low
-
-pub used_still : (used : List Bool) (block k : ℕ) → block < length used → is_used used k ≡ true → is_used (set used block true) k ≡ true
-used_still used block k low was = by_place (cases_eq k block)
-  where
-    by_place : (k ≡ block) ⊎ ((k ≡ block) → ⊥) → is_used (set used block true) k ≡ true
-    by_place (inl e) = subst (λ (n : ℕ). is_used (set used block true) n ≡ true) (sym e) (used_now used block low)
-    by_place (inr other) = get_or-set_other used block k true true other ∙ was
 
 -- what the archive has not counts as used
 pub used_past : (used : List Bool) (k : ℕ) → length used ≤ k → is_used used k ≡ true

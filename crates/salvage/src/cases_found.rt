@@ -44,7 +44,7 @@ pub struct More {
 }
 
 /// The report on a case that is not copied.
-#[derive(Clone, Copy, Debug, PartialEq, Eq)]
+#[derive(Clone, Copy, PartialEq, Eq)]
 pub(crate) enum Loss {
     /// Its number is that of another case.
     Number,

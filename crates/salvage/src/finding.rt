@@ -18,7 +18,7 @@ pub(crate) const GATE_OPEN: u8 = 0xA5;
 const STEP: u64 = 16;
 
 /// How an archive can be read.
-#[derive(Clone, Copy, Debug, PartialEq, Eq)]
+#[derive(Clone, Copy, PartialEq, Eq)]
 pub struct Sight {
     /// Why its opening is refused, if it is.
     pub fault: Option<OpenFault>,

@@ -44,7 +44,7 @@ pub struct ShapeWish {
 }
 
 /// The shape that is assumed for an archive whose opening is refused for its superblock, for the headers of its halves, or for its length.
-#[derive(Clone, Copy, Debug, PartialEq, Eq)]
+#[derive(Clone, Copy, PartialEq, Eq)]
 pub struct Mend {
     /// Why it is refused.
     pub fault: OpenFault,

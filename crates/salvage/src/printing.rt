@@ -11,7 +11,7 @@ use journal_layout::{Entry, OpenFault, Shape};
 use script_streams::{Output, Reply};
 
 /// The report on a case.
-#[derive(Clone, Copy, Debug, PartialEq, Eq)]
+#[derive(Clone, Copy, PartialEq, Eq)]
 pub(crate) enum Mark {
     /// It is copied, and is as it was stored.
     Whole,

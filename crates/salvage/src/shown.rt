@@ -11,7 +11,7 @@ use diagnostics::after_failure;
 use disk_model::{Disk, DiskFault};
 
 /// A byte that is shown as another.
-#[derive(Clone, Copy, Debug, PartialEq, Eq)]
+#[derive(Clone, Copy, PartialEq, Eq)]
 pub struct Patch {
     /// Its place.
     pub at: u64,

@@ -139,7 +139,7 @@ pub enum MemoryQuery {
 }
 
 /// A query about the builds of the files that were mapped into a core's memory.
-#[derive(Clone, Copy, Debug)]
+#[derive(Clone, Copy)]
 pub enum BuildQuery {
     /// The build ID of each, and that of the executable that is stored for it.
     Compared,

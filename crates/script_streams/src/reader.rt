@@ -19,7 +19,7 @@ pub enum ReadStop {
 }
 
 /// The end of a line.
-#[derive(Clone, Copy, PartialEq, Eq, Debug)]
+#[derive(Clone, Copy, Debug, PartialEq, Eq)]
 pub enum LineEnding {
     /// A newline, which is not of the line.
     Newline,

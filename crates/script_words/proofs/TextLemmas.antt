@@ -9,10 +9,6 @@ abbrev pub with_front : List ℕ → Option (List ℕ) → Option (List ℕ)
 with_front front None = None
 with_front front (Some text) = Some (front ++ text)
 
-pub with_front-none : (front : List ℕ) (text : Option (List ℕ)) → text ≡ None → with_front front text ≡ None
-with_front-none front None e = refl
-with_front-none front (Some text) e = cc
-
 -- one byte more in front
 pub with_front-push : (front : List ℕ) (c : ℕ) (text : Option (List ℕ)) → with_front (front ++ c ∷ []) text ≡ with_front front (with_byte c text)
 with_front-push front c None = refl

@@ -12,10 +12,6 @@ SpacesBefore line n = (k : ℕ) → k < n → is_space (get_or line k 0) ≡ tru
 abbrev pub NoSpaceBefore : List ℕ → ℕ → Type 0
 NoSpaceBefore line n = (k : ℕ) → k < n → is_space (get_or line k 0) ≡ false
 
--- the first byte is no space, if there is one
-abbrev pub BeginsVisibly : List ℕ → Type 0
-BeginsVisibly line = 0 < length line → is_space (get_or line 0 0) ≡ false
-
 -- spaces in front leave the words as they are
 pub words_of-drop_spaces : (line : List ℕ) (n : ℕ) → n ≤ length line → SpacesBefore line n → words_of (drop n line) ≡ words_of line
 words_of-drop_spaces line zero within spaces = refl

@@ -2,7 +2,7 @@
 ghost use Rattle.std.specs.Prelude.{◌≡◌};
 
 /// The bytes of a section.
-#[derive(Debug, Drop)]
+#[derive(Drop)]
 pub enum SectionBytes<'a> {
     /// They are in the file as they are.
     Stored(&'a [u8]),
@@ -25,7 +25,7 @@ impl<'a> SectionBytes<'a> {
 }
 
 /// A section's data.
-#[derive(Debug, Drop)]
+#[derive(Drop)]
 pub struct SectionData<'a> {
     /// sh_addr: the address of the first byte.
     pub addr: u64,

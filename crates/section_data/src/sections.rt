@@ -18,7 +18,7 @@ const HEADER_SIZE: usize = 24;
 const ELFCOMPRESS_ZLIB: u32 = 1;
 
 /// The data of a section, if an image has it.
-#[derive(Debug, Drop)]
+#[derive(Drop)]
 pub enum FoundSection<'a> {
     /// Its data.
     Data(SectionData<'a>),

@@ -51,16 +51,6 @@ pub all_within : (size first n : ℕ) (ss : List SegmentView) → AreHeldWithin 
 all_within size first n [] = tt
 all_within size first n (s ∷ ss) = ((λ a after before covers file image. (omega arith, image)), all_within size first n ss)
 
--- one of the first bytes of an image
-pub front_byte : (front image : List ℕ) (p : ℕ) → front ≡ take (length front) image → p < length front → get_or front p 0 ≡ get_or image p 0
-front_byte front image p is h = ap (λ b. get_or b p 0) is ∙ get_or-take (length front) image p 0 h
-
--- one of a part's
-pub byte_there : (image bytes : List ℕ) (at p : ℕ) → bytes ≡ part image at (length bytes) → at ≤ p → p - at < length bytes → get_or bytes (p - at) 0 ≡ get_or image p 0
-byte_there image bytes at p is low h =
-    let e : at + (p - at) ≡ p = omega (arith, low) in
-    ap (λ b. get_or b (p - at) 0) is ∙ byte_of_part image at (length bytes) (p - at) h ∙ ap (λ k. get_or image k 0) e
-
 -- the flags of the segment that decides an address, of which the bytes tell nothing
 pub flags_filled : (b : List ℕ) (o : Option (ℕ × SegmentView)) → option_map (λ (d : ℕ × SegmentView). d.1.flags) o ≡ option_map (λ (d : ℕ × SegmentView). d.1.flags) (option_map (filled_too b) o)
 flags_filled b None = refl

@@ -1,4 +1,5 @@
 pub mod Bytes
 pub mod Files
-pub mod PartLemmas
 pub mod Others
+pub mod PartLemmas
+pub mod Rows

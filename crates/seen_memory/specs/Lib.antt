@@ -1,3 +1,4 @@
+pub mod Gathering
 pub mod Parts
 pub mod Seen
 pub mod SeenLaws

@@ -21,7 +21,7 @@ pub struct SeenMemory<'s, 'c> {
 }
 
 /// A byte of an image that is wanted and not at hand.
-#[derive(Clone, Copy, Debug, PartialEq, Eq)]
+#[derive(Clone, Copy, PartialEq, Eq)]
 pub struct Unread {
     /// Its place in the image.
     pub place: u64,

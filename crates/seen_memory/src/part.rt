@@ -3,7 +3,7 @@ ghost use Rattle.std.specs.Prelude.{◌≡◌, ℕ, List, MatchOption, slice_ind
 ghost use Rattle.seen_memory.specs.Parts.{HasParts, IsBeside, IsOutside, IsPartOf};
 
 /// Bytes of an image in a row.
-#[derive(Clone, Copy, Debug)]
+#[derive(Clone, Copy)]
 pub struct Part<'p> {
     /// The place of the first.
     pub at: u64,

@@ -7,12 +7,6 @@ mod again;
 #[cfg(test)]
 mod archives;
 #[cfg(test)]
-mod course;
-#[cfg(test)]
-mod course_stops;
-#[cfg(test)]
-mod failing;
-#[cfg(test)]
 mod images;
 #[cfg(test)]
 mod meanwhile;

@@ -1,8 +1,8 @@
 -- A stream that goes to a file, piece by piece.
 use Rattle.std.proofs.Common.{◌≡◌, ◌⊎◌, ◌≤◌, ℕ, zero, suc, ◌+◌, true, List, [], ◌∷◌, ◌++◌, length, take, drop, Option, None, Some, inl, inr, refl, sym, ap, subst, ◌∙◌, append_assoc, arith}
 use Rattle.std.proofs.KnownBytes.{Appends-trans, Consumes-trans}
-use Rattle.std.proofs.lemmas.List.{length-append, take-append-drop, take-append-le}
-use Rattle.std.specs.Io.KnownBytes.{Appends, Consumes, IsAtEnd, Keeps}
+use Rattle.std.proofs.lemmas.List.{length-append, take-append-drop}
+use Rattle.std.specs.Io.KnownBytes.{Appends, Consumes, IsAtEnd}
 use Rattle.spool.specs.Stream.{PassesOn, EndsAt, StepsTo}
 use Rattle.spool.specs.Reception.{IsTakenFrom, ceiling_of, has_room}
 use Rattle.spool.specs.declared.reception.Room.{Room}
@@ -24,10 +24,6 @@ take_both (suc n) m (x ∷ xs) =
     let e : suc n + m ≡ suc (n + m) = omega arith in
     ap (λ (k : ℕ). take k (x ∷ xs)) e ∙ ap (λ (l : List ℕ). x ∷ l) (take_both n m xs)
 
-appends_none : (c : Option (List ℕ)) → Appends c c []
-appends_none None = tt
-appends_none (Some xs) = sym (append_none xs)
-
 drop_seam : (n : ℕ) (xs ys : List ℕ) → n ≤ length xs → xs ≡ take n xs ++ ys → drop n xs ≡ ys
 drop_seam zero xs ys le e = e
 drop_seam (suc n) [] ys le e = absurd (omega (arith, le))
@@ -47,24 +43,6 @@ none_left (suc n) (x ∷ xs) le e = let so = none_left n xs (omega (arith, le)) 
 ends_so : (n : ℕ) (xs ys : List ℕ) (most : ℕ) → n ≤ length xs → xs ≡ take n xs ++ ys → (ys ≡ []) ⊎ (n ≡ most) → (n ≡ length xs) ⊎ (n ≡ most)
 ends_so n xs ys most le all (inl none) = inl (none_left n xs le (drop_seam n xs ys le all ∙ none))
 ends_so n xs ys most le all (inr full) = inr full
-
--- nothing was read
-pub none_on : (xs : List ℕ) (c r : Option (List ℕ)) → Keeps (Some xs) r → PassesOn xs 0 c c [] r
-none_on xs c None kept = absurd kept
-none_on xs c (Some ys) kept = record { count = omega arith; written = appends_none c; rest = sym kept }
-
--- a piece was read, and its front was written
-pub piece_on : (xs p : List ℕ) (n : ℕ) (c0 c1 r : Option (List ℕ)) → Consumes (Some xs) r p → n ≤ length p → Appends c0 c1 (take n p)
-    → PassesOn xs n c0 c1 (drop n p) r
-piece_on xs p n c0 c1 None eaten le written = absurd eaten
-piece_on xs p n c0 c1 (Some ys) eaten le written =
-    let same : take n xs ≡ take n p = ap (λ (l : List ℕ). take n l) eaten ∙ take-append-le n p ys le in
-    let whole : length xs ≡ length p + length ys = ap (λ (l : List ℕ). length l) eaten ∙ length-append p ys in
-    record {
-      count = omega (arith, whole, le);
-      written = subst (λ (l : List ℕ). Appends c0 c1 l) (sym same) written;
-      rest = eaten ∙ ap (λ (l : List ℕ). l ++ ys) (sym (take-append-drop n p) ∙ ap (λ (l : List ℕ). l ++ drop n p) (sym same));
-    }
 
 -- a piece more
 pub pass_both : (xs : List ℕ) (n m : ℕ) (c0 c1 c2 r1 r2 : Option (List ℕ)) (held : List ℕ) → PassesOn xs n c0 c1 [] r1

@@ -6,7 +6,7 @@ ghost use Rattle.spool.specs.Entries.{bytes_sum};
 use crate::spool_name::{SpoolName, Stage};
 
 /// A core in a directory, or the words of one.
-#[derive(Clone, Copy, Debug, PartialEq, Eq)]
+#[derive(Clone, Copy, PartialEq, Eq)]
 pub struct Entry {
     /// The core's name.
     pub name: SpoolName,

@@ -5,7 +5,7 @@ ghost use Rattle.spool.specs.Spools as spec;
 use crate::outcomes::Outcome;
 
 /// The fate of the files of a core after the attempt to store it.
-#[derive(Clone, Copy, Debug, PartialEq, Eq)]
+#[derive(Clone, Copy, PartialEq, Eq)]
 pub enum Fate {
     /// Both stay.
     Stay,

@@ -12,7 +12,7 @@ use std::{fs, io};
 const OTHERS: u32 = 0o077;
 
 /// Why a directory can't be a spool.
-#[derive(Clone, Copy, Debug, PartialEq, Eq)]
+#[derive(Clone, Copy, PartialEq, Eq)]
 pub enum FolderFault {
     /// The directory does not exist.
     Missing,

@@ -10,7 +10,7 @@ use std::io::{Chain, Read, Take};
 use whole_files::{NameFault, NewFile, give_name, make, remove};
 
 /// Why a core is not in the spool under its own name.
-#[derive(Clone, Copy, Debug, PartialEq, Eq)]
+#[derive(Clone, Copy, PartialEq, Eq)]
 pub enum NotSpooled {
     /// Its file could not be made or opened.
     File(FileFault),
@@ -28,7 +28,7 @@ pub enum NotSpooled {
 
 /// A core that is not in the spool: so many of its first bytes are in the file that was made, the next ones are in the piece, and the others
 /// are still to come.
-#[derive(Clone, Copy, Debug, PartialEq, Eq)]
+#[derive(Clone, Copy, PartialEq, Eq)]
 pub struct Unspooled {
     /// How many bytes were written.
     pub bytes: u64,
@@ -37,7 +37,7 @@ pub struct Unspooled {
 }
 
 /// How many bytes are taken.
-#[derive(Clone, Copy, Debug, PartialEq, Eq)]
+#[derive(Clone, Copy, PartialEq, Eq)]
 pub struct Room {
     /// Of a core: no more of it is read.
     pub most: u64,

@@ -6,7 +6,7 @@ use script_words::parse_number;
 use std::alloc::{AllocError, Global};
 
 /// The stage of a core, or of its words: a file has another name until it is whole.
-#[derive(Clone, Copy, Debug, PartialEq, Eq)]
+#[derive(Clone, Copy, PartialEq, Eq)]
 pub enum Stage {
     /// It is on its way, or was cut on it.
     Part,
@@ -15,7 +15,7 @@ pub enum Stage {
 }
 
 /// The name of a core in the spool, without its end: `STAMP.PID`.
-#[derive(Clone, Copy, Debug, PartialEq, Eq)]
+#[derive(Clone, Copy, PartialEq, Eq)]
 pub struct SpoolName {
     /// When it came, in nanoseconds since 1970.
     pub stamp: u64,

@@ -8,7 +8,7 @@ use disk_model::FileFault;
 use std::io::{Read, Write};
 
 /// Why no more of a stream went on.
-#[derive(Clone, Copy, Debug, PartialEq, Eq)]
+#[derive(Clone, Copy, PartialEq, Eq)]
 pub enum End {
     /// It has ended: all of it has gone on.
     Whole,
@@ -21,7 +21,7 @@ pub enum End {
 }
 
 /// How much of a stream has gone on.
-#[derive(Clone, Copy, Debug, PartialEq, Eq)]
+#[derive(Clone, Copy, PartialEq, Eq)]
 pub struct Passed {
     /// How many bytes.
     pub bytes: u64,

@@ -34,7 +34,7 @@ pub struct Function {
 }
 
 /// The functions of a symbol table, in its order.
-#[derive(Clone, Copy, Debug)]
+#[derive(Clone, Copy)]
 pub(crate) struct Functions<'a> {
     entries: &'a [u8],
     index: usize,

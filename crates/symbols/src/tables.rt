@@ -25,7 +25,7 @@ const SHT_STRTAB: u32 = 3;
 const SHT_DYNSYM: u32 = 11;
 
 /// The symbol table of an image: its entries, and the string table with their names.
-#[derive(Clone, Copy, Debug)]
+#[derive(Clone, Copy)]
 pub(crate) struct Table<'a> {
     pub(crate) entries: &'a [u8],
     pub(crate) strings: &'a [u8],

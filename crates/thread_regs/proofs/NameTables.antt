@@ -23,14 +23,6 @@ position-map f p xs =
     let len = sym (length-map xs f) in
     ap (λ n. cond (ltb n (length xs)) (Some n) None) place ∙ ap (λ m. cond (ltb (position_or_len p (map f xs)) m) (Some (position_or_len p (map f xs))) None) len
 
--- a place in a list, once its first element is gone
-pub get_later : {A : Type 0} → (xs ys : List A) (x : A) (i k : ℕ) → xs ≡ x ∷ ys → k < i → slice_get xs (i - k) ≡ slice_get ys (i - (k + 1))
-get_later xs ys x i k is h =
-    let next : i - k ≡ suc (i - (k + 1)) = omega arith in ap (λ n. slice_get xs n) next ∙ ap (λ zs. slice_get zs (suc (i - (k + 1)))) is
-
-pub get_none : {A : Type 0} → (xs : List A) (i : ℕ) → xs ≡ [] → slice_get xs i ≡ None
-get_none xs i is = ap (λ zs. slice_get zs i) is
-
 -- signals 1 to 31 are those of the table
 pub named_signal : (number : ℕ) (o : Option (List ℕ)) → 0 < number → o ≡ slice_get signal_names (number - 1) → o ≡ numbered_name number
 named_signal zero o h e = absurd (omega arith)

@@ -13,10 +13,8 @@ use Rattle.intake.specs.Durable.{Durable, FoundCase, StandsFor, durable_of, dura
 use Rattle.intake.specs.InTurn.{ACaseIsThereBetween, IsBetween, StandsAs, last_state}
 use Rattle.intake.specs.Lasting.{NumbersAreAbove}
 use Rattle.intake.specs.Lives.{IsAmong}
-use Rattle.intake.specs.Opened.{CaseReply}
 use Rattle.intake.specs.Parts.{Parts, state_of, contents_of}
 use Rattle.intake.specs.Ranges.{Locates, bytes_in}
-use Rattle.intake.specs.declared.faults.ArchiveFault.{ArchiveFault}
 use Rattle.intake.specs.declared.faults.ArchiveFault.TheVariants as archive
 use Rattle.intake.specs.declared.ranges.ByteRange.{ByteRange}
 use Rattle.journal_layout.specs.Case.{Case}
@@ -127,12 +125,6 @@ module _ {S : Type 0} (g : shared.Ghosts S) (s : S) (whole : IsTrue (g.is_honest
       let later = again.2 (last_state x ys) (stands_for shape again.0 (last_state x ys) (holds.last again.0 again.1)) in
       let steady = is_steady shape x ys at.0 later.0 seq ranges.items honest holds at.1 later.1 (λ l long. at.2 l (long ∙ sym size0)) in
       copied_is U second (g.looked s) shape x (honest1 honest steady) seen1 holds.first seq start taken count failures u after states copies
-
--- a case that is not answered is not there
-pub no_number : {D : Type 0} (a : Parts D) (seq : ℕ) (f : ArchiveFault) → CaseReply a seq (Err f) → false ≡ has_number (state_of a) seq
-no_number a seq archive.Stopped reply = ap (λ (t : Bool). cond t false (is_some (case_numbered seq a.journal.standing.cases))) (sym reply)
-no_number a seq archive.NoCase reply = ap (λ (o : Option Case). is_some o) (sym reply.1) ∙ ap (λ (t : Bool). cond t false (is_some (case_numbered seq a.journal.standing.cases))) (sym reply.0)
-no_number a seq _ reply = absurd reply
 
 -- one that is there is found
 pub numbered_there : {D : Type 0} (U : disk.Ghosts D) (before : D) (b : List ℕ) (x : Durable) (a : Parts D) (seq : ℕ) → IsTrue (U.is_honest before) → U.seen before ≡ b → OpenCall U 0 before (Ok a) → StandsFor b x → true ≡ has_number (state_of a) seq

@@ -13,7 +13,7 @@ const PT_NOTE: u32 = 4;
 const NT_PRSTATUS: u32 = 1;
 
 /// Why notes of a core are not read as they are meant.
-#[derive(Clone, Copy, Debug, PartialEq, Eq)]
+#[derive(Clone, Copy, PartialEq, Eq)]
 pub enum UnreadNotes {
     /// They are padded to 8 bytes, and only those that are padded to 4 are read.
     Padded,

@@ -21,7 +21,7 @@ use frame_rows::{Row, Rule};
 use seen_memory::{SeenMemory, Unread};
 
 /// The part of an entry that leads to the next frame.
-#[derive(Clone, Copy, Debug)]
+#[derive(Clone, Copy)]
 pub(crate) struct Return {
     /// The column of the return address.
     pub(crate) column: u64,

@@ -3,7 +3,7 @@ use call_frames::CfiFault;
 use frame_rows::RowField;
 
 /// The fault of the instructions of an entry.
-#[derive(Clone, Copy, Debug, PartialEq, Eq)]
+#[derive(Clone, Copy, PartialEq, Eq)]
 pub struct RowFault {
     /// The field for which its first instruction that can't be executed is refused.
     pub field: RowField,
@@ -12,7 +12,7 @@ pub struct RowFault {
 }
 
 /// Why no frame comes after a frame.
-#[derive(Clone, Copy, Debug, PartialEq, Eq)]
+#[derive(Clone, Copy, PartialEq, Eq)]
 pub enum Stop {
     /// No mapped file is known at the address.
     NoFile,

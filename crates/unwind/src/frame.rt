@@ -10,7 +10,7 @@ use thread_regs::{Reg, Thread};
 pub type Registers = [Option<u64>; 32];
 
 /// The frame that a frame called.
-#[derive(Clone, Copy, Debug, PartialEq, Eq)]
+#[derive(Clone, Copy, PartialEq, Eq)]
 pub struct Callee {
     /// Its CFA, which is the least that the CFA of its caller may be.
     pub cfa: u64,
@@ -19,7 +19,7 @@ pub struct Callee {
 }
 
 /// A frame of a stack.
-#[derive(Clone, Copy, Debug)]
+#[derive(Clone, Copy)]
 pub struct Frame {
     /// The address at which execution is or was, or to which a call returns.
     pub pc: u64,

@@ -7,7 +7,7 @@ use disk_model::FileFault;
 use std::io;
 
 /// Why a file has not got its name for good.
-#[derive(Clone, Copy, Debug, PartialEq, Eq)]
+#[derive(Clone, Copy, PartialEq, Eq)]
 pub enum NameFault {
     /// It has not got it, and is gone.
     Unnamed(FileFault),

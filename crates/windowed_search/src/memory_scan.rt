@@ -8,7 +8,7 @@ use crate::memory_texts::{FoundTexts, MemoryTexts};
 use std::alloc::{AllocError, Global};
 
 /// The aim of a search of a memory.
-#[derive(Clone, Copy, Debug)]
+#[derive(Clone, Copy)]
 pub enum Sought<'n> {
     /// These bytes.
     Bytes(&'n [u8]),

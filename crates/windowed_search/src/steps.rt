@@ -13,7 +13,7 @@ use elf_view::{Elf, a_sound_front_is_enough};
 use std::alloc::{AllocError, Global};
 
 /// The content of the next addresses.
-#[derive(Clone, Copy, Debug)]
+#[derive(Clone, Copy)]
 pub enum Step<'a> {
     /// Bytes of the image.
     Core {

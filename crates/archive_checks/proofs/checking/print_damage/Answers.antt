@@ -1,4 +1,4 @@
-use Rattle.std.proofs.Common.{◌/◌, [], Ok, inr, refl, rules, subst, sym}
+use Rattle.std.proofs.Common.{◌/◌, [], Ok, inr, refl, subst, sym}
 use Rattle.intake.specs.QuietLaws.{quiet_none}
 use Rattle.journal_layout.specs.declared.faults.OpenFault.{OpenFault}
 use Rattle.archive_checks.specs.Checking.{IsDamageLine}
@@ -15,9 +15,10 @@ returns-in_default g c = record {
 pub returns-in_default-shape_on-clause-told : goal.returns-in_default-shape_on-clause-told
 returns-in_default-shape_on-clause-told g c = ([], Ok tt, no_line c.args.fault, none_sent (g.O.Output.taken c.args.output.now) (g.O.Output.failures c.args.output.now))
 
+pub returns-in_default-shape_on-2-clause-told : goal.returns-in_default-shape_on-2-clause-told
+returns-in_default-shape_on-2-clause-told g c = ([], Ok tt, no_line c.args.fault, none_sent (g.O.Output.taken c.args.output.now) (g.O.Output.failures c.args.output.now))
+
 pub returns-clause-told : goal.returns-clause-told
 returns-clause-told g c =
     let text = place_line (c.in-Damaged.at / 4096) c.place_of-place.result in
-    let all = c.print_place.ensures _ _ _ [] c.new-reply.ensures.told in
-    let sent = c.finish.ensures.delivered _ _ _ _ all in
-    (text, c.finish.result, subst (λ (f : OpenFault). IsDamageLine f text) (sym c.in-Damaged.is) (inr (c.place_of-place.result, refl)), search (all.same, c.finish.ensures.same, sent, rules))
+    (text, c.print_line.ensures.0, subst (λ (f : OpenFault). IsDamageLine f text) (sym c.in-Damaged.is) (inr (c.place_of-place.result, refl)), c.print_line.ensures.1)

@@ -1,19 +1,15 @@
-use Rattle.std.proofs.Common.{◌≡◌, ◌∙◌, sym, arith}
-use Rattle.archive_files.proofs.FrontLemmas.{ends_where, said_by, unnamed}
+use Rattle.std.proofs.Common.{◌≡◌, ◌∙◌, ℕ, Option, None, Some, ap, sym, arith}
+use Rattle.journal_layout.specs.FrontLaws.{front_limits}
+use Rattle.journal_layout.specs.Stands.{front_of}
+use Rattle.journal_layout.specs.declared.shape.Shape.{Shape}
 use Rattle.archive_files.proofs.archives.front_of.Goals as goal
 
-pub returns-then-length-lt-BLOCK-clause-journal : goal.returns-then-length-lt-BLOCK-clause-journal
-returns-then-length-lt-BLOCK-clause-journal g c = λ s honest stands.
-    let long = (said_by (g.D.Disk.seen c.args.disk.now) s stands).long in
-    let size = g.met.D.Disk.whole c.args.disk.now honest in
-    absurd (omega (arith, long, size, c.length.ensures, c.if-length-lt-BLOCK.true))
+abbrev half_in : Option Shape → ℕ
+half_in None = 0
+half_in (Some shape) = shape.half_blocks
 
-pub returns-then-not-starts_with-clause-journal : goal.returns-then-not-starts_with-clause-journal
-returns-then-not-starts_with-clause-journal g c = λ s honest stands.
-    absurd (unnamed (g.D.Disk.seen c.args.disk.now) c.read_at.new.into s c.starts_with.result stands (c.in-Ok.ensures.bytes honest) c.read_at.auto.into c.starts_with.ensures.value
-    c.if-not-starts_with.true)
-
-pub returns-clause-journal : goal.returns-clause-journal
-returns-clause-journal g c = λ s honest stands.
-    ends_where (g.D.Disk.seen c.args.disk.now) c.read_at.new.into s c.from_le_bytes-half_blocks.result c.min.result c.from.result stands (c.in-Ok.ensures.bytes honest)
-    c.from_le_bytes-half_blocks.ensures c.min.ensures c.from.ensures
+pub returns-in-Ok-Some-clause-journal : goal.returns-in-Ok-Some-clause-journal
+returns-in-Ok-Some-clause-journal g c = λ s honest stands.
+    let half_is : c.in-Ok-Some.shape.half_blocks ≡ s.shape.half_blocks = ap half_in (sym c.in-Ok-Some.field-0-is ∙ c.in-Ok-Some.ensures.shape s honest stands) in
+    let low = (front_limits (g.D.Disk.seen c.args.disk.now) (front_of s) stands.front).half in
+    omega (arith, half_is, low, c.min.ensures, c.from.ensures)

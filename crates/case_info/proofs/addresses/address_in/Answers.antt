@@ -1,6 +1,6 @@
 use Rattle.std.proofs.Common.{sym, subst, ◌∙◌}
 use Rattle.journal_layout.specs.declared.entry.Kind.{Kind}
-use Rattle.register_places.specs.PlaceWords.{place_said}
+use Rattle.case_screens.specs.RegisterPlaceWords.{place_said}
 use Rattle.case_info.specs.Addresses.{SeesAddressOf, said}
 use Rattle.case_info.proofs.addresses.address_in.Goals as goal
 

@@ -1,7 +1,7 @@
 use Rattle.std.proofs.Common.{length, sym, ap, subst, arith}
 use Rattle.std.proofs.lemmas.Option.{slice_get_within}
 use Rattle.std.specs.Option.{option_map}
-use Rattle.case_memory.specs.Reading.{IsOnlyRead}
+use Rattle.core_crashes.specs.CaseReading.{IsOnlyRead}
 use Rattle.case_queries.specs.ExecutableWords.{AreOf}
 use Rattle.core_crashes.specs.Views.{crashed_said}
 use Rattle.intake.specs.Parts.{state_of}

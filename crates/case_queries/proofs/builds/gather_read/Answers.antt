@@ -1,6 +1,6 @@
 use Rattle.std.proofs.Common.{Err, sym, subst, arith}
 use Rattle.std.proofs.lemmas.Result.{err_from_is_err_and}
-use Rattle.seen_bytes.specs.declared.gathered.GatherFault.TheVariants.{Unread}
+use Rattle.seen_memory.specs.declared.gathered.GatherFault.TheVariants.{Unread}
 use Rattle.case_queries.specs.FrontIds.{GathersOn}
 use Rattle.case_queries.specs.Pieces.{ArePieces}
 use Rattle.case_queries.proofs.BuildLemmas.{more_then, same_pieces}

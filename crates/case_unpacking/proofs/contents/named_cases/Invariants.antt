@@ -1,5 +1,5 @@
 use Rattle.std.proofs.Common.{◌≡◌, map, take}
-use Rattle.unpacked_places.specs.PlaceViews.{file_said}
+use Rattle.case_unpacking.specs.PlaceViews.{file_said}
 use Rattle.case_info.specs.Unpacking.{unpacked_view}
 use Rattle.case_unpacking.specs.Contents.{files_said}
 use Rattle.case_unpacking.proofs.contents.named_cases.Given as goal

@@ -1,9 +1,0 @@
-use Rattle.std.proofs.Common.{ap}
-use Rattle.std.specs.Prelude.{decimal}
-use Rattle.script_streams.specs.PrintLaws.{prints_then, prints_as}
-use Rattle.archive_screens.proofs.archive.print_numbers.Goals as goal
-
-pub returns : goal.returns
-returns g c =
-    prints_then c.print.ensures
-    (prints_then (prints_as (ap decimal c.from.ensures) c.print_decimal.ensures) c.print-2.ensures)

@@ -1,3 +1,0 @@
-pub mod Days
-pub mod Archive
-pub mod Tally

@@ -1,3 +1,0 @@
-pub mod Values
-pub mod Keys
-pub mod Config

@@ -1,6 +1,0 @@
-pub mod PathLemmas
-pub mod FolderLemmas
-pub mod PlaceLemmas
-pub mod NumberLemmas
-pub mod InsideLemmas
-pub mod ApartLemmas

@@ -1,8 +1,0 @@
-use Rattle.std.proofs.Common.{map, take}
-use Rattle.unpacked_places.specs.Places.{ArePlaces}
-use Rattle.unpacked_places.specs.PlaceViews.{file_said, place_said}
-use Rattle.unpacked_places.proofs.places.places_of.Given as goal
-
--- the places so far are those of the files that went by
-abbrev pub invariant-loop-file : goal.invariant-loop-file
-invariant-loop-file l = ArePlaces (map file_said (take l.file-index l.files)) (map place_said l.places.items)

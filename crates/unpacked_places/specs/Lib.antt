@@ -1,5 +1,0 @@
-pub mod Names
-pub mod Places
-pub mod PlaceViews
-pub mod PlaceLaws
-pub mod Commands
