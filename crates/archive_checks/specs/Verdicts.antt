@@ -1,6 +1,6 @@
 -- The verdict on the image of a case, and the line that prints it.
 use Rattle.std.specs.Prelude.{ℕ, nat_lt, length, if◌then◌else◌, List, [], ◌∷◌, ◌++◌, Option, None, Some, codes, decimal}
-use Rattle.core_length.specs.Whole.{whole_length}
+use Rattle.core_checks.specs.Whole.{whole_length}
 use Rattle.elf_view.specs.Sound.{first_fault}
 use Rattle.elf_view.specs.declared.faults.ElfFault.{ElfFault}
 use Rattle.elf_view.specs.declared.faults.Want.TheVariants as want

@@ -3,7 +3,7 @@ ghost use Rattle.std.specs.Prelude.{◌≡◌};
 ghost use Rattle.script_streams.specs.Replies.{PrintsText, printing};
 ghost use Rattle.archive_checks.specs.Verdicts.{case_start, cut_verdict, cut_words, gone_line, verdict_line, verdict_of, verdict_words};
 
-use core_length::whole_length;
+use core_checks::whole_length;
 use elf_view::{Elf, ElfFault, Want};
 use image_replies::{CoreFault, CoreImage, print_core_fault, print_elf_fault};
 use journal_layout::Kind;

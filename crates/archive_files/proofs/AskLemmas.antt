@@ -4,8 +4,8 @@ use Rattle.disk_model.specs.declared.disk.Disk as disk
 use Rattle.script_lines.specs.Said.{Said}
 use Rattle.shared_disk.specs.declared.shared.SharedDisk as shared
 use Rattle.shared_disk.specs.declared.unlocked.Unlocked.{Unlocked}
-use Rattle.unlocked_reading.specs.Asking.{AsksUnlocked}
-use Rattle.unlocked_reading.specs.declared.faults.AskFault.{AskFault}
+use Rattle.archive_files.specs.UnlockedAsks.{AsksUnlocked}
+use Rattle.archive_files.specs.declared.unlocked_faults.AskFault.{AskFault}
 
 -- it is the same to an output that had taken the same
 pub asks_from : {S : Type 0} (g : shared.Ghosts S) (U : disk.Ghosts (Unlocked S g)) (s : S) (what : Said) (start start' after : Option (List ℕ)) (lost lost' : ℕ) (asked : Result Bool AskFault)

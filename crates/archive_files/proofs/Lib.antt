@@ -5,3 +5,11 @@ pub mod MakeLemmas
 pub mod MadeLemmas
 pub mod HeldLemmas
 pub mod AskLemmas
+pub mod UnlockedCopyLemmas
+pub mod UnlockedPlaceLemmas
+pub mod UnlockedAskLemmas
+pub mod UnlockedImageLemmas
+pub mod UnlockedCheckLemmas
+pub mod GoneLemmas
+pub mod ExactLemmas
+pub mod LocklessLemmas

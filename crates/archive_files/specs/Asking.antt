@@ -11,9 +11,9 @@ use Rattle.shared_disk.specs.Looks.{shared_of}
 use Rattle.shared_disk.specs.declared.looked.Looked.{Looked}
 use Rattle.shared_disk.specs.declared.shared.SharedDisk as shared
 use Rattle.shared_disk.specs.declared.unlocked.Unlocked.{Unlocked}
-use Rattle.unlocked_reading.specs.Asking.{AsksUnlocked}
-use Rattle.unlocked_reading.specs.declared.faults.AskFault.{AskFault}
-use Rattle.unlocked_reading.specs.declared.faults.AskFault.TheVariants as fault
+use Rattle.archive_files.specs.UnlockedAsks.{AsksUnlocked}
+use Rattle.archive_files.specs.declared.unlocked_faults.AskFault.{AskFault}
+use Rattle.archive_files.specs.declared.unlocked_faults.AskFault.TheVariants as fault
 use Rattle.archive_files.specs.declared.failures.Failure.{Failure}
 use Rattle.archive_files.specs.declared.failures.Failure.TheVariants.{Refused, Faulted}
 use Rattle.archive_files.specs.declared.failures.FileWord.TheVariants.{Archive}

@@ -9,9 +9,9 @@ use Rattle.journal_layout.specs.declared.faults.OpenFault.{OpenFault}
 use Rattle.journal_layout.specs.declared.faults.OpenFault.TheVariants as opening
 use Rattle.shared_disk.specs.declared.shared.SharedDisk as shared
 use Rattle.shared_disk.specs.declared.unlocked.Unlocked.{Unlocked}
-use Rattle.unlocked_reading.specs.Checking.{ChecksUnlocked}
-use Rattle.unlocked_reading.specs.declared.faults.UnlockedCheckFault.{UnlockedCheckFault}
-use Rattle.unlocked_reading.specs.declared.faults.UnlockedCheckFault.TheVariants as stop
+use Rattle.archive_files.specs.UnlockedChecks.{ChecksUnlocked}
+use Rattle.archive_files.specs.declared.unlocked_faults.UnlockedCheckFault.{UnlockedCheckFault}
+use Rattle.archive_files.specs.declared.unlocked_faults.UnlockedCheckFault.TheVariants as stop
 use Rattle.archive_files.specs.declared.failures.Failure.{Failure}
 use Rattle.archive_files.specs.Looking.{look_fault}
 use Rattle.archive_files.specs.Told.{EndsHeld}

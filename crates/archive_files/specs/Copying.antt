@@ -9,9 +9,9 @@ use Rattle.intake.specs.declared.faults.ArchiveFault.TheVariants as archive
 use Rattle.shared_disk.specs.Looks.{under}
 use Rattle.shared_disk.specs.declared.shared.SharedDisk as shared
 use Rattle.shared_disk.specs.declared.unlocked.Unlocked.{Unlocked}
-use Rattle.unlocked_reading.specs.Asking.{LeavesAllThere}
-use Rattle.unlocked_reading.specs.Places.{FindsCases}
-use Rattle.unlocked_reading.specs.declared.places.Places.{Places}
+use Rattle.archive_files.specs.UnlockedAsks.{LeavesAllThere}
+use Rattle.archive_files.specs.UnlockedPlaces.{FindsCases}
+use Rattle.archive_files.specs.declared.unlocked_places.Places.{Places}
 use Rattle.archive_files.specs.declared.failures.Refusal.{Refusal}
 use Rattle.archive_files.specs.declared.failures.Refusal.TheVariants.{BadShape, OutOfMemory, Disk, Open, Call}
 

@@ -13,3 +13,14 @@ pub mod Salvaging
 pub mod Taken
 pub mod Printing
 pub mod Told
+pub mod UnlockedFinding
+pub mod History
+pub mod Opening
+pub mod UnlockedCopies
+pub mod UnlockedPlaces
+pub mod UnlockedAsks
+pub mod UnlockedImages
+pub mod UnlockedChecks
+pub mod Gone
+pub mod Exact
+pub mod Lockless

@@ -13,9 +13,9 @@ use Rattle.shared_disk.specs.declared.shared.LookFault.{LookFault}
 use Rattle.shared_disk.specs.declared.shared.LookFault.TheVariants as look
 use Rattle.shared_disk.specs.declared.shared.SharedDisk as shared
 use Rattle.shared_disk.specs.declared.unlocked.Unlocked.{Unlocked}
-use Rattle.unlocked_reading.specs.Copying.{CopiesUnlocked}
-use Rattle.unlocked_reading.specs.declared.faults.UnlockedFault.{UnlockedFault}
-use Rattle.unlocked_reading.specs.declared.faults.UnlockedFault.TheVariants as unlocked
+use Rattle.archive_files.specs.UnlockedCopies.{CopiesUnlocked}
+use Rattle.archive_files.specs.declared.unlocked_faults.UnlockedFault.{UnlockedFault}
+use Rattle.archive_files.specs.declared.unlocked_faults.UnlockedFault.TheVariants as unlocked
 use Rattle.archive_files.specs.declared.failures.Failure.{Failure}
 use Rattle.archive_files.specs.declared.failures.Failure.TheVariants.{Aside, Faulted}
 use Rattle.archive_files.specs.declared.failures.FileWord.TheVariants.{Archive}

@@ -7,13 +7,14 @@ use crate::collected::Collected;
 use crate::failures::{Failure, FileWord, Refusal};
 use crate::looking::look_fault;
 use crate::outcomes::ask_told;
+use crate::unlocked_asks::ask_unlocked;
+use crate::unlocked_faults::AskFault;
 use disk_model::Disk;
 use inspector_cli::{LifeFault, Question, SessionFault};
 use intake::ArchiveFault;
 use script_streams::{Output, write_whole};
 use shared_disk::{Looked, SharedDisk, Unlocked};
 use std::alloc::Global;
-use unlocked_reading::{AskFault, ask_unlocked};
 
 /// Answers a question that only looks, from a look at its archive on, or reports why there was no look. The reply is held until all cases
 /// that it may be about are found again. So none of it is written if one of them was deleted meanwhile: that is refused as `NoCase`.

@@ -13,6 +13,8 @@ use crate::failures::{Failure, FileWord, Refusal};
 use crate::held::Held;
 use crate::looking::{look_fault, take_look};
 use crate::salvaging::fault_found;
+use crate::unlocked_checks::check_unlocked;
+use crate::unlocked_faults::UnlockedCheckFault;
 use archive_checks::{CheckFault, check_archive};
 use diagnostics::Onlooker;
 use disk_model::{Disk, FileDisk};
@@ -24,7 +26,6 @@ use std::alloc::Global;
 use std::fs::File;
 use std::rt::Files;
 use std::time::Clock;
-use unlocked_reading::{UnlockedCheckFault, check_unlocked};
 
 /// Prints the contents of the archive in a file and that it is sound, or the place of the damage. With `sees_images` each image is read
 /// too. It takes no lock: a case that is deleted meanwhile is reported as missing. Only if an archive can't be opened is it examined under

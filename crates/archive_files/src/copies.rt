@@ -15,6 +15,8 @@ use crate::failures::{Danger, FileWord, Refusal};
 use crate::folders::shared_among;
 use crate::looking::take_look;
 use crate::over_disk::look_over;
+use crate::unlocked_asks::stay;
+use crate::unlocked_places::{Places, Reads, find_cases};
 use archive_care::CopyWish;
 use archive_checks::shape_on;
 use diagnostics::Onlooker;
@@ -29,7 +31,6 @@ use std::fs::File;
 use std::os::unix::fs::MetadataExt;
 use std::rt::Files;
 use std::time::Clock;
-use unlocked_reading::{Places, Reads, find_cases, stay};
 use whole_files::{NewFile, PartFile, clear, clear_part, folder_of, give_name, remove, take_place};
 
 /// A request for a copy of an archive.

@@ -16,10 +16,10 @@ use elf_view::ElfFault;
 use inspector_cli::{MemoryFault, SessionFault, reason};
 use intake::ArchiveFault;
 use journal_layout::{BadShape, OpenFault};
-use name_template::TemplateFault;
 use script_streams::{Output, Reply, StreamFault, write_whole};
 use std::alloc::{AllocError, Global};
 use std::io;
+use stream_names::TemplateFault;
 
 /// Why the program did not carry out the command.
 #[derive(Drop)]

@@ -1,4 +1,5 @@
 //! The work of commands over the file of an archive: it is made, opened, locked, asked and stored in, and each failure is reported.
+//! An archive is also read while others change it: the lock is held while it is looked at, and not while a case is read.
 #![tactic(auto)]
 
 mod archive_path;
@@ -23,6 +24,14 @@ mod over_disk;
 mod salvaging;
 mod single;
 mod storing;
+mod unlocked_asks;
+mod unlocked_checks;
+mod unlocked_copies;
+mod unlocked_faults;
+mod unlocked_finding;
+mod unlocked_images;
+mod unlocked_laws;
+mod unlocked_places;
 mod unsent;
 
 pub use archive_checks::shape_on;
@@ -54,4 +63,12 @@ pub use salvage::ShapeWish;
 pub use salvaging::{Salvaged, fault_found, salvage, salvage_onto};
 pub use single::{ask, extract};
 pub use storing::{StoreRequest, StoreWords};
+pub use unlocked_asks::{ask_unlocked, stay};
+pub use unlocked_checks::check_unlocked;
+pub use unlocked_copies::copy_unlocked;
+pub use unlocked_faults::{AskFault, UnlockedCheckFault, UnlockedFault};
+pub use unlocked_laws::{
+    checks_are_exact, copies_are_of_the_case, gone_cases_are_noticed, looks_hold_an_archive,
+};
+pub use unlocked_places::{Places, Reads, find_cases};
 pub use whole_files::{is_same, open_looked};

@@ -5,13 +5,13 @@ ghost use Rattle.archive_files.specs.Looking.{copy_told, look_fault, unlocked_to
 use crate::archive_path::ArchivePath;
 use crate::archives::{Access, MOST_TRIES, look_at_file, open_file};
 use crate::failures::{Failure, FileWord, Refusal};
+use crate::unlocked_faults::UnlockedFault;
 use disk_model::{FileFault, OpenFile};
 use inspector_cli::{CopyFault, SessionFault};
 use intake::ArchiveFault;
 use shared_disk::{LookFault, Looked, SharedFile};
 use std::fs::File;
 use std::rt::Files;
-use unlocked_reading::UnlockedFault;
 use whole_files::is_named;
 
 /// Looks at the archive in a file. The file's lock is shared with others that look, and held while the archive's journal is read, no

@@ -8,6 +8,8 @@ ghost use Rattle.archive_files.specs.OverDisks.{RunsOnDisk, AnswersLine, LooksOn
 use crate::failures::{Failure, Refusal};
 use crate::looking::{unlocked_told, was_there};
 use crate::outcomes::{ask_told, run_told};
+use crate::unlocked_copies::copy_unlocked;
+use crate::unlocked_faults::UnlockedFault;
 use disk_model::Disk;
 use inspector_cli::{Naming, Question, open_and_ask, open_and_run};
 use intake::{Archive, Settings};
@@ -15,7 +17,6 @@ use script_streams::{Input, Output};
 use script_words::parse_case_number;
 use shared_disk::{Looked, SharedDisk, Unlocked};
 use std::alloc::Global;
-use unlocked_reading::{UnlockedFault, copy_unlocked};
 
 /// Opens the archive on a disk, runs a script over it, and hands the disk back.
 pub fn run_over<D: Disk, I: Input, O: Output>(

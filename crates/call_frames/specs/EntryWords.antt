@@ -1,5 +1,5 @@
 -- The meaning of the code's tables and entries.
-use Rattle.section_data.specs.SectionWords.{bytes_in}
+use Rattle.inflate.specs.SectionWords.{bytes_in}
 use Rattle.call_frames.specs.CommonWords.{cie_view}
 use Rattle.call_frames.specs.Entry.{TableView, EntryView}
 use Rattle.call_frames.specs.declared.entries.Entry.{Entry}

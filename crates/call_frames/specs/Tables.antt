@@ -5,7 +5,7 @@ use Rattle.std.specs.List.{starts_with}
 use Rattle.elf_view.specs.Header.{SegmentView, segments_of}
 use Rattle.elf_view.specs.SectionNames.{named_section_of}
 use Rattle.elf_view.specs.SectionTable.{SectionView}
-use Rattle.section_data.specs.Sections.{DataView, section_data}
+use Rattle.inflate.specs.Sections.{DataView, section_data}
 use Rattle.call_frames.specs.Entry.{TableView}
 use Rattle.call_frames.specs.Pointers.{pointer}
 use Rattle.call_frames.specs.declared.common.Format.{Format}

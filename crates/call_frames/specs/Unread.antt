@@ -2,7 +2,7 @@
 use Rattle.std.specs.Prelude.{ℕ, ◌||◌, Bool, false, List, Option, is_some, codes, unwrap_or}
 use Rattle.std.specs.Option.{option_map}
 use Rattle.elf_view.specs.SectionNames.{named_section_of}
-use Rattle.section_data.specs.Sections.{has_unread}
+use Rattle.inflate.specs.Sections.{has_unread}
 
 -- An image has a compressed section `.debug_frame` that is not decompressed; or a section `.zdebug_frame`, which has compressed bytes and no flag for it, as older GNU tools and Go wrote it.
 unfoldable pub has_unread_frames : List ℕ → Bool

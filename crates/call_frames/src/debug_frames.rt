@@ -5,12 +5,12 @@ ghost use Rattle.elf_view.specs.ViewWords.{image_of};
 ghost use Rattle.call_frames.specs.EntryWords.{data_table};
 ghost use Rattle.call_frames.specs.Tables as spec;
 ghost use Rattle.call_frames.specs.Unread as unread;
-ghost use Rattle.section_data.specs.SectionWords.{data_view};
+ghost use Rattle.inflate.specs.SectionWords.{data_view};
 
 use crate::common::Format;
 use crate::table_data::TableData;
 use elf_view::Elf;
-use section_data::{FoundSection, SectionData, read_section};
+use inflate::{FoundSection, SectionData, read_section};
 use std::alloc::{AllocError, Global};
 
 /// The section `.debug_frame` of a file, or of a file and its debug file.

@@ -5,7 +5,7 @@ ghost use Rattle.call_frames.specs.Tables as spec;
 
 use crate::common::Format;
 use crate::entries::Table;
-use section_data::SectionBytes;
+use inflate::SectionBytes;
 
 /// A section of call frame information, with its bytes or a slice of the file.
 #[derive(Drop)]

@@ -12,7 +12,7 @@ use crate::entries::rest_at;
 use crate::pointers::pointer;
 use crate::table_data::TableData;
 use elf_view::{Elf, Segment};
-use section_data::SectionBytes;
+use inflate::SectionBytes;
 
 /// The type of the segment that holds `.eh_frame_hdr`.
 const PT_GNU_EH_FRAME: u32 = 0x6474_e550;

@@ -21,10 +21,10 @@ use Rattle.retention.specs.declared.Policy.{Policy}
 use Rattle.shared_disk.specs.Looks.{under}
 use Rattle.shared_disk.specs.declared.shared.SharedDisk as shared
 use Rattle.shared_disk.specs.declared.unlocked.Unlocked.{Unlocked}
-use Rattle.unlocked_reading.specs.Asking.{LeavesAllThere}
-use Rattle.unlocked_reading.specs.Copying.{Meanwhile}
-use Rattle.unlocked_reading.specs.History.{HasEach, HoldsArchive}
-use Rattle.unlocked_reading.proofs.CopyLemmas.{stands_for}
+use Rattle.archive_files.specs.UnlockedAsks.{LeavesAllThere}
+use Rattle.archive_files.specs.UnlockedCopies.{Meanwhile}
+use Rattle.archive_files.specs.History.{HasEach, HoldsArchive}
+use Rattle.archive_files.proofs.UnlockedCopyLemmas.{stands_for}
 use Rattle.case_info.specs.Gathering.{AsksBuilds, CaseValue, FileValue, FilesBetween, FilesOn, FindsBuilds, Gathers, GathersBetween, GathersOn, SeesEach, SeesFilesOf, files_with, listed_view}
 use Rattle.case_info.specs.Planning.{IsPlan, PlansIn}
 use Rattle.case_info.specs.Unpacking.{UnpacksBetween, UnpacksOn}

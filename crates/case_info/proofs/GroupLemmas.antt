@@ -11,7 +11,7 @@ use Rattle.case_tables.specs.declared.zones.Zone.{Zone}
 use Rattle.group_tables.specs.declared.numbers.CrashedCore.{CrashedCore}
 use Rattle.group_tables.specs.declared.rows.GroupRow.{GroupRow}
 use Rattle.intake.specs.Parts.{Parts, state_of}
-use Rattle.unlocked_reading.specs.Finding.{has_number}
+use Rattle.archive_files.specs.UnlockedFinding.{has_number}
 use Rattle.case_info.specs.Groups.{PrintsBy, PrintsFound, PrintsRows, PrintsThere, has_member}
 use Rattle.case_info.specs.declared.groups.GroupsForm.{GroupsForm}
 

@@ -5,9 +5,9 @@ use Rattle.intake.specs.Parts.{Parts}
 use Rattle.elf_view.specs.declared.faults.Want.{Want}
 use Rattle.image_replies.specs.declared.core_image.CoreFault.{CoreFault}
 use Rattle.image_replies.specs.declared.core_image.CoreImage.{CoreImage}
-use Rattle.core_length.specs.Whole.{whole_length}
-use Rattle.unread_notes.specs.Unread.{unread_notes}
-use Rattle.unread_notes.specs.declared.notes.UnreadNotes.{UnreadNotes}
+use Rattle.core_checks.specs.Whole.{whole_length}
+use Rattle.core_checks.specs.Unread.{unread_notes}
+use Rattle.core_checks.specs.declared.notes.UnreadNotes.{UnreadNotes}
 use Rattle.case_queries.specs.Fronts.{IsSoundFront}
 use Rattle.case_queries.specs.Seeing.{SeesImage}
 use Rattle.case_screens.specs.Core.{notes_in, notes_read}

@@ -25,7 +25,7 @@ use Rattle.retention.specs.declared.Brief.{Brief}
 use Rattle.shared_disk.specs.Looks.{under}
 use Rattle.shared_disk.specs.declared.shared.SharedDisk as shared
 use Rattle.shared_disk.specs.declared.unlocked.Unlocked.{Unlocked}
-use Rattle.unlocked_reading.specs.Copying.{Meanwhile}
+use Rattle.archive_files.specs.UnlockedCopies.{Meanwhile}
 use Rattle.case_info.specs.declared.gathering.Gathered.{Gathered}
 use Rattle.case_info.specs.declared.gathering.ListedCase.{ListedCase}
 use Rattle.case_info.specs.declared.kept_files.KeptFile.{KeptFile}

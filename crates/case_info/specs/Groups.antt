@@ -23,7 +23,7 @@ use Rattle.intake.specs.State.{ArchiveState}
 use Rattle.intake.specs.Step.{HasCase}
 use Rattle.journal_layout.specs.Case.{Case}
 use Rattle.journal_layout.specs.declared.faults.OpenFault.{OpenFault}
-use Rattle.unlocked_reading.specs.Finding.{has_number}
+use Rattle.archive_files.specs.UnlockedFinding.{has_number}
 use Rattle.case_info.specs.Crashes.{FindsEach}
 use Rattle.case_info.specs.Gathering.{is_core_kind}
 use Rattle.case_info.specs.Screens.{held}

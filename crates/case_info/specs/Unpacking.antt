@@ -28,7 +28,7 @@ use Rattle.journal_layout.specs.declared.faults.OpenFault.{OpenFault}
 use Rattle.shared_disk.specs.Looks.{under}
 use Rattle.shared_disk.specs.declared.shared.SharedDisk as shared
 use Rattle.shared_disk.specs.declared.unlocked.Unlocked.{Unlocked}
-use Rattle.unlocked_reading.specs.Copying.{Meanwhile}
+use Rattle.archive_files.specs.UnlockedCopies.{Meanwhile}
 use Rattle.case_info.specs.declared.unpacked_files.DebugFile.{DebugFile}
 use Rattle.case_info.specs.declared.unpacked_files.UnpackedFile.{UnpackedFile}
 use Rattle.case_info.specs.declared.unpacking.Unpacking.{Unpacking}

@@ -13,7 +13,9 @@ use crate::case::{kind_of, number_of};
 use crate::front::{core_in, front_of, size_of};
 use crate::printing::{refusal_reply, shown, write_text};
 use crate::rows::print_refused;
-use archive_files::{ArchivePath, Failure, Refusal, take_look, unasked};
+use archive_files::{
+    ArchivePath, Failure, Places, Reads, Refusal, find_cases, stay, take_look, unasked,
+};
 use case_listing::{NamedLine, latest_time};
 use case_screens::{Reason, RegisterPlace, core_reason, no_thread, register_place};
 use command_words::line_of;
@@ -32,7 +34,6 @@ use std::rt::Files;
 use std::str;
 use std::time::Clock;
 use thread_regs::threads;
-use unlocked_reading::{Places, Reads, find_cases, stay};
 
 // Why an executable has no registers.
 pub(crate) const NOT_CORE: Reason<'static> = Reason {

@@ -12,7 +12,9 @@ ghost use Rattle.case_info.specs.Screens.{IsScreenBy, ShowsCase, ShowsCore, Show
 use crate::front::{CoreFront, core_in, front_of, header_in, size_of};
 use crate::gathered::{builds_in, debug_files_of, executables_of, facts_of, told_of};
 use crate::printing::{shown, write_text};
-use archive_files::{ArchivePath, Collected, Failure, Refusal, take_look, unasked};
+use archive_files::{
+    ArchivePath, Collected, Failure, Places, Reads, Refusal, find_cases, stay, take_look, unasked,
+};
 use build_replies::BuildAnswer;
 use case_listing::{find_case, latest_time};
 use case_queries::CaseImage;
@@ -30,7 +32,6 @@ use std::alloc::Global;
 use std::fs::File;
 use std::rt::Files;
 use std::time::Clock;
-use unlocked_reading::{Places, Reads, find_cases, stay};
 
 /// The request that the words of `info` make.
 #[derive(Clone, Copy)]

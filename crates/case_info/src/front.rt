@@ -9,13 +9,12 @@ ghost use Rattle.case_info.specs.Fronts.{IsFront, SaysCore, SeesFront};
 
 use archive_files::Refusal;
 use case_queries::read_front;
-use core_length::whole_length;
+use core_checks::{UnreadNotes, unread_notes, whole_length};
 use disk_model::Disk;
 use elf_view::{Elf, ElfFault, Header, Want, a_sound_front_is_enough, soundness_has_no_order};
 use image_replies::{CoreFault, CoreImage, a_sound_front_answers};
 use intake::Archive;
 use std::alloc::Global;
-use unread_notes::{UnreadNotes, unread_notes};
 
 // How many first bytes are looked at for the facts of a core beside its headers and notes.
 const FIRST: usize = 65_536;

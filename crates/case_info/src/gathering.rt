@@ -7,7 +7,7 @@ ghost use Rattle.case_info.specs.Gathering.{CasesOn, Gathers, GathersBetween, Ga
 
 use crate::kept_files::{KeptFile, push_files};
 use crate::mapped::files_in;
-use archive_files::{ArchivePath, Refusal, take_look, unasked};
+use archive_files::{ArchivePath, Places, Reads, Refusal, find_cases, stay, take_look, unasked};
 use disk_model::Disk;
 use intake::{Archive, ArchiveFault, Settings, a_case_is_there_between, the_next_number_is_above};
 use journal_layout::{Entry, Kind};
@@ -16,7 +16,6 @@ use shared_disk::{Looked, SharedDisk, Unlocked};
 use std::alloc::{AllocError, Global};
 use std::fs::File;
 use std::rt::Files;
-use unlocked_reading::{Places, Reads, find_cases, stay};
 
 // How often an archive is looked at of which a case was deleted meanwhile.
 const TRIES: usize = 3;

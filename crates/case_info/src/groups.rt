@@ -8,7 +8,7 @@ ghost use Rattle.group_tables.specs.Values.{row_said};
 ghost use Rattle.intake.specs.Parts.{state_of};
 ghost use Rattle.journal_layout.specs.Case.{case_of};
 ghost use Rattle.script_streams.specs.Replies.{PrintsText, printing};
-ghost use Rattle.unlocked_reading.specs.Finding.{has_number};
+ghost use Rattle.archive_files.specs.UnlockedFinding.{has_number};
 ghost use Rattle.case_info.specs.Groups.{FindsCrashes, FindsCrashesOn, IsText, IsTextOf, PrintsOn, PrintsRow, PrintsRows, PrintsThere, IsCoreIf, has_member};
 ghost use Rattle.case_info.specs.Screens.{held};
 
@@ -16,7 +16,10 @@ use crate::case::{kind_of, number_of};
 use crate::crash_search::crashes_of;
 use crate::printing::{shown, write_text};
 use crate::rows::print_refused;
-use archive_files::{ArchivePath, Collected, Failure, Refusal, take_look, unasked};
+use archive_files::{
+    ArchivePath, AskFault, Collected, Failure, Places, Reads, Refusal, find_cases, take_look,
+    unasked,
+};
 use case_listing::ListWords;
 use case_tables::{Wanted, Zone};
 use crash_signatures::grouped;
@@ -33,7 +36,6 @@ use std::alloc::Global;
 use std::fs::File;
 use std::rt::Files;
 use std::time::Clock;
-use unlocked_reading::{AskFault, Places, Reads, find_cases};
 
 // A day, in seconds: times that are more than a day ahead don't count.
 const DAY: u64 = 86_400;

@@ -5,10 +5,12 @@ use crate::gathered::{builds_in, debug_files_of, executables_of, facts_of, told_
 use crate::groups::{find_crashes, has_case, row_with};
 use crate::printing::write_text;
 use crate::stack::{StackPart, lent_stack, read_stack};
-use archive_files::{ArchivePath, Failure, Refusal, take_look, unasked};
+use archive_files::{
+    ArchivePath, AskFault, Failure, Places, Reads, Refusal, find_cases, stay, take_look, unasked,
+};
 use build_replies::BuildAnswer;
 use case_listing::latest_time;
-use case_pages::{PagedArchive, latest_of, put_archive, put_case, put_foot, put_head};
+use case_pages::{Page, PagedArchive, latest_of, put_archive, put_case, put_foot, put_head};
 use case_queries::CaseImage;
 use case_screens::{CaseAnswers, CoreAnswers};
 use case_tables::{Order, Wanted, Zone};
@@ -17,7 +19,6 @@ use disk_model::Disk;
 use elf_view::Want;
 use frame_replies::FramesAnswer;
 use group_tables::{CrashedCore, GroupRow, newest, numbered, rows_of};
-use html_pages::Page;
 use intake::{Archive, Settings};
 use journal_layout::{Entry, Kind};
 use memory_replies::Window;
@@ -28,7 +29,6 @@ use std::fs::File;
 use std::rt::Files;
 use std::slice;
 use std::time::Clock;
-use unlocked_reading::{AskFault, Places, Reads, find_cases, stay};
 
 // Of how many groups the newest core comes on the page of an archive.
 const MOST_CASES: usize = 12;

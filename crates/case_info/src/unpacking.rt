@@ -20,7 +20,7 @@ use crate::case::{kind_of, number_of};
 use crate::front::{core_in, front_of, size_of};
 use crate::gathered::{builds_in, debug_files_of, executables_of, refusal_of, told_of};
 use crate::unpacked_files::{UnpackedFile, kept_name, own_file, program_of, unpacked_files};
-use archive_files::{Refusal, unasked};
+use archive_files::{Places, Reads, Refusal, find_cases, stay, unasked};
 use build_replies::BuildAnswer;
 use case_queries::{CaseImage, CoreFacts, StoredExecutable, ToldFiles, core_facts};
 use disk_model::Disk;
@@ -30,7 +30,6 @@ use intake::{Archive, Settings, a_case_is_there_between, the_next_number_is_abov
 use journal_layout::Kind;
 use shared_disk::{Looked, SharedDisk, Unlocked};
 use std::alloc::Global;
-use unlocked_reading::{Places, Reads, find_cases, stay};
 
 /// The files that are unpacked of a case, and the facts that an unpacking needs.
 #[derive(Drop)]

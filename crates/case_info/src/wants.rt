@@ -12,7 +12,10 @@ use crate::mapped::files_on;
 use crate::printing::{shown, write_json, write_text};
 use crate::rows::print_refused;
 use crate::wanted::{WantedBuilds, print_builds, print_ids};
-use archive_files::{ArchivePath, Collected, Failure, Refusal, ask, take_look, unasked};
+use archive_files::{
+    ArchivePath, Collected, Failure, Places, Reads, Refusal, ask, find_cases, stay, take_look,
+    unasked,
+};
 use bstr::ByteSlice;
 use build_replies::WantedBuild;
 use case_listing::{NamedLine, ask_case};
@@ -29,7 +32,6 @@ use std::alloc::Global;
 use std::fs::File;
 use std::rt::Files;
 use std::time::Clock;
-use unlocked_reading::{Places, Reads, find_cases, stay};
 
 // How often a core is looked at before it is skipped, if a case was deleted meanwhile.
 const TRIES: usize = 3;

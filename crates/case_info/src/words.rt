@@ -14,7 +14,9 @@ use crate::front::{core_in, front_of, size_of};
 use crate::gathered::{debug_files_of, executables_of, refusal_of, told_of};
 use crate::printing::{refusal_reply, write_text};
 use address_space::AddressSpace;
-use archive_files::{ArchivePath, Collected, Failure, Refusal, take_look, unasked};
+use archive_files::{
+    ArchivePath, Collected, Failure, Places, Reads, Refusal, find_cases, stay, take_look, unasked,
+};
 use case_listing::{latest_time, send_plain};
 use case_queries::{CaseImage, StoredExecutable, ToldFiles, chosen_executables, core_facts};
 use case_screens::{
@@ -38,7 +40,6 @@ use std::fs::File;
 use std::rt::Files;
 use std::time::Clock;
 use thread_regs::{Reg, threads};
-use unlocked_reading::{Places, Reads, find_cases, stay};
 
 // The refusal of memory that ends past the last address, or is too long.
 const RANGE: Reason<'static> = Reason {

@@ -1,2 +1,6 @@
 pub mod LawLemmas
 pub mod PlainLemmas
+pub mod HashLemmas
+pub mod DigestLemmas
+pub mod ReadLemmas
+pub mod HavingLemmas

@@ -3,3 +3,7 @@ pub mod Listing
 pub mod Naming
 pub mod Plain
 pub mod PlainText
+pub mod Hashing
+pub mod Digests
+pub mod Containing
+pub mod Having

@@ -1,1 +1,5 @@
 pub mod BarLemmas
+pub mod ReadingLemmas
+pub mod EscapeLemmas
+pub mod PieceLemmas
+pub mod PageLemmas

@@ -1,10 +1,11 @@
 // The page of an archive.
 use crate::groups::put_groups;
+use crate::page::Page;
 use crate::plot::put_plot;
+use crate::tags::Tag;
 use crate::texts::{open, put, put_decimal, put_time};
 use case_tables::tally_of;
 use group_tables::GroupRow;
-use html_pages::{Page, Tag};
 use journal_layout::{Entry, Kind};
 use std::alloc::{AllocError, Global};
 use std::collections::BTreeSet;

@@ -1,12 +1,15 @@
 // The page of a case.
+use crate::attributes::{Attribute, AttributeName, Value};
 use crate::cause::put_cause;
 use crate::files::put_files;
 use crate::frames::put_first_frames;
 use crate::map::put_map;
 use crate::memory::memory_of;
 use crate::missing::put_missing;
+use crate::page::Page;
 use crate::registers::put_registers;
 use crate::stack::put_stack;
+use crate::tags::Tag;
 use crate::texts::{
     base_of, class, open, put, put_decimal, put_hexadecimal, put_more, put_signed, put_size,
     put_text, put_time,
@@ -16,7 +19,6 @@ use case_screens::{CaseAnswers, CoreAnswers, elf_reason, print_refusal};
 use core_notes::PsInfo;
 use elf_view::{ElfFault, Header};
 use group_tables::GroupRow;
-use html_pages::{Attribute, AttributeName, Page, Tag, Value};
 use journal_layout::Entry;
 use memory_replies::Window;
 use script_streams::Reply;

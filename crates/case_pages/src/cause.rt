@@ -1,8 +1,9 @@
 // Why a process ended.
+use crate::page::Page;
+use crate::tags::Tag;
 use crate::texts::{open, put_decimal, put_hexadecimal, put_signal, put_signed};
 use case_screens::{SignalCode, code_of_signal, core_reason, missing, print_refusal};
 use core_notes::SigInfo;
-use html_pages::{Page, Tag};
 use image_replies::{CoreFault, CoreImage};
 use script_streams::Reply;
 use thread_regs::signal_name;

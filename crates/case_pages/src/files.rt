@@ -1,10 +1,11 @@
 // The files that a core had mapped, and which of them are stored.
+use crate::page::Page;
+use crate::tags::Tag;
 use crate::texts::{open, put, put_decimal, put_more, put_text};
 use address_space::Attached;
 use build_ids::has_name;
 use build_replies::{BuildAnswer, ChosenFile};
 use case_screens::{CoreAnswers, stored_number};
-use html_pages::{Page, Tag};
 use journal_layout::Entry;
 use script_words::print_hex_row;
 

@@ -1,12 +1,13 @@
 // The frames of the thread that dumped.
+use crate::attributes::{Attribute, AttributeName, Value};
+use crate::page::Page;
+use crate::tags::Tag;
 use crate::texts::{
     base_of, open, put, put_decimal, put_hexadecimal, put_looking, put_more, put_signed, put_text,
 };
 use case_screens::{CoreAnswers, file_place, frame_file};
 use core_notes::{FileMap, Files};
-use frame_replies::{FrameAnswer, FramesAnswer, line_of, stop_fault};
-use html_pages::{Attribute, AttributeName, Page, Tag, Value};
-use line_replies::SourceLine;
+use frame_replies::{FrameAnswer, FramesAnswer, SourceLine, line_of, stop_fault};
 use memory_replies::Location;
 use script_words::print_hexadecimal;
 use thread_regs::threads;

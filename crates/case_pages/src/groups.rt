@@ -1,10 +1,12 @@
 // The groups of cores that crashed alike.
+use crate::attributes::{Attribute, AttributeName, Value};
+use crate::page::Page;
 use crate::span::Span;
 use crate::spark::put_spark;
+use crate::tags::Tag;
 use crate::texts::{open, put, put_decimal, put_looking, put_more, put_signal, put_text, put_time};
 use crash_signatures::{Signature, Word};
 use group_tables::{GroupRow, certain_count, labels_of, last_time, newest, perhaps_count};
-use html_pages::{Attribute, AttributeName, Page, Tag, Value};
 use std::alloc::{AllocError, Global};
 
 // How many groups have a row at most.

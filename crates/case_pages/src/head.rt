@@ -1,7 +1,9 @@
 // The parts of a page before and after its content.
+use crate::attributes::{Attribute, AttributeName, Value};
+use crate::page::Page;
 use crate::style::STYLE;
+use crate::tags::Tag;
 use crate::texts::{open, put_decimal, put_text};
-use html_pages::{Attribute, AttributeName, Page, Tag, Value};
 
 // The content that a browser may load for the page: its own style alone.
 const POLICY: &str = "default-src 'none'; style-src 'unsafe-inline'";

@@ -1,9 +1,10 @@
 // The memory map of a core's process: the mappings by address, those of one file in a row as one bar.
 use crate::memory::{Memory, Use, has};
+use crate::page::Page;
 use crate::svg::{begin_box, begin_picture, begin_words, put_line, put_triangle};
+use crate::tags::Tag;
 use crate::texts::{open, put, put_decimal, put_front, put_hexadecimal, put_looking, put_size};
 use address_space::Mapping;
-use html_pages::{Page, Tag};
 use std::alloc::{AllocError, Global};
 
 // So many bars are shown one by one. If there are more, of those in a row without a mark only the first and the last are.

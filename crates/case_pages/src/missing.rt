@@ -1,12 +1,13 @@
 // The missing parts of a core.
 use crate::frames::words_of;
+use crate::page::Page;
+use crate::tags::Tag;
 use crate::texts::{open, put, put_size};
 use case_screens::{CoreAnswers, core_reason, print_refusal};
-use html_pages::{Page, Tag};
+use core_checks::UnreadNotes;
 use image_replies::CoreFault;
 use journal_layout::Entry;
 use script_streams::Reply;
-use unread_notes::UnreadNotes;
 use unwind::Stop;
 
 // Puts the missing parts; nothing, if all is there.

@@ -2,14 +2,15 @@
 ghost use Rattle.std.specs.Prelude.{◌<◌};
 
 use crate::bars::{is_among, span_of};
+use crate::page::Page;
 use crate::programs::{Layer, layers_of, programs_of, times_of};
 use crate::scale::Scale;
 use crate::span::Span;
 use crate::svg::{begin_box, begin_picture, begin_words, put_line};
+use crate::tags::Tag;
 use crate::texts::{base_of, open, put, put_decimal, put_looking, put_text, put_time};
 use case_tables::print_day;
 use group_tables::GroupRow;
-use html_pages::{Page, Tag};
 use script_streams::Reply;
 use std::alloc::{AllocError, Global};
 

@@ -1,8 +1,9 @@
 // The registers of the thread that dumped.
 use crate::memory::{Memory, Use};
+use crate::page::Page;
+use crate::tags::Tag;
 use crate::texts::{open, put, put_hexadecimal, put_key, put_signed, put_text};
 use case_screens::CoreAnswers;
-use html_pages::{Page, Tag};
 use thread_regs::{Reg, Thread, threads};
 
 // How many words a thread's state has: pc, and x1 to x31.

@@ -1,10 +1,10 @@
 // When the cores of a group came, as a small picture in its row. It has the bars of the plot.
 use crate::bars::bars_of;
+use crate::page::Page;
 use crate::programs::program_of;
 use crate::span::Span;
 use crate::svg::{begin_box, begin_picture, put_line};
 use group_tables::GroupRow;
-use html_pages::Page;
 use std::alloc::{AllocError, Global};
 
 // Where the bars are, in tenths of a pixel: the width of all, the bottom, and the height of the highest.

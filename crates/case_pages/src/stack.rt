@@ -2,12 +2,13 @@
 ghost use Rattle.std.specs.Prelude.{◌<◌, ◌+◌, ◌^◌};
 
 use crate::memory::{Memory, Use};
+use crate::page::Page;
+use crate::tags::Tag;
 use crate::texts::{open, put, put_decimal, put_hexadecimal, put_looking, put_text};
 use address_space::{Stretch, StretchKind};
 use case_screens::CoreAnswers;
 use elf_view::{part, u64_at};
 use frame_replies::{FrameAnswer, FramesAnswer};
-use html_pages::{Page, Tag};
 use image_replies::CoreImage;
 use memory_replies::{Window, space_with};
 use script_words::print_hex_row;

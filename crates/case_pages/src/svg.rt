@@ -1,6 +1,8 @@
 // The parts of pictures. Places and lengths are in tenths of a pixel.
+use crate::attributes::{Attribute, AttributeName, Value};
+use crate::page::Page;
+use crate::tags::Tag;
 use crate::texts::class;
-use html_pages::{Attribute, AttributeName, Page, Tag, Value};
 
 // A place or a length.
 pub(crate) fn tenths(name: AttributeName, value: u64) -> Attribute {

@@ -1,6 +1,8 @@
 // The small texts of a page.
+use crate::attributes::{Attribute, AttributeName, Value};
+use crate::page::Page;
+use crate::tags::Tag;
 use case_tables::{print_signal, print_size, print_time};
-use html_pages::{Attribute, AttributeName, Page, Tag, Value};
 use memchr::memrchr;
 use script_streams::Reply;
 use script_words::{print_decimal, print_hexadecimal, print_signed};

@@ -1,10 +1,11 @@
 // The frames of the other threads.
 use crate::groups::put_separator;
+use crate::page::Page;
+use crate::tags::Tag;
 use crate::texts::{open, put_decimal, put_looking, put_more, put_signed, put_text};
 use case_screens::{CoreAnswers, file_place, frame_file, thread_count};
 use core_notes::Files;
 use frame_replies::{FrameAnswer, FramesAnswer};
-use html_pages::{Page, Tag};
 use image_replies::CoreImage;
 use std::alloc::{AllocError, Global};
 use thread_regs::threads;

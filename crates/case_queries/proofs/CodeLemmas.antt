@@ -7,7 +7,7 @@ use Rattle.disk_model.specs.declared.disk.Disk as disk
 use Rattle.intake.specs.Parts.{Parts, state_of}
 use Rattle.intake.specs.declared.faults.ArchiveFault.{ArchiveFault}
 use Rattle.journal_layout.specs.declared.entry.Kind.{Kind}
-use Rattle.line_replies.specs.Line.{line_answer}
+use Rattle.frame_replies.specs.Line.{line_answer}
 use Rattle.memory_replies.specs.Answers.{Answers}
 use Rattle.memory_replies.specs.SymbolDebug.{symbol_with_debug}
 use Rattle.script_lines.specs.Queries.{ask_line, ask_symbol_by_build}

@@ -1,6 +1,6 @@
 -- The lines that ask about an address of an executable: they are answered by its own bytes or by the debug file of its build.
 use Rattle.std.specs.Prelude.{ℕ, List, Option, Result}
-use Rattle.line_replies.specs.Line.{line_answer}
+use Rattle.frame_replies.specs.Line.{line_answer}
 use Rattle.memory_replies.specs.SymbolDebug.{symbol_with_debug}
 use Rattle.script_lines.specs.Queries.{QuerySaid, ask_line, ask_symbol_by_build}
 use Rattle.case_queries.specs.declared.code.CodeQuery.{CodeQuery}

@@ -11,7 +11,7 @@ use Rattle.frame_replies.specs.FrameValues.{frames_of, frames_view}
 use Rattle.frame_replies.specs.SourceWords.{lines_view}
 use Rattle.frame_replies.specs.declared.values.FramesAnswer.{FramesAnswer}
 use Rattle.intake.specs.Parts.{Parts}
-use Rattle.line_replies.specs.Line.{SourceView}
+use Rattle.frame_replies.specs.Line.{SourceView}
 use Rattle.case_queries.specs.Seeing.{AreOfCase, SeesImage}
 use Rattle.case_queries.specs.declared.facts.CoreFacts.{CoreFacts}
 

@@ -30,9 +30,9 @@ use Rattle.journal_layout.specs.Soundness.{case_numbered}
 use Rattle.journal_layout.specs.Case.{Case}
 use Rattle.journal_layout.specs.declared.entry.Kind.{Kind}
 use Rattle.journal_layout.specs.declared.entry.Kind.TheVariants.{Core, Exec}
-use Rattle.line_replies.specs.Line.{line_answer}
+use Rattle.frame_replies.specs.Line.{line_answer}
 use Rattle.memory_replies.specs.Answers.{Answers, memory_reply}
-use Rattle.address_replies.specs.At.{at_answer, at_with_debugs}
+use Rattle.memory_replies.specs.At.{at_answer, at_with_debugs}
 use Rattle.memory_replies.specs.Backtrace.{bt_answer, bt_with_debugs}
 use Rattle.memory_replies.specs.Dump.{dump_answer}
 use Rattle.memory_replies.specs.Find.{find_answer}

@@ -27,7 +27,6 @@ use crate::find::answer_find;
 use crate::front::size_of;
 use crate::kept_image::{Images, kept_if};
 use crate::window::{lent_window, see_memory};
-use address_replies::print_at;
 use archive_replies::reason;
 use build_replies::{listed, print_builds, told_ids};
 use disk_model::Disk;
@@ -36,7 +35,8 @@ use image_replies::{CoreImage, a_sound_front_answers, print_core_fault};
 use intake::{Archive, ArchiveFault};
 use journal_layout::Kind;
 use memory_replies::{
-    Outcome, Window, a_sound_front_names_the_files, print_bt, print_dump, print_find, print_strings,
+    Outcome, Window, a_sound_front_names_the_files, print_at, print_bt, print_dump, print_find,
+    print_strings,
 };
 use script_lines::{BuildQuery, MemoryQuery};
 use script_streams::{Output, Reply, print_no};

@@ -23,7 +23,6 @@ use crate::collect_executables::{
 };
 use crate::kept_image::{Images, kept_if, see_image};
 use crate::memory::{debugs_of_core, print_memory, refused_by, wanted_for_builds};
-use address_replies::print_at_with_debugs;
 use address_space::Attached;
 use archive_replies::reason;
 use build_replies::{ChosenExecutables, listed, told_ids};
@@ -31,7 +30,7 @@ use disk_model::Disk;
 use image_replies::{CoreImage, print_core_fault};
 use intake::Archive;
 use journal_layout::Kind;
-use memory_replies::{Outcome, Window, print_bt_with_debugs};
+use memory_replies::{Outcome, Window, print_at_with_debugs, print_bt_with_debugs};
 use script_lines::MemoryQuery;
 use script_streams::{Output, Reply, print_no};
 use std::alloc::{AllocError, Global};

@@ -13,7 +13,7 @@ use Rattle.frame_replies.specs.declared.values.FrameAnswer.{FrameAnswer}
 use Rattle.frame_replies.specs.declared.values.FramesAnswer.{FramesAnswer}
 use Rattle.image_replies.specs.Lines.{numbered_lines}
 use Rattle.image_replies.specs.declared.core_image.CoreFault.{CoreFault}
-use Rattle.line_replies.specs.Line.{SourceView}
+use Rattle.frame_replies.specs.Line.{SourceView}
 use Rattle.memory_replies.specs.declared.named.Location.{Location}
 use Rattle.script_words.specs.Printing.{hexadecimal}
 use Rattle.case_tables.specs.Table.{left_text}

@@ -21,8 +21,8 @@ use Rattle.case_screens.specs.Texts.{refused_line}
 use Rattle.case_screens.specs.declared.answer.CoreAnswers.{CoreAnswers}
 use Rattle.case_screens.specs.declared.answer.CaseAnswers.{CaseAnswers}
 use Rattle.case_screens.specs.declared.answer.CaseAnswers.TheVariants.{Core, Exec}
-use Rattle.unread_notes.specs.declared.notes.UnreadNotes.{UnreadNotes}
-use Rattle.unread_notes.specs.declared.notes.UnreadNotes.TheVariants.{Padded, Linux}
+use Rattle.core_checks.specs.declared.notes.UnreadNotes.{UnreadNotes}
+use Rattle.core_checks.specs.declared.notes.UnreadNotes.TheVariants.{Padded, Linux}
 
 abbrev pub pin_text : Bool → List ℕ
 pin_text pinned = if pinned then codes ", pinned" else codes ", not pinned"

@@ -1,7 +1,7 @@
 -- Rows of words, each with the target that it points to.
 use Rattle.std.specs.Prelude.{ℕ, ◌+◌, if◌then◌else◌, List, [], ◌∷◌, ◌++◌, find, Option, None, Some, codes, decimal}
 use Rattle.std.specs.Int.{to_be_bytes, w64}
-use Rattle.address_replies.specs.At.{has_address}
+use Rattle.memory_replies.specs.At.{has_address}
 use Rattle.address_space.specs.Source.{MappingView, Space, mappings_of}
 use Rattle.case_screens.specs.Frames.{file_place}
 use Rattle.core_notes.specs.FileList.{FileView, is_mapping}

@@ -1,9 +1,9 @@
 // The parts of a screen: the facts of the image, and those that are found in the memory of a core.
 use build_replies::BuildAnswer;
+use core_checks::UnreadNotes;
 use elf_view::{ElfFault, Header};
 use frame_replies::FramesAnswer;
 use image_replies::{CoreFault, CoreImage};
-use unread_notes::UnreadNotes;
 
 /// The known facts of a core.
 #[derive(Clone, Copy)]

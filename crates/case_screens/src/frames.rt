@@ -3,7 +3,7 @@ ghost use Rattle.std.specs.Prelude.{◌≡◌, ◌-◌, Some, find, length, map,
 ghost use Rattle.core_notes.specs.FileList.{is_mapping};
 ghost use Rattle.core_notes.specs.FileWords.{file_view, files_bytes, files_left};
 ghost use Rattle.image_replies.specs.Lines.{numbered_lines};
-ghost use Rattle.line_replies.specs.LineWords.{source_view};
+ghost use Rattle.frame_replies.specs.LineWords.{source_view};
 ghost use Rattle.script_streams.specs.Replies.{PrintsText, printing};
 ghost use Rattle.case_screens.specs.Core.{files_in};
 ghost use Rattle.case_screens.specs.Frames as spec;
@@ -13,8 +13,7 @@ use crate::texts::{MARGIN, print_label, print_left, print_name, print_refused, r
 use case_tables::print_spaces;
 use core_notes::{FileMap, FileMaps, Files};
 use crash_signatures::{FrameFacts, MappedFile, Word, word_of};
-use frame_replies::{FrameAnswer, FramesAnswer, line_of, print_stop};
-use line_replies::SourceLine;
+use frame_replies::{FrameAnswer, FramesAnswer, SourceLine, line_of, print_stop};
 use memory_replies::Location;
 use script_streams::{Output, Reply};
 use script_words::{print_decimal, print_hexadecimal};

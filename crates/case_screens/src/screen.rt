@@ -12,10 +12,10 @@ use crate::signal::print_signal_line;
 use crate::texts::print_refused;
 use crate::threads::print_threads;
 use case_tables::{Zone, print_size, print_spaces, print_time_in, shown_length};
+use core_checks::UnreadNotes;
 use elf_view::{ElfFault, Header};
 use journal_layout::Entry;
 use script_streams::{Output, Reply};
-use unread_notes::UnreadNotes;
 
 // How wide the name of a case is, if it is not longer.
 const NAME_WIDTH: usize = 36;

@@ -12,11 +12,13 @@ ghost use Rattle.thread_regs.specs.ThreadWords.{threads_left};
 ghost use Rattle.case_screens.specs.WordRows as spec;
 
 use crate::{file_place, map_at};
-use address_replies::{has_address, mapping_at, threads_of};
 use address_space::{AddressSpace, Mapping};
 use core_notes::FileMap;
 use image_replies::CoreImage;
-use memory_replies::{Location, NamedExecutable, function_of, print_hex_word, print_place};
+use memory_replies::{
+    Location, NamedExecutable, function_of, has_address, mapping_at, print_hex_word, print_place,
+    threads_of,
+};
 use script_streams::{Output, Reply};
 use thread_regs::{Reg, ThreadList};
 

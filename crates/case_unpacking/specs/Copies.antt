@@ -12,10 +12,10 @@ use Rattle.shared_disk.specs.Looks.{shared_of}
 use Rattle.shared_disk.specs.declared.looked.Looked.{Looked}
 use Rattle.shared_disk.specs.declared.shared.SharedDisk as shared
 use Rattle.shared_disk.specs.declared.unlocked.Unlocked.{Unlocked}
-use Rattle.unlocked_reading.specs.Copying.{CopiesUnlocked}
-use Rattle.unlocked_reading.specs.declared.faults.AskFault.TheVariants as ask
-use Rattle.unlocked_reading.specs.declared.faults.UnlockedFault.{UnlockedFault}
-use Rattle.unlocked_reading.specs.declared.faults.UnlockedFault.TheVariants as unlocked
+use Rattle.archive_files.specs.UnlockedCopies.{CopiesUnlocked}
+use Rattle.archive_files.specs.declared.unlocked_faults.AskFault.TheVariants as ask
+use Rattle.archive_files.specs.declared.unlocked_faults.UnlockedFault.{UnlockedFault}
+use Rattle.archive_files.specs.declared.unlocked_faults.UnlockedFault.TheVariants as unlocked
 use Rattle.case_unpacking.specs.declared.copying.Uncopied.{Uncopied}
 use Rattle.case_unpacking.specs.declared.copying.Uncopied.TheVariants.{Copy, Unseen}
 

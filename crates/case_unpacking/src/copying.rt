@@ -5,7 +5,9 @@ ghost use Rattle.archive_files.specs.declared.failures.Refusal.TheVariants as re
 ghost use Rattle.disk_model.specs.declared.file_fault.FileFault.{FileFault};
 ghost use Rattle.case_unpacking.specs.Copies.{CopiesCase, IsTold, IsToldOf};
 
-use archive_files::{ArchivePath, FileWord, Refusal, take_look, unasked};
+use archive_files::{
+    ArchivePath, AskFault, FileWord, Refusal, UnlockedFault, copy_unlocked, take_look, unasked,
+};
 use diagnostics::Onlooker;
 use disk_model::{Disk, FileFault};
 use inspector_cli::CopyFault;
@@ -18,7 +20,6 @@ use std::fs::File;
 use std::io;
 use std::io::ErrorKind;
 use std::rt::Files;
-use unlocked_reading::{AskFault, UnlockedFault, copy_unlocked};
 
 // The word for the directory in reports, also while it has its name until it is whole.
 pub(crate) const FOLDER: FileWord = FileWord::Folder;

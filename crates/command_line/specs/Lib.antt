@@ -1,2 +1,3 @@
 pub mod Asking
 pub mod Requesting
+pub mod Metrics

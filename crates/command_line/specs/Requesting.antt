@@ -20,8 +20,8 @@ use Rattle.core_handler.specs.declared.handling.HandleWords.{HandleWords}
 use Rattle.core_handler.specs.declared.spool_store.SpoolWords.{SpoolWords}
 use Rattle.inspector_cli.specs.Storing.{line_stream}
 use Rattle.intake.specs.State.{StreamFacts}
-use Rattle.name_template.specs.Template.{template_fault}
-use Rattle.name_template.specs.declared.template.TemplateFault.{TemplateFault}
+use Rattle.stream_names.specs.Template.{template_fault}
+use Rattle.stream_names.specs.declared.template.TemplateFault.{TemplateFault}
 use Rattle.retention.specs.declared.Policy.{Policy}
 use Rattle.script_lines.specs.Commands.{label_bytes}
 use Rattle.script_lines.specs.Said.{Said, said, label_of, begin_core}

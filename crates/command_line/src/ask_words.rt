@@ -11,8 +11,7 @@ use crate::asked::{Asked, checked};
 use archive_files::{ArchivePath, Refusal};
 use case_info::{dumped_words, question_with, register_in};
 use case_listing::{foreseen_by, named_question};
-use command_words::{Given, digits_of, line_of, usage_told};
-use line_help::rows_of;
+use command_words::{Given, digits_of, line_of, rows_of, usage_told};
 use script_lines::{Question, parse_question};
 use std::alloc::{AllocError, Global};
 

@@ -2,8 +2,8 @@
 ghost use Rattle.std.specs.Prelude.{◌≡◌, ◌⊎◌, None, Some, IfOk, IfErr, OnOk, codes, map, string_bytes};
 ghost use Rattle.archive_files.specs.declared.failures.Refusal.TheVariants.{BadLine};
 ghost use Rattle.core_handler.specs.Fronts.{named_by};
-ghost use Rattle.name_template.specs.Template.{template_fault};
-ghost use Rattle.name_template.specs.declared.template.TemplateFault.{TemplateFault};
+ghost use Rattle.stream_names.specs.Template.{template_fault};
+ghost use Rattle.stream_names.specs.declared.template.TemplateFault.{TemplateFault};
 ghost use Rattle.std.specs.Option.{option_copied};
 ghost use Rattle.command_words.specs.Words.{text_in, words_in};
 ghost use Rattle.command_line.specs.Asking as asking;
@@ -20,16 +20,15 @@ use archive_files::{
     WordPart,
 };
 use case_info::{GroupsWords, InfoWords, PruneWords, WantsWords};
-use case_listing::ListWords;
-use case_search::SearchWords;
+use case_listing::{ListWords, SearchWords};
 use command_words::{Given, is_text};
 use core_handler::{HandleWords, SpoolWords};
 use inspector_cli::Naming;
 use journal_layout::Shape;
-use name_template::Template;
 use retention::Policy;
 use script_lines::Question;
 use std::alloc::Global;
+use stream_names::Template;
 
 // The program's task. Files are named by their paths.
 #[derive(Drop)]
@@ -176,7 +175,7 @@ impl<'a> Asked<'a> {
     pub(crate) fn made(&self) -> Option<&'a str> {
         match self {
             Asked::Format { archive, .. } => Some(*archive),
-            Asked::Extract { file, .. } => *file,
+            Asked::Extract { file, .. } => new_file(*file),
             Asked::Unpack { folder, .. } => Some(*folder),
             Asked::Copy { new, .. } => Some(*new),
             Asked::Salvage { new, .. } => Some(new.path),
@@ -467,6 +466,14 @@ pub(crate) fn text_if<'a>(given: &Given<'a>, name: &str) -> Result<Option<&'a st
     match given.text(name) {
         Some(word) => Ok(Some(checked(word)?)),
         None => Ok(None),
+    }
+}
+
+// The file that is to be made: none for `-`, the standard output.
+pub(crate) fn new_file<'a>(file: Option<&'a str>) -> Option<&'a str> {
+    match file {
+        Some("-") => None,
+        _ => file,
     }
 }
 

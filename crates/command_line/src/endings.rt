@@ -3,11 +3,10 @@ ghost use Rattle.std.specs.Prelude.{◌≡◌, ◌≤◌};
 
 use archive_files::{Collected, Failure, NamedFile, Refusal, print_failure, reason_of};
 use command_words::{
-    Context, Unread, asked_case, meaning_of_words, print_how_it_is_asked, print_meaning,
+    Context, LineHelp, Unread, asked_case, meaning_of_words, print_how_it_is_asked, print_meaning,
     print_no_line, print_word, print_wrong_word,
 };
 use diagnostics::Trouble;
-use line_help::LineHelp;
 use script_streams::{Output, Reply, write_whole};
 use std::alloc::{AllocError, Global};
 use std::str;

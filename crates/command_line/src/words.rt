@@ -5,27 +5,26 @@ ghost use Rattle.command_words.specs.Notes.{IsQuietButForNotes, IsQuietButForSom
 use crate::ask_words::{AskedLine, Form};
 use crate::asked::{Asked, Paths, ReadWords, SessionWords, naming_of, read_words};
 use crate::endings::{Clues, Ending, print_ending};
+use crate::metrics_command::info_metrics;
 use crate::named_files::ending_of;
 use archive_files::{
     Access, ArchivePath, Collected, Failure, NewArchive, Refusal, StoreRequest, ask, check,
     copy_archive_file, look, make_archive, names_output, note_file_system, note_gap, note_shared,
     print_trouble, resize_archive_file, run_over, salvage, take_disk,
 };
-use archive_metrics::info_metrics;
-use case_digests::digest;
 use case_info::{
     CoreLine, PruneWords, ask_core, ask_rows, dumped_words, group_archive, info_archive, info_case,
     print_wants, prune_archive, question_at, register_in, report_archive, thread_words,
 };
 use case_listing::{
-    MachineZone, NamedLine, ask_case, ask_plain, extract_case, list, named_question, would_retire,
+    MachineZone, NamedLine, ask_case, ask_plain, digest, extract_case, list, named_question,
+    search, would_retire,
 };
-use case_search::search;
 use case_tables::Zone;
 use case_unpacking::unpack;
 use command_words::{
-    Context, Watched, asked_help, context_of, in_order, line_in_place_of_a_command, print_help,
-    print_notes, signed_option, words_of,
+    Context, Watched, asked_help, asked_reason, context_of, in_order, line_in_place_of_a_command,
+    option_without_blocks, print_help, print_notes, print_reason, words_of,
 };
 use core_handler::{
     Log, Notes, Printer, Source, SpoolWords, handle, print_lost_words, store_build_told,
@@ -185,9 +184,12 @@ fn answer_words<
     if let Some(help) = asked_help(words) {
         return print_help(help, output).map_err(|_| Ending::from(Failure::Told));
     }
-    if let Some(option) = signed_option(words) {
+    if let Some((reason, meaning)) = asked_reason(words) {
+        return print_reason(reason, meaning, output).map_err(|_| Ending::from(Failure::Told));
+    }
+    if let Some(option) = option_without_blocks(words) {
         return Err(Ending::Wrong(format!(in rt.alloc();
-            "error: {option} takes the number of blocks in all, without a sign\n"
+            "error: {option} takes how many blocks there are to be: 262144 are 1 GiB\n"
         )?));
     }
     let ordered = in_order(rt.alloc(), words)?;
@@ -324,7 +326,14 @@ fn answer_asked<
             archive,
             case,
             file,
-        } => extract_case(rt, archive, case, file, output, onlooker),
+        } => extract_case(
+            rt,
+            archive,
+            case,
+            crate::asked::new_file(file),
+            output,
+            onlooker,
+        ),
         Asked::Digest { archive, cases } => digest(rt, archive, &cases, output, onlooker),
         Asked::Unpack {
             archive,
@@ -395,6 +404,7 @@ fn printer_of<'a>(alloc: Global, archive: ArchivePath<'a>, log: Option<&'a str>)
             path: log.unwrap_or(""),
             archive: Some(archive.path),
         },
+        context: Context::Storing,
         mode: None,
         spooling: None,
         counts: false,

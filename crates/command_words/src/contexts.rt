@@ -96,10 +96,20 @@ static OPTION_MEANINGS: [OptionMeaning; 3] = [
 ];
 
 // The same of `handle`.
-static HANDLER_MEANINGS: [Meaning; 1] = [Meaning {
-    reason: b"TooLong",
-    words: b"the core is over the limit of the configuration (limit, 1 GiB if it is left out): raise it, or keep the first bytes with cut; or it has more bytes than its stated length",
-}];
+static HANDLER_MEANINGS: [Meaning; 3] = [
+    Meaning {
+        reason: b"TooLong",
+        words: b"the core is over the limit of the configuration (limit, 1 GiB if it is left out): raise it, or keep the first bytes with cut; or it has more bytes than its stated length",
+    },
+    Meaning {
+        reason: b"SpaceFull",
+        words: b"the archive has too few free blocks: set fit = true in the configuration, delete or retire cases, or corekeep resize ARCHIVE --data N",
+    },
+    Meaning {
+        reason: b"NameTaken",
+        words: b"a case has this name: delete that case, or set a template in the configuration that tells cores apart, such as core.%e.%p.%t",
+    },
+];
 
 // The same of `list`.
 static LIST_MEANINGS: [Meaning; 2] = [

@@ -155,10 +155,25 @@ fn why_unread(alloc: Global, commands: &[&CommandWords], words: &[String], error
     }
 }
 
+// A message without its advice to pass a word as a value behind `--`, if it has that: no word is read otherwise there.
+fn without_tip(alloc: Global, message: &str) -> Result<Option<String>, AllocError> {
+    let Some((before, tip)) = message.split_once("\n\n  tip: to pass ") else {
+        return Ok(None);
+    };
+    let Some((_, rest)) = tip.split_once("\n\n") else {
+        return Ok(None);
+    };
+    Ok(Some(format!(in alloc; "{before}\n\n{rest}")?))
+}
+
 // The message of clap.
 fn text_of(alloc: Global, error: &Error) -> Unread {
     match format!(in alloc; "{error}") {
-        Ok(text) if error.use_stderr() => Unread::Wrong(text),
+        Ok(text) if error.use_stderr() => match without_tip(alloc, &text) {
+            Ok(Some(text)) => Unread::Wrong(text),
+            Ok(None) => Unread::Wrong(text),
+            Err(AllocError) => Unread::OutOfMemory,
+        },
         Ok(text) => Unread::Help(text),
         Err(_) => Unread::OutOfMemory,
     }

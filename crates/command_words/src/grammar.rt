@@ -45,7 +45,8 @@ const STATUSES: &str = "Statuses:\n\
      \x20\x200  it is done\n\
      \x20\x201  it is refused (`no REASON` on standard output, and its meaning on standard error; `extract` and `digest` print both on standard error),\n\
      \x20\x20   a session ended before its script (`fault NAME` on standard error), or no case matches the filters\n\
-     \x20\x202  the words of the command line are refused";
+     \x20\x202  the words of the command line are refused\n\
+     `corekeep help REASON` says what a reason means, `corekeep help LINE` what a line of `ask` does.";
 
 static PROGRAM: CommandWords = CommandWords {
     name: "corekeep",

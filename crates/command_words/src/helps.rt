@@ -1,6 +1,9 @@
 // `corekeep help LINE`: the purpose of a line of a script.
 use crate::commands::commands;
-use line_help::{LineHelp, help_of, rows_of};
+use crate::help_finding::help_of;
+use crate::help_line::LineHelp;
+use crate::help_rows::rows_of;
+use crate::reasons::meaning_of;
 use script_streams::{Output, Reply, StreamFault};
 
 // The words of the lines whose last word is often taken for a text as it is.
@@ -13,7 +16,8 @@ const LABEL_USAGE: &str =
 const RETIRE_USAGE: &str =
     "retire [keep=K] [bytes=B] [before=T]: each a number, T in seconds since 1970";
 
-/// The line whose help these words ask for. A line that is also a command has the command's help.
+/// The line whose help these words ask for. A line that is also a command has the command's help, and `would-retire`, which `ask` alone has,
+/// that of `retire`.
 pub fn asked_help(words: &[String]) -> Option<&'static LineHelp> {
     let [help, name] = words else {
         return None;
@@ -21,7 +25,41 @@ pub fn asked_help(words: &[String]) -> Option<&'static LineHelp> {
     if help.as_str() != "help" || is_command(name) {
         return None;
     }
+    if name.as_str() == "would-retire" {
+        return help_of("retire");
+    }
     help_of(name)
+}
+
+/// The reason whose meaning these words ask for, by `help REASON`, and its meaning.
+pub fn asked_reason(words: &[String]) -> Option<(&str, &'static [u8])> {
+    let [help, reason] = words else {
+        return None;
+    };
+    let meaning = meaning_of(reason.as_bytes());
+    if help.as_str() != "help" || meaning.is_empty() {
+        return None;
+    }
+    Some((reason.as_str(), meaning))
+}
+
+/// Prints the meaning of a reason, behind the reply that has it.
+///
+/// # Errors
+///
+/// `StreamFault` if a write failed.
+pub fn print_reason<O: Output>(
+    reason: &str,
+    meaning: &[u8],
+    output: &mut O,
+) -> Result<(), StreamFault> {
+    let mut reply = Reply::new(output);
+    reply.print(b"no ");
+    reply.print(reason.as_bytes());
+    reply.print(b": ");
+    reply.print(meaning);
+    reply.print(b"\n");
+    reply.finish()
 }
 
 /// The help of the line that the first word is, if it stands in the place of a command.

@@ -110,7 +110,7 @@ static MEANINGS: [Meaning; 49] = [
     },
     Meaning {
         reason: b"Pinned",
-        words: b"the case is pinned: corekeep ask ARCHIVE unpin N first",
+        words: b"the case is pinned: corekeep ask ARCHIVE unpin CASE first",
     },
     Meaning {
         reason: b"NotCore",

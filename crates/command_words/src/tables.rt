@@ -384,7 +384,7 @@ const NEW_FILE: Word = Word {
     shown: "FILE",
     takes: Takes::NewPlace,
     default: None,
-    help: "A new file for the image [default: standard output]",
+    help: "A new file for the image, or - for standard output [default: -]",
 };
 
 // How many bytes FILE has.

@@ -1,6 +1,6 @@
 // Why a call on an archive's file failed, in words for people.
 use crate::contexts::{Context, meaning_of_words};
-use crate::wrong_words::print_word;
+use crate::wrong_words::{asked_case, print_word};
 use diagnostics::{Call, Trouble};
 use script_streams::{Output, Reply};
 
@@ -62,7 +62,7 @@ static ERRORS: [SystemError; 9] = [
 
 /// Prints the meaning of a reason after this work of these words. If the disk failed, now or before, so that the archive
 /// is stopped, and the call of the system is known that failed, that is printed with the system's reason. If the path of the
-/// archive is given, it stands instead of ARCHIVE.
+/// archive is given, it stands instead of ARCHIVE, and a case that the words ask for stands instead of CASE.
 pub fn print_meaning<O: Output>(
     reply: &mut Reply<'_, O>,
     context: Context,
@@ -75,18 +75,35 @@ pub fn print_meaning<O: Output>(
         Some(trouble) if reason == b"Disk".as_slice() || reason == b"Stopped".as_slice() => {
             print_trouble(reply, trouble);
         }
-        _ => print_about(reply, meaning_of_words(context, words, reason), path),
+        _ => print_about(
+            reply,
+            meaning_of_words(context, words, reason),
+            path,
+            asked_case(words),
+        ),
     }
 }
 
-// Prints a meaning about the archive at this path, if that is given.
-fn print_about<O: Output>(reply: &mut Reply<'_, O>, meaning: &[u8], path: Option<&str>) {
+// Prints a meaning about the archive at this path and about the case of this name, if they are given.
+fn print_about<O: Output>(
+    reply: &mut Reply<'_, O>,
+    meaning: &[u8],
+    path: Option<&str>,
+    case: Option<&str>,
+) {
     let mut space: &[u8] = b"";
     for word in meaning.split(|byte| *byte == b' ') {
         reply.print(space);
-        match path {
-            Some(path) if word == b"ARCHIVE".as_slice() => print_word(reply, path),
-            _ => reply.print(word),
+        let given = if word == b"ARCHIVE".as_slice() {
+            path
+        } else if word == b"CASE".as_slice() {
+            case
+        } else {
+            None
+        };
+        match given {
+            Some(given) => print_word(reply, given),
+            None => reply.print(word),
         }
         space = b" ";
     }

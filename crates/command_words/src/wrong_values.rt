@@ -117,15 +117,22 @@ struct Wrong<'a> {
     why: &'static [u8],
 }
 
-/// The first of `--half` and `--data` whose value has a sign: it could be meant as a change of the number of blocks.
-pub fn signed_option(words: &[String]) -> Option<&'static str> {
+/// The first of `--half` and `--data` whose value is no number of blocks. One with a sign could be meant as a change of their number.
+pub fn option_without_blocks(words: &[String]) -> Option<&'static str> {
+    if !takes_blocks(words.first()?) {
+        return None;
+    }
     for option in ["--half", "--data"] {
         match value_of(words, option) {
-            Some(value) if value.starts_with('+') || value.starts_with('-') => return Some(option),
+            Some(value) if parse_number(value.as_bytes()).is_none() => return Some(option),
             _ => {}
         }
     }
     None
+}
+
+fn takes_blocks(command: &str) -> bool {
+    matches!(command, "format" | "memory" | "copy" | "resize" | "salvage")
 }
 
 /// Prints which word of a command that was refused as `BadLine` or `BadShape` can't be read, if the words alone say so, and whether they do.

@@ -23,7 +23,7 @@ static PARTS: [Part; 6] = [
     },
     Part {
         name: "ADDR",
-        words: b"an address, such as 0x11000; for dump also a register, such as sp or sp+0x10",
+        words: b"an address, such as 0x11000; for dump and at also a register, such as sp or sp+0x10",
     },
     Part {
         name: "LEN",

@@ -6,10 +6,10 @@ use Rattle.archive_files.specs.OverDisks.{reason_found}
 use Rattle.archive_files.specs.declared.storing.StoreRequest.{StoreRequest}
 use Rattle.core_handler.specs.declared.config.Config.{Config}
 use Rattle.intake.specs.State.{StreamFacts}
-use Rattle.name_template.specs.Naming.{template_bytes}
-use Rattle.name_template.specs.Template.{template_fault}
-use Rattle.name_template.specs.declared.template.Template.{Template}
-use Rattle.name_template.specs.declared.template.TemplateFault.{TemplateFault}
+use Rattle.stream_names.specs.Naming.{template_bytes}
+use Rattle.stream_names.specs.Template.{template_fault}
+use Rattle.stream_names.specs.declared.template.Template.{Template}
+use Rattle.stream_names.specs.declared.template.TemplateFault.{TemplateFault}
 use Rattle.inspector_cli.specs.Storing.{line_stream}
 use Rattle.script_lines.specs.Said.{Said, said}
 use Rattle.stream_names.specs.Commands.{stream_found}

@@ -1,12 +1,12 @@
 -- The counter that rises for an outcome.
 use Rattle.std.specs.Prelude.{ℕ, Bool, true, false, List, [], ◌∷◌, Option, None, Some, replicate, if◌then◌else◌}
 use Rattle.std.specs.List.{slice_set}
-use Rattle.outcome_counts.specs.Counters.{place}
-use Rattle.outcome_counts.specs.Counts.{count_of, more}
-use Rattle.outcome_counts.specs.declared.counters.Counter.{Counter}
-use Rattle.outcome_counts.specs.declared.counters.Counter.TheVariants as counters
-use Rattle.outcome_counts.specs.declared.counts.Counts.{Counts}
-use Rattle.outcome_counts.specs.declared.reasons.Reason.{Reason}
+use Rattle.handler_files.specs.Counters.{place}
+use Rattle.handler_files.specs.Counts.{count_of, more}
+use Rattle.handler_files.specs.declared.counters.Counter.{Counter}
+use Rattle.handler_files.specs.declared.counters.Counter.TheVariants as counters
+use Rattle.handler_files.specs.declared.counts.Counts.{Counts}
+use Rattle.handler_files.specs.declared.reasons.Reason.{Reason}
 use Rattle.core_handler.specs.declared.outcome_lines.Place.{Place}
 use Rattle.core_handler.specs.declared.outcome_lines.Place.TheVariants.{Lost, Kept}
 

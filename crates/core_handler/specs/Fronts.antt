@@ -3,10 +3,10 @@ use Rattle.std.specs.Prelude.{ℕ, Bool, false, ◌==◌, ◌||◌, List, [], �
 use Rattle.std.specs.List.{flat_map}
 use Rattle.intake.specs.State.{StreamFacts}
 use Rattle.inspector_cli.specs.Storing.{line_stream}
-use Rattle.name_template.specs.Template.{parts_of, spelling, template_fault}
-use Rattle.name_template.specs.declared.part.Part.{Part}
-use Rattle.name_template.specs.declared.part.Part.TheVariants.{Letter, Lone, Plain}
-use Rattle.name_template.specs.declared.template.TemplateFault.{TemplateFault}
+use Rattle.stream_names.specs.Template.{parts_of, spelling, template_fault}
+use Rattle.stream_names.specs.declared.part.Part.{Part}
+use Rattle.stream_names.specs.declared.part.Part.TheVariants.{Letter, Lone, Plain}
+use Rattle.stream_names.specs.declared.template.TemplateFault.{TemplateFault}
 use Rattle.script_lines.specs.Said.{Said}
 use Rattle.stream_names.specs.declared.naming.Naming.{Naming}
 

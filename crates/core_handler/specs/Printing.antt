@@ -2,8 +2,8 @@
 use Rattle.std.specs.Prelude.{◌≡◌, ℕ, ◌==◌, List, [], ◌∷◌, ◌++◌, length, Option, Some, None, codes, if◌then◌else◌}
 use Rattle.std.specs.Option.{unwrap_or}
 use Rattle.script_words.specs.Printing.{shown}
-use Rattle.spool.specs.declared.fate.Fate.{Fate}
-use Rattle.spool.specs.declared.fate.Fate.TheVariants.{Stay, Go}
+use Rattle.handler_files.specs.declared.fate.Fate.{Fate}
+use Rattle.handler_files.specs.declared.fate.Fate.TheVariants.{Stay, Go}
 use Rattle.core_handler.specs.declared.outcome_lines.Place.{Place}
 use Rattle.core_handler.specs.declared.outcome_lines.Place.TheVariants.{Lost, Kept}
 use Rattle.core_handler.specs.declared.printer.Spooling.{Spooling}

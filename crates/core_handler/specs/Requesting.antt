@@ -13,8 +13,8 @@ use Rattle.inspector_cli.specs.declared.session.Order.{Order}
 use Rattle.inspector_cli.specs.declared.session.Order.TheVariants.{Oldest, Fair}
 use Rattle.inspector_cli.specs.declared.session.StoreOptions.{StoreOptions}
 use Rattle.intake.specs.State.{StreamFacts}
-use Rattle.name_template.specs.Template.{template_fault}
-use Rattle.name_template.specs.declared.template.TemplateFault.{TemplateFault}
+use Rattle.stream_names.specs.Template.{template_fault}
+use Rattle.stream_names.specs.declared.template.TemplateFault.{TemplateFault}
 use Rattle.retention.specs.declared.Policy.{Policy}
 use Rattle.script_lines.specs.Said.{Said, said}
 use Rattle.stream_names.specs.Commands.{stream_found}

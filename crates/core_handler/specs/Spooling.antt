@@ -2,9 +2,9 @@
 use Rattle.std.specs.Prelude.{ℕ, Bool, true, false, Result, Ok, Err}
 use Rattle.std.specs.Option.{unwrap_or}
 use Rattle.core_handler.specs.declared.config.Config.{Config}
-use Rattle.spool.specs.declared.reception.NotSpooled.{NotSpooled}
-use Rattle.spool.specs.declared.reception.NotSpooled.TheVariants.{Name}
-use Rattle.spool.specs.declared.reception.Unspooled.{Unspooled}
+use Rattle.handler_files.specs.declared.reception.NotSpooled.{NotSpooled}
+use Rattle.handler_files.specs.declared.reception.NotSpooled.TheVariants.{Name}
+use Rattle.handler_files.specs.declared.reception.Unspooled.{Unspooled}
 use Rattle.whole_files.specs.declared.faults.NameFault.{NameFault}
 use Rattle.whole_files.specs.declared.faults.NameFault.TheVariants.{Named}
 

@@ -4,7 +4,7 @@ ghost use Rattle.whole_files.specs.Whole.{IsMade};
 
 use crate::spool_paths::SpoolPaths;
 use disk_model::FileFault;
-use spool::{NotSpooled, Piece, Room, begin_part, discard, receive};
+use handler_files::{NotSpooled, Piece, Room, begin_part, discard, receive};
 use std::fs::File;
 use std::rt::Files;
 use whole_files::{NewFile, PartFile, remove};

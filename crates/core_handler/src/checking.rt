@@ -10,19 +10,20 @@ use archive_files::{
     ArchivePath, Collected, Failure, Refusal, fault_found, note_file_system, note_gap, reason_of,
     shape_on, shared_folder, take_look,
 };
+use command_words::Context;
 use diagnostics::Nobody;
 use disk_model::Disk;
+use handler_files::{FolderFault, begin_part, folder_fault};
 use intake::{Archive, Settings};
 use journal_layout::Shape;
 use memchr::memmem;
-use name_template::Template;
 use script_streams::{Output, Reply};
-use spool::{FolderFault, begin_part, folder_fault};
 use std::alloc::Global;
 use std::fs;
 use std::fs::File;
 use std::rt::Files;
 use std::time::Clock;
+use stream_names::Template;
 use whole_files::{PartFile, remove};
 
 // The bytes of a block.
@@ -448,7 +449,7 @@ fn print_refused<O: Output>(
     reply.print(what);
     reply.print(b": ");
     let reason = reason_of(alloc, refusal);
-    let words = words_of(alloc, Some(refusal), reason.text(), None);
+    let words = words_of(alloc, Context::Handling, Some(refusal), reason.text(), None);
     reply.print(reason.text());
     if !words.text().is_empty() {
         reply.print(b": ");

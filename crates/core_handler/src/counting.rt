@@ -6,7 +6,7 @@ ghost use Rattle.core_handler.specs.Counting as spec;
 use crate::file_limit::may_grow;
 use crate::log::open_to_add;
 use crate::outcome_lines::{Place, after};
-use outcome_counts::{Counter, Counts, CountsFault, Reason, counts_path, read_counts};
+use handler_files::{Counter, Counts, CountsFault, Reason, counts_path, read_counts};
 use std::alloc::{AllocError, Global};
 use std::fs::{File, TryLockError};
 use std::io::Write;

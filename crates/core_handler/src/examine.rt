@@ -6,7 +6,7 @@ ghost use Rattle.journal_layout.specs.Case.{Case};
 ghost use Rattle.journal_layout.specs.Soundness.{case_numbered};
 
 use archive_files::Collected;
-use core_length::whole_length;
+use core_checks::{UnreadNotes, unread_notes, whole_length};
 use disk_model::Disk;
 use elf_view::{Elf, Want};
 use image_replies::{CoreImage, print_core_fault, print_elf_fault};
@@ -14,7 +14,6 @@ use intake::{Archive, Settings};
 use journal_layout::Kind;
 use script_streams::Reply;
 use std::alloc::Global;
-use unread_notes::{UnreadNotes, unread_notes};
 
 // RISC-V, as the field e_machine of an ELF file names it.
 const EM_RISCV: u16 = 243;

@@ -10,11 +10,12 @@ use crate::spool_paths::SpoolPaths;
 use crate::spool_store::{print_unremoved, settle_files, store_kept};
 use crate::twin::{Twin, twin_of};
 use archive_files::{ArchivePath, Collected, Failure, StoreRequest, open_looked};
+use command_words::Context;
 use diagnostics::Onlooker;
-use script_streams::{Output, Reply};
-use spool::{
+use handler_files::{
     CoreFiles, Entry, Outcome, Spooled, Stage, entries_in, oldest_first, read_words, settle_words,
 };
+use script_streams::{Output, Reply};
 use std::alloc::Global;
 use std::fs;
 use std::fs::File;
@@ -69,7 +70,10 @@ pub(crate) fn flush<
     if are_stored {
         Ok(())
     } else {
-        Err(Failure::Told)
+        refuse(
+            output,
+            b"fault spool: cores of it were not stored: the log says why\n",
+        )
     }
 }
 
@@ -109,7 +113,7 @@ fn remove_if_lone<R: AllocGlobal + Files<File = File>>(
     }
 }
 
-// Logs why nothing is stored.
+// Prints why not all is stored.
 fn refuse<O: Output>(output: &mut O, why: &[u8]) -> Result<(), Failure> {
     let mut reply = Reply::new(output);
     reply.print(why);
@@ -247,7 +251,7 @@ fn flush_core<R: AllocGlobal + Files<File = File> + Clock, O: Output, W: Onlooke
         return outcome;
     }
     let waits = handler.waiting();
-    let meaning = words_of(rt.alloc(), None, b"NameTaken", None);
+    let meaning = words_of(rt.alloc(), Context::Handling, None, b"NameTaken", None);
     waits.print_lost(rt, words, waiting.place.path, b"NameTaken", meaning.text());
     Outcome::NameTaken
 }

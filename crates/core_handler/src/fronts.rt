@@ -5,7 +5,7 @@ ghost use Rattle.core_handler.specs.Fronts as spec;
 
 use inspector_cli::{Naming, NewStream, line_stream};
 use journal_layout::Name;
-use name_template::Template;
+use stream_names::Template;
 
 // The front that the names of a program's cores share: the text that the template gives
 // up to its first process, thread or time. If it gives nothing, all names begin so.

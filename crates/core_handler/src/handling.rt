@@ -4,7 +4,7 @@ ghost use Rattle.std.specs.Option.{option_copied};
 ghost use Rattle.archive_files.specs.Printing.{IsToldAs};
 ghost use Rattle.archive_files.specs.declared.failures.Refusal.TheVariants.{OutOfMemory};
 ghost use Rattle.script_streams.specs.Replies.{no_reply};
-ghost use Rattle.name_template.specs.Template.{template_fault};
+ghost use Rattle.stream_names.specs.Template.{template_fault};
 ghost use Rattle.core_handler.specs.Counting.{counts_by};
 ghost use Rattle.core_handler.specs.Requesting.{AsksBy, IsRequested, IsTime, IsWanted, template_of};
 ghost use Rattle.core_handler.specs.Printing as spec;
@@ -23,16 +23,17 @@ use crate::spool_store::{KeptWords, store_by_spool};
 use crate::time_source::TimeSource;
 use archive_files::{ArchivePath, Collected, Failure, FileWord, Refusal, StoreRequest};
 use arrayvec::ArrayVec;
+use command_words::Context;
 use diagnostics::Onlooker;
 use disk_model::FileFault;
-use name_template::Template;
+use handler_files::Outcome;
 use script_streams::{Output, Reply};
-use spool::Outcome;
 use std::alloc::Global;
 use std::fs::File;
 use std::io::Read;
 use std::rt::Files;
 use std::time::Clock;
+use stream_names::Template;
 
 // How a handler names cores if its configuration doesn't say.
 pub(crate) const HANDLER_TEMPLATE: &str = "core.%u.%h.%e.%p.%t";
@@ -151,6 +152,7 @@ fn handler_of<'a>(
     let printer = Printer {
         alloc,
         log: log_of(&config, archive),
+        context: Context::Handling,
         mode,
         spooling: None,
         counts: counts_by(&config),
@@ -356,7 +358,7 @@ impl<'a> Handler<'a> {
         ensures told { IsToldAs (O.taken output.old) (O.taken output.new) (O.failures output.old) (O.failures output.new) (no_reply (codes "Limit")) }
         ensures refused { IfOk result (λ done. ⊥) }
     {
-        let meaning = words_of(self.printer.alloc, None, b"Limit", None);
+        let meaning = words_of(self.printer.alloc, Context::Handling, None, b"Limit", None);
         self.print_lost(rt, words, archive, b"Limit", meaning.text());
         let mut reply = Reply::new(output);
         reply.print(b"no Limit\n");

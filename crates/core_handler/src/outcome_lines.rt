@@ -8,8 +8,8 @@ use archive_files::{Collected, FileWord, Refusal};
 use command_words::{Context, print_meaning};
 use diagnostics::Trouble;
 use disk_model::FileFault;
+use handler_files::{Outcome, outcome_of};
 use script_streams::{Output, Reply};
-use spool::{Outcome, outcome_of};
 use std::alloc::Global;
 use std::str;
 
@@ -113,11 +113,12 @@ fn with_reply<'a>(lacks: Lacks<'a>, behind: u32, has_label: bool, line: &'a [u8]
 // The text about a case that lacks this, with this reason.
 pub(crate) fn lack_words(
     alloc: Global,
+    context: Context,
     lack: &[u8],
     reason: &[u8],
     trouble: Option<Trouble>,
 ) -> Collected {
-    let meaning = words_of(alloc, None, reason, trouble);
+    let meaning = words_of(alloc, context, None, reason, trouble);
     let mut words = Collected::new(alloc);
     let mut reply = Reply::new(&mut words);
     reply.print(lack);
@@ -226,10 +227,11 @@ fn print_archive<O: Output>(reply: &mut Reply<'_, O>, details: &[u8], archive: &
     reply.print_text(archive.as_bytes());
 }
 
-// The meaning of a refusal with this reason, in words: for a file which one, and why it could not be opened; for a disk that failed which
+// The meaning of a refusal of this work with this reason, in words: for a file which one, and why it could not be opened; for a disk that failed which
 // call of the system that was, if it is known.
 pub(crate) fn words_of(
     alloc: Global,
+    context: Context,
     refusal: Option<Refusal>,
     reason: &[u8],
     trouble: Option<Trouble>,
@@ -238,7 +240,7 @@ pub(crate) fn words_of(
     let mut reply = Reply::new(&mut words);
     match refusal.and_then(|refusal| file_text(alloc, refusal)) {
         Some(text) => reply.print(text.as_bytes()),
-        None => print_meaning(&mut reply, Context::Other, &[], reason, trouble, None),
+        None => print_meaning(&mut reply, context, &[], reason, trouble, None),
     }
     let _ = reply.finish();
     words

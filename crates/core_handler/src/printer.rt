@@ -1,5 +1,5 @@
 // The outcome of a case that is stored, written to a log.
-ghost use Rattle.spool.specs.Spools.{spools};
+ghost use Rattle.handler_files.specs.Spools.{spools};
 ghost use Rattle.core_handler.specs.Printing.{IsPlaced};
 
 use crate::counting::{count, dropped_count, reason_in, stored_counter, unstored_counter};
@@ -15,12 +15,12 @@ use archive_files::{
     ArchivePath, BuildRequest, Collected, Failure, Held, Refusal, StoreRequest, print_stall,
     read_whole, reason_of, refuse_file, store_file,
 };
+use command_words::Context;
 use diagnostics::{Onlooker, Trouble};
 use disk_model::FileDisk;
-use outcome_counts::Counter;
+use handler_files::{Counter, Fate, Outcome, fate_of};
 use script_streams::{Output, Reply, write_whole};
 use script_words::parse_case_number;
-use spool::{Fate, Outcome, fate_of};
 use std::alloc::Global;
 use std::fs::File;
 use std::io::Read;
@@ -38,6 +38,8 @@ pub struct Printer<'a> {
     pub alloc: Global,
     /// Its log.
     pub log: Log<'a>,
+    /// The work whose outcomes it reports.
+    pub context: Context,
     /// The dump mode of the process, if it is stated.
     pub mode: Option<u64>,
     /// The spool in which a core stays that can't be stored now, if it is in the spool.
@@ -277,7 +279,7 @@ impl<'a> Printer<'a> {
         name: &[u8],
         trouble: Trouble,
     ) -> Failure {
-        let words = words_of(self.alloc, None, b"Disk", Some(trouble));
+        let words = words_of(self.alloc, self.context, None, b"Disk", Some(trouble));
         self.print_lost(rt, archive, b"", name, b"Disk", words.text());
         Failure::Refused(Refusal::Disk)
     }
@@ -296,7 +298,13 @@ impl<'a> Printer<'a> {
         match ended {
             Err(Failure::Refused(refusal)) => {
                 let reason = reason_of(self.alloc, *refusal);
-                let words = words_of(self.alloc, Some(*refusal), reason.text(), trouble);
+                let words = words_of(
+                    self.alloc,
+                    self.context,
+                    Some(*refusal),
+                    reason.text(),
+                    trouble,
+                );
                 self.print_lost(rt, archive, replies, name, reason.text(), words.text());
                 self.outcome_by(reason.text())
             }
@@ -306,7 +314,7 @@ impl<'a> Printer<'a> {
                 self.outcome_by(refused)
             }
             _ => {
-                let words = words_of(self.alloc, None, refused, trouble);
+                let words = words_of(self.alloc, self.context, None, refused, trouble);
                 self.print_lost(rt, archive, replies, name, refused, words.text());
                 self.outcome_by(refused)
             }
@@ -391,14 +399,14 @@ impl<'a> Printer<'a> {
     ) {
         let lacks = lacks_of(replies, has_label);
         if let Some(reason) = lacks.label {
-            let words = lack_words(self.alloc, b"has no label", reason, trouble);
+            let words = lack_words(self.alloc, self.context, b"has no label", reason, trouble);
             self.print_case(rt, number, words.text());
             if lacks.pin_follows {
                 self.note_case(number, words.text(), note);
             }
         }
         if let Some(reason) = lacks.pin {
-            let words = lack_words(self.alloc, b"is not pinned", reason, trouble);
+            let words = lack_words(self.alloc, self.context, b"is not pinned", reason, trouble);
             self.print_case(rt, number, words.text());
         }
     }

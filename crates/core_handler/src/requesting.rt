@@ -1,6 +1,6 @@
 // The request of the kernel's handler, by its configuration and by the words that the kernel gives it.
 ghost use Rattle.std.specs.Prelude.{◌≡◌, ℕ, ◌+◌, ◌-◌, ◌<◌, ◌↔◌, IfOk, IfErr, None, Some};
-ghost use Rattle.name_template.specs.Template.{template_fault};
+ghost use Rattle.stream_names.specs.Template.{template_fault};
 ghost use Rattle.script_lines.specs.Said.{said};
 ghost use Rattle.core_handler.specs.Fronts as fronts;
 ghost use Rattle.core_handler.specs.Requesting as spec;
@@ -11,10 +11,10 @@ use crate::handling::HANDLER_LIMIT;
 use archive_files::{StoreRequest, StoreWords};
 use arrayvec::ArrayVec;
 use inspector_cli::{Burst, Naming, Order, StoreOptions};
-use name_template::{Template, TemplateFault};
 use retention::Policy;
 use std::io;
 use std::time::Duration;
+use stream_names::{Template, TemplateFault};
 
 // The request to store the core that a line begins, named by this template, with the length that is stated. The time is in
 // seconds since 1970.

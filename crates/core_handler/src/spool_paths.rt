@@ -1,5 +1,5 @@
 // The paths of a core's files in the spool.
-use spool::{CorePaths, SpoolName, Stage};
+use handler_files::{CorePaths, SpoolName, Stage};
 use std::alloc::{AllocError, Global};
 
 // The paths of a core's files.

@@ -15,12 +15,11 @@ use crate::spool_paths::SpoolPaths;
 use archive_files::{ArchivePath, Collected, Failure, StoreRequest};
 use diagnostics::Onlooker;
 use disk_model::FileFault;
-use outcome_counts::{Counter, Reason};
-use script_streams::{Output, Reply};
-use spool::{
-    CoreFiles, Fate, NotSpooled, Outcome, Room, SpoolName, Stage, Unspooled, discard, entries_in,
-    fate_of, receive, rest_of, settle, taken_bytes, words_text,
+use handler_files::{
+    CoreFiles, Counter, Fate, NotSpooled, Outcome, Reason, Room, SpoolName, Stage, Unspooled,
+    discard, entries_in, fate_of, receive, rest_of, settle, taken_bytes, words_text,
 };
+use script_streams::{Output, Reply};
 use std::fs::File;
 use std::io::{Chain, Read, Seek, SeekFrom, Take};
 use std::rt::Files;

@@ -5,3 +5,5 @@ pub mod LineLemmas
 pub mod ShownLemmas
 pub mod ChoiceLemmas
 pub mod SourceLemmas
+pub mod SourceLineLemmas
+pub mod SectionLemmas

@@ -4,7 +4,7 @@ use Rattle.std.specs.Prelude.{find}
 use Rattle.std.proofs.lemmas.Bool.{cases_Bool}
 use Rattle.std.proofs.lemmas.Slice.Eq.{bytes_eq-Decides}
 use Rattle.image_replies.specs.Lines.{numbered_lines}
-use Rattle.line_replies.specs.Line.{SourceView}
+use Rattle.frame_replies.specs.Line.{SourceView}
 use Rattle.memory_replies.specs.Naming.{NamedFile, has_path}
 use Rattle.frame_replies.specs.FrameSources.{line_at, source_line}
 use Rattle.frame_replies.specs.FrameValues.{FrameValue}

@@ -3,7 +3,7 @@ use Rattle.std.specs.Prelude.{ℕ, ◌==◌, if◌then◌else◌, List, [], ◌�
 use Rattle.address_space.specs.Source.{Space, ExecutableView}
 use Rattle.build_replies.specs.Choosing.{Choice, choice_for}
 use Rattle.call_frames.specs.FieldNames.{cfi_field_name}
-use Rattle.frame_rows.specs.FieldNames.{row_field_name}
+use Rattle.unwind.specs.FieldNames.{row_field_name}
 use Rattle.image_replies.specs.Lines.{numbered_lines}
 use Rattle.memory_replies.specs.Naming.{NamedFile}
 use Rattle.memory_replies.specs.Places.{place_words}

@@ -6,7 +6,7 @@ use Rattle.address_space.specs.Source.{ExecutableView, SpotView, entry_at, spot_
 use Rattle.build_replies.specs.Choosing.{choice_for}
 use Rattle.core_notes.specs.FileList.{FileView}
 use Rattle.image_replies.specs.Lines.{numbered_lines}
-use Rattle.line_replies.specs.Line.{SourceView, source_at, source_place}
+use Rattle.frame_replies.specs.Line.{SourceView, source_at, source_place}
 use Rattle.memory_replies.specs.Naming.{NamedFile, has_path}
 use Rattle.memory_replies.specs.Words.{hex_word}
 use Rattle.symbols.specs.Offsets.{address_of}

@@ -12,3 +12,7 @@ pub mod Shown
 pub mod Walking
 pub mod WalkLaws
 pub mod Choices
+pub mod Source
+pub mod LineSourceWords
+pub mod Line
+pub mod LineWords

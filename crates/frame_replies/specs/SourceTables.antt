@@ -1,7 +1,7 @@
 -- The line tables of an executable that is used for a mapped file.
 use Rattle.std.specs.Prelude.{Option}
 use Rattle.std.specs.Result.{result_ok}
-use Rattle.line_replies.specs.Source.{SourcesView, sources_for}
+use Rattle.frame_replies.specs.Source.{SourcesView, sources_for}
 use Rattle.memory_replies.specs.Naming.{NamedFile, debug_image}
 
 -- its own, or else those of its debug file

@@ -1,8 +1,8 @@
 -- What the code's source lines of frames mean.
 use Rattle.std.specs.Prelude.{ℕ, List, Option, map}
 use Rattle.std.specs.Option.{option_map}
-use Rattle.line_replies.specs.Line.{SourceView}
-use Rattle.line_replies.specs.LineWords.{source_view}
+use Rattle.frame_replies.specs.Line.{SourceView}
+use Rattle.frame_replies.specs.LineWords.{source_view}
 use Rattle.frame_replies.specs.FrameSources.{line_at, source_line}
 use Rattle.frame_replies.specs.FrameValues.{frame_view}
 use Rattle.frame_replies.specs.declared.values.FrameAnswer.{FrameAnswer}

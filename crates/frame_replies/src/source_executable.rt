@@ -1,11 +1,11 @@
 // An executable with its line tables.
 ghost use Rattle.std.specs.Prelude.{◌≡◌};
 ghost use Rattle.std.specs.Option.{option_map};
-ghost use Rattle.line_replies.specs.SourceWords.{sections_view};
+ghost use Rattle.frame_replies.specs.LineSourceWords.{sections_view};
 ghost use Rattle.memory_replies.specs.NamingWords.{named_file};
 ghost use Rattle.frame_replies.specs.SourceTables.{tables_of};
 
-use line_replies::LineSections;
+use crate::line_sections::LineSections;
 use memory_replies::NamedExecutable;
 
 /// An executable that is used for a mapped file, with its line tables, or those of its debug file, if they can be read.

@@ -10,8 +10,8 @@ ghost use Rattle.frame_replies.specs.SourceWords.{lines_view};
 ghost use Rattle.frame_replies.specs.Walking.{HasFound, IsWalkOf, walked_value};
 
 use crate::process::UnwoundProcess;
+use crate::source_line::SourceLine;
 use crate::walk::{Walk, WalkedFrame};
-use line_replies::SourceLine;
 use memory_replies::{Location, function_of};
 use std::alloc::{AllocError, Global};
 use unwind::columns::{RA, SP};

@@ -39,3 +39,4 @@ pub mod AgreeLooks
 pub mod AgreeLines
 pub mod AgreeScripts
 pub mod DeletingLemmas
+pub mod CauseLemmas

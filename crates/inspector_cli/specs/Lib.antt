@@ -22,3 +22,4 @@ pub mod Stated
 pub mod Fitting
 pub mod Bursts
 pub mod Deleting
+pub mod Causes

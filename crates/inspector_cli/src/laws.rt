@@ -1,5 +1,6 @@
 //! Laws of every script and every session. These functions do nothing.
 ghost use Rattle.inspector_cli.specs.Agreement.{LinesAgree, ScriptsAgree};
+ghost use Rattle.inspector_cli.specs.Causes.{AReadFailed, AWriteFailed, ReadsWereMany, RefusedIsAnswered, StoredIsAnswered};
 ghost use Rattle.inspector_cli.specs.Cuts.{HasOneCut, HasACut, HasOneFront};
 ghost use Rattle.inspector_cli.specs.Fitting.{TheFirstGoes, AllArePinned, NoPinnedOneGoes};
 ghost use Rattle.inspector_cli.specs.Headline.{SessionsAreCrashSafe};
@@ -93,4 +94,19 @@ pub fn retiring_is_for_a_stream<D: Disk>()
     ensures begun { RetiresForAStreamAlone D.Disk }
     ensures left_out { RetiresUnlessRefused D.Disk }
     ensures unasked { RetiresNothingUnasked D.Disk }
+{}
+
+/// No session ends with a fault at will: with `ReadFailed` only if the input failed, with `TooManyReads` only if 2^40 bytes and more were read, one
+/// at least by each read, and with `WriteFailed` only if the output failed.
+pub fn a_fault_has_its_cause<D: Disk>()
+    ensures read { AReadFailed D.Disk }
+    ensures reads { ReadsWereMany D.Disk }
+    ensures write { AWriteFailed D.Disk }
+{}
+
+/// A case is reported as stored only if the archive has answered with its number, and the whole reply is that answer's: nothing of it is told
+/// before. The reply to a stream that is not stored is that of its refusal.
+pub fn a_stored_case_was_answered<D: Disk>()
+    ensures stored { StoredIsAnswered D.Disk }
+    ensures refused { RefusedIsAnswered D.Disk }
 {}

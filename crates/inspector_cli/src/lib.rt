@@ -31,9 +31,9 @@ pub use copying::{CopyFault, copy_image};
 pub use deleting::open_and_delete;
 pub use extract::{ImageFault, read_image, write_image};
 pub use laws::{
-    a_script_has_one_cut, a_session_is_crash_safe, a_settled_archive_is_safe,
-    a_store_is_crash_safe, a_text_is_one, retiring_is_for_a_stream, sessions_are_runs,
-    the_oldest_core_goes_first,
+    a_fault_has_its_cause, a_script_has_one_cut, a_session_is_crash_safe,
+    a_settled_archive_is_safe, a_store_is_crash_safe, a_stored_case_was_answered, a_text_is_one,
+    retiring_is_for_a_stream, sessions_are_runs, the_oldest_core_goes_first,
 };
 pub use life::open_and_run;
 pub use memory_life::memory_session;

@@ -8,3 +8,5 @@ pub mod Places
 pub mod Walking
 pub mod FirstSteps
 pub mod Homes
+pub mod InfoLoops
+pub mod InfoOrders

@@ -18,3 +18,10 @@ pub mod FileWords
 pub mod Finding
 pub mod FindingWords
 pub mod Grammar
+pub mod InfoForms
+pub mod Abbreviations
+pub mod InfoEntries
+pub mod InfoEntryWords
+pub mod UnitFinding
+pub mod UnitFindingWords
+pub mod InfoGrammar

@@ -2,11 +2,16 @@
 //! comes from.
 #![tactic(auto)]
 
+mod abbreviations;
+mod compilations;
 mod entries;
 mod faults;
 mod files;
 mod forms;
 mod header;
+mod info_entries;
+mod info_forms;
+mod info_laws;
 mod instructions;
 mod laws;
 mod line_tables;
@@ -18,9 +23,11 @@ mod steps;
 mod texts;
 mod units;
 
+pub use compilations::Compilations;
 pub use faults::{LineFault, LineField, NoLine};
 pub use files::FilePath;
 pub use header::Header;
+pub use info_laws::the_attributes_are_those_declared;
 pub use laws::{
     a_line_is_in_a_compilation, a_sequence_stands_alone, a_step_crosses,
     the_instructions_are_the_program, the_units_are_the_walk,

@@ -11,3 +11,7 @@ pub mod FrontLemmas
 pub mod WindowLemmas
 pub mod StackLemmas
 pub mod NamingLemmas
+pub mod AtPrintLemmas
+pub mod CountLemmas
+pub mod AtFrontLemmas
+pub mod AtLemmas

@@ -19,3 +19,4 @@ pub mod SymbolDebug
 pub mod FileNameWords
 pub mod Window
 pub mod Stack
+pub mod At

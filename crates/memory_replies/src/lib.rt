@@ -4,6 +4,7 @@
 //! [`address_space::Attached`] images, in one order; those that pass the checks of their headers are attached.
 #![tactic(auto)]
 
+mod at;
 mod attached;
 mod debug_file;
 mod dump;
@@ -19,6 +20,7 @@ mod naming;
 mod outcome;
 mod search;
 mod stack;
+mod stacks;
 mod symbol;
 mod symbolized_executable;
 mod symbolized_executables;
@@ -26,6 +28,7 @@ mod texts;
 mod window;
 mod words;
 
+pub use at::{mapping_at, print_at, print_at_with_debugs};
 pub use attached::{space_and_images, space_with};
 pub use dump::{is_out_of_range, print_dump};
 pub use file_names::FileNames;
@@ -40,6 +43,7 @@ pub use naming::{function_of, named_executables, of_path};
 pub use outcome::Outcome;
 pub use search::print_find;
 pub use stack::{has_frames, stack_range};
+pub use stacks::{has_address, threads_of};
 pub use symbol::{print_symbol, print_symbol_with_debug};
 pub use symbolized_executables::SymbolizedExecutables;
 pub use texts::print_strings;

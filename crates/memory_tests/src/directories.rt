@@ -1,8 +1,7 @@
 //! The directories of compilations next to those that other readers
 //! of DWARF show, and units with a fault, which provide no directory.
 use crate::lines::is_line;
-use compilations::Compilations;
-use line_tables::{Line, LineTables};
+use line_tables::{Compilations, Line, LineTables};
 use std::process::Abort;
 
 /// The texts that some of the units refer to.

@@ -1,6 +1,6 @@
 //! Sections of an image: the bytes of one that objcopy compressed are those that it decompresses, and one that can't be read is no data.
 use elf_view::{Elf, Want};
-use section_data::{FoundSection, read_section};
+use inflate::{FoundSection, read_section};
 use std::alloc::Global;
 use std::process::Abort;
 use std::test::Fail;

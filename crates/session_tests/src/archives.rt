@@ -4,10 +4,10 @@ use disk_model::{Disk, MemDisk};
 use inspector_cli::{Input, Naming, Output, ReadInput, SessionFault, WriteOutput, run_session};
 use intake::{Archive, Settings};
 use journal_layout::Shape;
-use name_template::Template;
 use std::alloc::Global;
 use std::process::Abort;
 use std::test::Fail;
+use stream_names::Template;
 
 // A formatted disk of one block in each journal half and `data_blocks` data blocks.
 pub(crate) fn disk_of(alloc: Global, data_blocks: u32) -> Result<MemDisk, Fail> {

@@ -2,6 +2,7 @@
 use crate::archives::{after, disk_of};
 use crate::images::with_executable;
 use archive_care::CopyWish;
+use archive_files::{AskFault, UnlockedFault, ask_unlocked, copy_unlocked};
 use disk_model::{Disk, MemDisk};
 use elf_view::sample::stack_core;
 use inspector_cli::{Question, WriteOutput};
@@ -12,7 +13,6 @@ use shared_disk::{Looked, ScriptedShare};
 use std::alloc::Global;
 use std::process::Abort;
 use std::test::Fail;
-use unlocked_reading::{AskFault, UnlockedFault, ask_unlocked, copy_unlocked};
 
 // The changes of the archive from one moment to the next. The last script stores over the blocks of case 2, which is a core.
 static STEPS: [&str; 5] = [

@@ -1,1 +1,4 @@
 pub mod LookLemmas
+mod ReadLemmas
+mod SeenLemmas
+mod ScriptLemmas

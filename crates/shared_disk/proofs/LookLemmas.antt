@@ -2,7 +2,7 @@
 use Rattle.std.proofs.Common.{ℕ, ◌≤◌, List, arith}
 use Rattle.journal_layout.specs.declared.shape.Half.{Half}
 use Rattle.journal_layout.specs.declared.shape.Shape.{Shape}
-use Rattle.journal_looks.specs.Outcome.{IsSeen}
+use Rattle.shared_disk.specs.Outcome.{IsSeen}
 
 pub seen_wider : (moments : List (List ℕ)) (h i j : ℕ) (shape : Shape) (half : Half) (front : List ℕ) → h ≤ i → IsSeen moments i j shape half front → IsSeen moments h j shape half front
 seen_wider moments h i j shape half front before seen =

@@ -1,6 +1,6 @@
 -- A disk of which each moment is given, and the bytes that it holds between two looks.
 use Rattle.std.proofs.Common.{◌≡◌, ◌⊎◌, inl, inr, ℕ, zero, suc, ◌+◌, ◌≤◌, List, [], ◌∷◌, ◌++◌, refl, sym, ap, subst, ◌∙◌, arith}
-use Rattle.journal_looks.specs.History.{moment}
+use Rattle.shared_disk.specs.History.{moment}
 use Rattle.shared_disk.specs.Meanwhile.{EndsWith, IsHeld}
 
 -- the moment of number k, and so many behind it

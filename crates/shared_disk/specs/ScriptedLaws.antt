@@ -2,8 +2,8 @@
 use Rattle.std.proofs.Common.{◌≡◌, ⊎_elim, ℕ, zero, suc, ◌+◌, ◌-◌, ◌*◌, ◌%◌, ◌<◌, ◌≤◌, List, set, take, drop, length, slice_index, sym, ap, subst, ◌∙◌, arith}
 use Rattle.std.proofs.lemmas.Bool.{cases_lt}
 use Rattle.std.proofs.lemmas.List.{drop-drop, get_or-set_same, get_or-set_other}
-use Rattle.journal_looks.specs.History.{moment}
-use Rattle.journal_looks.specs.Rows.{rows, row_long}
+use Rattle.shared_disk.specs.History.{moment}
+use Rattle.shared_disk.specs.Rows.{rows, row_long}
 use Rattle.shared_disk.specs.Meanwhile.{EndsWith, IsHeld}
 use Rattle.shared_disk.specs.Scripted.{span, span_all, span_ends, span_has}
 

@@ -1,13 +1,15 @@
 // A look that takes no lock.
 ghost use Rattle.std.specs.Prelude.{◌≡◌, ◌+◌, ◌≤◌, IfOk, IfSome, IsTrue, length};
 ghost use Rattle.journal_layout.specs.Layout.{IsWithinLimits, data_start, disk_length};
-ghost use Rattle.journal_looks.specs.Watching.{Runs};
+ghost use Rattle.shared_disk.specs.Watching.{Runs};
 ghost use Rattle.shared_disk.specs.Lockless.{SeesMoment};
 
+use crate::chain::WatchFault;
+use crate::look::look_once;
 use crate::shared::LookFault;
+use crate::watched::WatchedDisk;
 use byteorder::{ByteOrder, LittleEndian};
 use journal_layout::{BLOCK, Shape};
-use journal_looks::{WatchFault, WatchedDisk, look_once};
 use std::alloc::Global;
 
 // How often a look is begun anew because others changed the journal meanwhile.

@@ -1,8 +1,8 @@
 // A disk that others change by a script.
 ghost use Rattle.std.specs.Prelude.{◌≡◌, ◌+◌, ◌-◌, ◌*◌, ◌^◌, ◌<◌, ◌≤◌, ◌∷◌, [], length, slice_index, true, IfSome};
 ghost use Rattle.disk_model.specs.Places.{AreBytes};
-ghost use Rattle.journal_looks.specs.History.{moment};
-ghost use Rattle.journal_looks.specs.Rows.{rows, row_bytes};
+ghost use Rattle.shared_disk.specs.History.{moment};
+ghost use Rattle.shared_disk.specs.Rows.{rows, row_bytes};
 ghost use Rattle.shared_disk.specs.Scripted.{span};
 ghost use Rattle.shared_disk.specs.ScriptedLaws.{row_size, held_size};
 

@@ -7,8 +7,8 @@ ghost use Rattle.disk_model.specs.declared.held_facts.Hold.TheVariants.{Shared};
 
 use crate::lockless::look_lockless;
 use crate::shared::{LookFault, SharedDisk};
+use crate::watched::WatchedDisk;
 use disk_model::{DiskFault, FileFault, HeldFile, Hold};
-use journal_looks::WatchedDisk;
 use std::alloc::Global;
 
 /// A regular file that other processes change under its advisory lock (flock(2)), of the length that it had when it

@@ -3,8 +3,8 @@ use Rattle.std.proofs.Common.{◌≡◌, ⊎_elim, ℕ, ◌<◌, ◌==◌, nat_l
 use Rattle.std.proofs.lemmas.Bool.{cases_Bool}
 use Rattle.std.specs.Borrow.{Bor}
 use Rattle.std.specs.List.{list_any}
-use Rattle.name_template.specs.Expansion.{expansion, name_of}
-use Rattle.name_template.specs.declared.template.NameFault.{NameFault}
+use Rattle.stream_names.specs.Expansion.{expansion, name_of}
+use Rattle.stream_names.specs.declared.template.NameFault.{NameFault}
 use Rattle.script_lines.specs.Said.{ProcessSaid}
 use Rattle.stream_names.specs.Streams.{facts_of, lent}
 

@@ -4,11 +4,11 @@ use Rattle.std.specs.List.{list_any}
 use Rattle.std.specs.Borrow.{Bor}
 use Rattle.journal_layout.specs.declared.entry.Kind.TheVariants.{Core, Exec}
 use Rattle.intake.specs.State.{StreamFacts}
-use Rattle.name_template.specs.Expansion.{expansion, name_of}
-use Rattle.name_template.specs.Naming.{template_bytes}
-use Rattle.name_template.specs.declared.facts.Facts.{Facts}
-use Rattle.name_template.specs.declared.template.NameFault.{NameFault}
-use Rattle.name_template.specs.declared.template.NameFault.TheVariants as name
+use Rattle.stream_names.specs.Expansion.{expansion, name_of}
+use Rattle.stream_names.specs.Naming.{template_bytes}
+use Rattle.stream_names.specs.declared.facts.Facts.{Facts}
+use Rattle.stream_names.specs.declared.template.NameFault.{NameFault}
+use Rattle.stream_names.specs.declared.template.NameFault.TheVariants as name
 use Rattle.script_lines.specs.Said.{ProcessSaid}
 use Rattle.stream_names.specs.declared.naming.Naming.{Naming}
 

@@ -1,5 +1,5 @@
 // How cases are named.
-use name_template::Template;
+use crate::template::Template;
 
 /// How cases are named: the core files that are stored (core(5), "Naming of core dump files"), and the executables that are looked for.
 #[derive(Drop)]

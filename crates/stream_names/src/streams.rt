@@ -4,10 +4,11 @@ ghost use Rattle.script_lines.specs.Commands.{name_text, process_of, process_tol
 ghost use Rattle.stream_names.specs.Commands.{stream_found};
 ghost use Rattle.stream_names.specs.Streams.{exec_stream, core_name, core_stream, name_reason};
 
+use crate::facts::Facts;
 use crate::names::{NewStream, copied, has_nul};
 use crate::naming::Naming;
+use crate::template::NameFault;
 use journal_layout::{Kind, Name};
-use name_template::{Facts, NameFault};
 use script_lines::{NameWord, Process, ProcessWords};
 
 /// The stream that `begin exec` begins, or the fault of its name, as a reply has it: `TooLong` over 128 bytes, then

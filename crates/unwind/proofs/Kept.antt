@@ -4,7 +4,7 @@ use Rattle.std.proofs.lemmas.Bool.{lt-ltb, both_ways}
 use Rattle.std.proofs.lemmas.List.{get_or-set_other}
 use Rattle.std.proofs.lemmas.List.FromFn.{get_or-map-range_with_len}
 use Rattle.address_space.specs.Source.{Space}
-use Rattle.frame_rows.specs.declared.rows.Row.{Row}
+use Rattle.unwind.specs.declared.rows.Row.{Row}
 use Rattle.unwind.specs.ByEntry.{led_to}
 use Rattle.unwind.specs.Registers.{Registers, known, without}
 use Rattle.unwind.specs.Values.{register_by, registers_by}

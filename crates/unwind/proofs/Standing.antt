@@ -10,10 +10,10 @@ use Rattle.call_frames.specs.Entry.{EntryView}
 use Rattle.call_frames.specs.Finding.{entry_of}
 use Rattle.call_frames.specs.declared.faults.NoEntry as entries
 use Rattle.call_frames.specs.declared.faults.NoEntry.TheVariants.{Uncovered, Faulty}
-use Rattle.frame_rows.specs.Execution.{row_of}
-use Rattle.frame_rows.specs.Rows.{rule_of}
-use Rattle.frame_rows.specs.declared.faults.RowField.{RowField}
-use Rattle.frame_rows.specs.declared.rows.Row.{Row}
+use Rattle.unwind.specs.Execution.{row_of}
+use Rattle.unwind.specs.Rows.{rule_of}
+use Rattle.unwind.specs.declared.row_faults.RowField.{RowField}
+use Rattle.unwind.specs.declared.rows.Row.{Row}
 use Rattle.unwind.specs.ByCall as calls
 use Rattle.unwind.specs.ByEntry as led
 use Rattle.unwind.specs.ByTrampoline as trampolines

@@ -16,12 +16,12 @@ use Rattle.call_frames.specs.declared.faults.CfiFault.{CfiFault}
 use Rattle.call_frames.specs.declared.faults.NoEntry as none
 use Rattle.call_frames.specs.declared.faults.NoEntry.TheVariants.{Uncovered, Faulty}
 use Rattle.call_frames.specs.declared.spots.Spot.{Spot}
-use Rattle.frame_rows.specs.Execution.{row_of}
-use Rattle.frame_rows.specs.Rows.{rule_of}
-use Rattle.frame_rows.specs.declared.faults.RowField.{RowField}
-use Rattle.frame_rows.specs.declared.rows.Row.{Row}
-use Rattle.frame_rows.specs.declared.rows.Rule.{Rule}
-use Rattle.frame_rows.specs.declared.rows.Rule.TheVariants.{Undefined, Same, Offset, Value, Register, Expression}
+use Rattle.unwind.specs.Execution.{row_of}
+use Rattle.unwind.specs.Rows.{rule_of}
+use Rattle.unwind.specs.declared.row_faults.RowField.{RowField}
+use Rattle.unwind.specs.declared.rows.Row.{Row}
+use Rattle.unwind.specs.declared.rows.Rule.{Rule}
+use Rattle.unwind.specs.declared.rows.Rule.TheVariants.{Undefined, Same, Offset, Value, Register, Expression}
 use Rattle.symbols.specs.Offsets.{address_of}
 use Rattle.unwind.specs.ByCall as calls
 use Rattle.unwind.specs.ByEntry as led

@@ -6,11 +6,11 @@ use Rattle.call_frames.specs.Finding.{entry_of}
 use Rattle.call_frames.specs.Unread.{have_unread_frames}
 use Rattle.call_frames.specs.declared.faults.NoEntry as entries
 use Rattle.call_frames.specs.declared.faults.NoEntry.TheVariants.{Uncovered, Faulty}
-use Rattle.frame_rows.specs.Execution.{row_of}
-use Rattle.frame_rows.specs.Rows.{rule_of}
-use Rattle.frame_rows.specs.declared.faults.RowField.{RowField}
-use Rattle.frame_rows.specs.declared.rows.Row.{Row}
-use Rattle.frame_rows.specs.declared.rows.Rule.{Rule}
+use Rattle.unwind.specs.Execution.{row_of}
+use Rattle.unwind.specs.Rows.{rule_of}
+use Rattle.unwind.specs.declared.row_faults.RowField.{RowField}
+use Rattle.unwind.specs.declared.rows.Row.{Row}
+use Rattle.unwind.specs.declared.rows.Rule.{Rule}
 use Rattle.unwind.specs.ByCall.{by_stub, callee_at}
 use Rattle.unwind.specs.Code.{ProcessView, CodeView, code_of}
 use Rattle.unwind.specs.Reasons.{checked, and_then, stop_if}

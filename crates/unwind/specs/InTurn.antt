@@ -9,10 +9,10 @@ use Rattle.call_frames.specs.Tables.{debug_frame_of, eh_frame_of}
 use Rattle.call_frames.specs.Walk.{entries_of, spots_of}
 use Rattle.call_frames.specs.declared.faults.CfiField.{CfiField}
 use Rattle.call_frames.specs.declared.spots.Spot.{Spot}
-use Rattle.frame_rows.specs.Execution.{row_of}
-use Rattle.frame_rows.specs.Rows.{rule_of}
-use Rattle.frame_rows.specs.declared.rows.Row.{Row}
-use Rattle.frame_rows.specs.declared.rows.Rule.TheVariants.{Register, Same}
+use Rattle.unwind.specs.Execution.{row_of}
+use Rattle.unwind.specs.Rows.{rule_of}
+use Rattle.unwind.specs.declared.rows.Row.{Row}
+use Rattle.unwind.specs.declared.rows.Rule.TheVariants.{Register, Same}
 use Rattle.symbols.specs.Offsets.{address_of}
 use Rattle.unwind.specs.ByCall.{is_no_code}
 use Rattle.unwind.specs.ByEntry.{is_unread}

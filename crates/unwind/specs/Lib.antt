@@ -12,3 +12,9 @@ pub mod Words
 pub mod Coming
 pub mod FrameWords
 pub mod InTurn
+pub mod Rows
+pub mod Instructions
+pub mod Execution
+pub mod FieldNames
+pub mod RowWords
+pub mod Locations

@@ -3,9 +3,9 @@ use Rattle.std.specs.Prelude.{◌≡◌, ◌<◌, ◌≤◌, ◌⊎◌, ⊤, ℕ
 use Rattle.call_frames.specs.Entry.{EntryView}
 use Rattle.call_frames.specs.Finding.{entry_of}
 use Rattle.call_frames.specs.declared.faults.NoEntry.TheVariants.{Uncovered}
-use Rattle.frame_rows.specs.Execution.{row_of}
-use Rattle.frame_rows.specs.Rows.{rule_of}
-use Rattle.frame_rows.specs.declared.rows.Row.{Row}
+use Rattle.unwind.specs.Execution.{row_of}
+use Rattle.unwind.specs.Rows.{rule_of}
+use Rattle.unwind.specs.declared.rows.Row.{Row}
 use Rattle.unwind.specs.ByCall.{is_no_code, is_stub}
 use Rattle.unwind.specs.ByTrampoline.{is_trampoline, saved_word, saved_registers}
 use Rattle.unwind.specs.Code.{ProcessView, CodeView, code_of}

@@ -3,11 +3,11 @@ use Rattle.std.specs.Prelude.{ℕ, ◌+◌, ◌%◌, ◌^◌, ◌==◌, if◌the
 use Rattle.std.specs.Option.{option_map}
 use Rattle.std.specs.List.{range_with_len}
 use Rattle.address_space.specs.Source.{Space, word_at}
-use Rattle.frame_rows.specs.Rows.{rule_of}
-use Rattle.frame_rows.specs.declared.rows.Cfa.{Cfa}
-use Rattle.frame_rows.specs.declared.rows.Row.{Row}
-use Rattle.frame_rows.specs.declared.rows.Rule.{Rule}
-use Rattle.frame_rows.specs.declared.rows.Rule.TheVariants.{Undefined, Same, Offset, Value, Register, Expression}
+use Rattle.unwind.specs.Rows.{rule_of}
+use Rattle.unwind.specs.declared.rows.Cfa.{Cfa}
+use Rattle.unwind.specs.declared.rows.Row.{Row}
+use Rattle.unwind.specs.declared.rows.Rule.{Rule}
+use Rattle.unwind.specs.declared.rows.Rule.TheVariants.{Undefined, Same, Offset, Value, Register, Expression}
 use Rattle.unwind.specs.Reasons.{checked}
 use Rattle.unwind.specs.Registers.{Registers, known}
 use Rattle.unwind.specs.declared.faults.Stop.{Stop}

@@ -14,10 +14,10 @@ use crate::code::{Code, Process};
 use crate::executable::UnwoundExecutable;
 use crate::faults::{RowFault, Stop};
 use crate::frame::{Callee, Frame, Registers, without};
+use crate::rows::{Row, Rule};
 use crate::start::holds_start;
 use crate::values::{cfa_by, is_undefined, registers_by, unknown_by, value_by};
 use call_frames::{Entry, NoEntry};
-use frame_rows::{Row, Rule};
 use seen_memory::{SeenMemory, Unread};
 
 /// The part of an entry that leads to the next frame.

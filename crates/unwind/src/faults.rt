@@ -1,6 +1,6 @@
 // Why frames end.
+use crate::row_faults::RowField;
 use call_frames::CfiFault;
-use frame_rows::RowField;
 
 /// The fault of the instructions of an entry.
 #[derive(Clone, Copy, PartialEq, Eq)]

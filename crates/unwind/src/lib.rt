@@ -9,10 +9,16 @@ mod by_trampoline;
 mod code;
 pub mod columns;
 mod executable;
+mod execution;
 mod faults;
 mod frame;
 mod frames;
+mod instructions;
 mod laws;
+mod operands;
+mod row_faults;
+mod row_laws;
+mod rows;
 mod start;
 mod values;
 
@@ -26,3 +32,6 @@ pub use laws::{
     no_entry_is_sure, nothing_is_guessed, the_frames_are_unwound, the_stack_rises,
     the_start_is_outermost,
 };
+pub use row_faults::RowField;
+pub use row_laws::a_row_lasts_to_the_next_location;
+pub use rows::{Cfa, Row, Rule};

@@ -5,7 +5,7 @@ ghost use Rattle.unwind.specs.Values as spec;
 
 use crate::faults::Stop;
 use crate::frame::{Registers, known};
-use frame_rows::{Cfa, Row, Rule};
+use crate::rows::{Cfa, Row, Rule};
 use seen_memory::{SeenMemory, Unread};
 
 /// The value that a column has in the caller by a rule. The error is a byte that is not at hand.

@@ -7,3 +7,4 @@ pub mod MemorySearching
 pub mod RisingLemmas
 pub mod PlanLemmas
 pub mod Outcomes
+pub mod HeldLemmas

@@ -3,6 +3,7 @@ ghost use Rattle.std.specs.Prelude.{◌≡◌, ◌+◌, ◌-◌, ◌^◌, ◌<�
 ghost use Rattle.std.specs.List.{range_with_len};
 ghost use Rattle.address_space.specs.Occurrence.{occurrences, occurs, strings_of};
 ghost use Rattle.address_space.specs.Source.{Space};
+ghost use Rattle.windowed_search.specs.Held.{HeldBytesAreInTheFile, TheFirstDecides};
 ghost use Rattle.windowed_search.specs.Places.{places, MatchesAcrossAreFound};
 ghost use Rattle.windowed_search.specs.Rising.{IsRising};
 ghost use Rattle.windowed_search.specs.Runs.{IsRunOf};
@@ -45,4 +46,11 @@ pub fn a_rising_memory_is_searched_by_address()
     ensures occurrences { (space : Space) (needle : List ℕ) → 0 < length needle → IsRising 0 space.segments
         → occurrences space needle ≡ filter (occurs space needle) (range_with_len 0 (2 ^ 64 - 1)) }
     ensures texts { (space : Space) (least : ℕ) → IsRising 0 space.segments → strings_of space least ≡ texts_before space least (2 ^ 64 - 1) }
+{}
+
+/// A byte that an address has in the core is in the file, within the segment that decides the address: an address that was not dumped, or that a cut
+/// took away, has none there. The segment that decides is the first that covers the address, however the segments overlap. It does nothing.
+pub fn a_held_byte_is_in_the_file()
+    ensures held { HeldBytesAreInTheFile }
+    ensures first { TheFirstDecides }
 {}

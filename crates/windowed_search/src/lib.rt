@@ -11,7 +11,7 @@ mod steps;
 mod within;
 
 pub use laws::{
-    a_match_across_windows_is_found, a_plan_tells_the_values,
+    a_held_byte_is_in_the_file, a_match_across_windows_is_found, a_plan_tells_the_values,
     a_rising_memory_is_searched_by_address, places_are_occurrences, texts_that_are_found_are_whole,
     windows_have_all_places,
 };

@@ -1,6 +1,6 @@
 use Rattle.std.proofs.Common.{ap, take, ◌∙◌}
-use Rattle.core_length.specs.Whole.{whole_length}
-use Rattle.unread_notes.specs.Unread.{unread_notes}
+use Rattle.core_checks.specs.Whole.{whole_length}
+use Rattle.core_checks.specs.Unread.{unread_notes}
 use Rattle.elf_view.specs.declared.faults.Want.TheVariants.{Core}
 use Rattle.case_screens.specs.Core.{notes_in}
 use Rattle.case_info.proofs.FrontLemmas.{first_same, notes_same, read_as, says_same}

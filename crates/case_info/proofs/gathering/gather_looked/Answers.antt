@@ -1,9 +1,9 @@
 use Rattle.std.proofs.Common.{ℕ, List, ap, subst, ◌∙◌}
 use Rattle.intake.specs.InTurn.{last_state}
 use Rattle.shared_disk.specs.SteadyLaws.{none_steady}
-use Rattle.unlocked_reading.specs.History.{HasEach}
-use Rattle.unlocked_reading.proofs.CopyLemmas.{honest_with}
-use Rattle.unlocked_reading.proofs.PlaceLemmas.{all_steady}
+use Rattle.archive_files.specs.History.{HasEach}
+use Rattle.archive_files.proofs.UnlockedCopyLemmas.{honest_with}
+use Rattle.archive_files.proofs.UnlockedPlaceLemmas.{all_steady}
 use Rattle.case_info.proofs.GatherLemmas.{gathered_between}
 use Rattle.case_info.proofs.gathering.gather_looked.Goals as goal
 

@@ -1,7 +1,7 @@
 use Rattle.std.proofs.Common.{◌≡◌, true, Ok, rules}
 use Rattle.std.specs.List.{list_all}
 use Rattle.intake.specs.Parts.{state_of}
-use Rattle.unlocked_reading.specs.Finding.{has_number}
+use Rattle.archive_files.specs.UnlockedFinding.{has_number}
 use Rattle.case_info.proofs.GroupLemmas.{prints_by}
 use Rattle.case_info.proofs.groups.print_again.Goals as goal
 

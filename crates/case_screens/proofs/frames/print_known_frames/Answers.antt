@@ -3,8 +3,8 @@ use Rattle.std.proofs.lemmas.List.{take_min}
 use Rattle.core_notes.specs.FileWords.{files_bytes}
 use Rattle.frame_replies.specs.SourceWords.{lines_view}
 use Rattle.image_replies.specs.Lines.{numbered_lines}
-use Rattle.line_replies.specs.LineWords.{source_view}
-use Rattle.line_replies.specs.declared.source_line.SourceLine.{SourceLine}
+use Rattle.frame_replies.specs.LineWords.{source_view}
+use Rattle.frame_replies.specs.declared.source_line.SourceLine.{SourceLine}
 use Rattle.script_streams.specs.PrintLaws.{prints_then, prints_as}
 use Rattle.case_screens.specs.Core.{files_in}
 use Rattle.case_screens.specs.Frames.{frame_row, more_text}

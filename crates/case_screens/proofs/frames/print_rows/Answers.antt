@@ -1,7 +1,7 @@
 use Rattle.std.proofs.Common.{map, option_map, arith}
 use Rattle.core_notes.specs.FileWords.{files_bytes}
 use Rattle.frame_replies.proofs.LineLemmas.{line_left, none_left}
-use Rattle.line_replies.specs.LineWords.{source_view}
+use Rattle.frame_replies.specs.LineWords.{source_view}
 use Rattle.case_screens.specs.Core.{files_in}
 use Rattle.case_screens.specs.Frames.{frame_row}
 use Rattle.case_screens.proofs.TextLemmas.{front_begins, front_ends, front_grows}

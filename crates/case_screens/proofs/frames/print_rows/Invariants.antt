@@ -1,7 +1,7 @@
 use Rattle.std.proofs.Common.{drop, map, option_map}
 use Rattle.core_notes.specs.FileWords.{files_bytes}
 use Rattle.image_replies.specs.Lines.{numbered_lines}
-use Rattle.line_replies.specs.LineWords.{source_view}
+use Rattle.frame_replies.specs.LineWords.{source_view}
 use Rattle.script_streams.specs.Printing.{sink}
 use Rattle.case_screens.specs.Core.{files_in}
 use Rattle.case_screens.specs.Frames.{frame_row}

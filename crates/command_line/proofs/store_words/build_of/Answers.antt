@@ -1,6 +1,6 @@
 use Rattle.std.proofs.Common.{inr, refl, ◌∙◌, ap, sym}
 use Rattle.std.proofs.lemmas.Result.{err_from_is_err_and}
-use Rattle.name_template.specs.Template.{template_fault}
+use Rattle.stream_names.specs.Template.{template_fault}
 use Rattle.command_line.proofs.LineLemmas.{plain_template}
 use Rattle.command_line.proofs.store_words.build_of.Goals as goal
 

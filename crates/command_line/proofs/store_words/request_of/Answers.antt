@@ -1,7 +1,7 @@
 use Rattle.std.proofs.Common.{inl, inr, ⊎_elim, ◌≡◌, ◌⊎◌, ◌∙◌, ap, sym, refl, subst, true, false, Bool, List, ℕ, None, Some}
 use Rattle.archive_files.specs.OverDisks.{named_as}
 use Rattle.core_handler.specs.Fronts.{named_by}
-use Rattle.name_template.specs.Template.{template_fault}
+use Rattle.stream_names.specs.Template.{template_fault}
 use Rattle.stream_names.specs.Commands.{stream_found}
 use Rattle.inspector_cli.specs.Storing.{line_stream}
 use Rattle.script_lines.specs.Said.{said}

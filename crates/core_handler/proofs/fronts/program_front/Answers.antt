@@ -1,5 +1,5 @@
 use Rattle.std.proofs.Common.{◌≡◌, List, ℕ, Ok, Err, ap, ◌∙◌}
-use Rattle.name_template.specs.Template.{template_fault}
+use Rattle.stream_names.specs.Template.{template_fault}
 use Rattle.script_lines.specs.Said.{Said, said}
 use Rattle.stream_names.specs.Commands.{stream_begun}
 use Rattle.core_handler.specs.Fronts.{front_unless, shared_front}

@@ -2,8 +2,8 @@ use Rattle.std.proofs.Common.{◌≡◌, ◌∙◌, List, Option, map, ap, sym}
 use Rattle.std.specs.Option.{option_map}
 use Rattle.address_space.specs.SpaceWords.{space_of}
 use Rattle.image_replies.specs.Lines.{numbered_lines}
-use Rattle.line_replies.specs.LineWords.{source_view}
-use Rattle.line_replies.specs.declared.source_line.SourceLine.{SourceLine}
+use Rattle.frame_replies.specs.LineWords.{source_view}
+use Rattle.frame_replies.specs.declared.source_line.SourceLine.{SourceLine}
 use Rattle.script_streams.specs.PrintLaws.{prints_as}
 use Rattle.frame_replies.specs.FrameSources.{frame_source, line_at, shown_line, source_line}
 use Rattle.frame_replies.specs.FrameValues.{frame_view}

@@ -1,7 +1,7 @@
 use Rattle.std.proofs.Common.{ap, map, arith}
 use Rattle.std.specs.Option.{option_map}
 use Rattle.script_streams.specs.PrintLaws.{prints_as}
-use Rattle.line_replies.specs.LineWords.{source_view}
+use Rattle.frame_replies.specs.LineWords.{source_view}
 use Rattle.frame_replies.specs.FrameSources.{source_line}
 use Rattle.frame_replies.specs.SourceWords.{sourced_line}
 use Rattle.frame_replies.proofs.PrintLemmas.{up_to_start, up_to_then, up_to_end}

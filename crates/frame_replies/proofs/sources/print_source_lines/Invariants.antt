@@ -2,7 +2,7 @@ use Rattle.std.proofs.Common.{drop, map}
 use Rattle.std.specs.Option.{option_map}
 use Rattle.script_streams.specs.Printing.{sink}
 use Rattle.image_replies.specs.Lines.{numbered_lines}
-use Rattle.line_replies.specs.LineWords.{source_view}
+use Rattle.frame_replies.specs.LineWords.{source_view}
 use Rattle.frame_replies.specs.SourceWords.{sourced_line}
 use Rattle.frame_replies.proofs.PrintLemmas.{PrintsUpTo}
 use Rattle.frame_replies.proofs.sources.print_source_lines.Given as goal

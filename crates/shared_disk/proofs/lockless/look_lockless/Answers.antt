@@ -1,7 +1,7 @@
 use Rattle.std.proofs.Common.{ℕ, List, IsTrue, sym, subst, ◌∙◌}
 use Rattle.std.proofs.lemmas.Option.{MatchOption-at_some}
-use Rattle.journal_looks.specs.Outcome.{IsSeen}
-use Rattle.journal_looks.specs.declared.look.Seen.{Seen}
+use Rattle.shared_disk.specs.Outcome.{IsSeen}
+use Rattle.shared_disk.specs.declared.look.Seen.{Seen}
 use Rattle.shared_disk.proofs.LookLemmas.{seen_wider}
 use Rattle.shared_disk.proofs.lockless.look_lockless.Goals as goal
 

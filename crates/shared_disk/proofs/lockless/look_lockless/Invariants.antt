@@ -1,4 +1,4 @@
-use Rattle.journal_looks.specs.Watching.{Runs}
+use Rattle.shared_disk.specs.Watching.{Runs}
 use Rattle.shared_disk.proofs.lockless.look_lockless.Given as goal
 
 -- only reads came before

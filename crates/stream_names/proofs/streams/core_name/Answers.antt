@@ -1,6 +1,6 @@
 use Rattle.std.proofs.Common.{◌≡◌, List, ℕ, MatchResult, Ok, Err, subst}
-use Rattle.name_template.specs.Expansion.{name_of}
-use Rattle.name_template.specs.Naming.{template_bytes}
+use Rattle.stream_names.specs.Expansion.{name_of}
+use Rattle.stream_names.specs.Naming.{template_bytes}
 use Rattle.script_lines.specs.Commands.{process_of}
 use Rattle.stream_names.proofs.NameLemmas.{expands_as}
 use Rattle.stream_names.proofs.streams.core_name.Goals as goal

@@ -1,7 +1,7 @@
 use Rattle.std.proofs.Common.{◌≡◌, map, take}
 use Rattle.std.specs.Option.{option_map}
 use Rattle.address_space.specs.SpaceWords.{space_of}
-use Rattle.line_replies.specs.LineWords.{source_view}
+use Rattle.frame_replies.specs.LineWords.{source_view}
 use Rattle.frame_replies.specs.FrameSources.{frame_source}
 use Rattle.frame_replies.specs.FrameValues.{frame_view}
 use Rattle.frame_replies.specs.ProcessWords.{named_in}

@@ -1,8 +1,8 @@
 use Rattle.std.proofs.Common.{ℕ, ◌+◌, ◌-◌, ◌%◌, List, length, slice_index, ap, ◌∙◌, arith}
 use Rattle.std.proofs.lemmas.List.{length-set}
 use Rattle.std.proofs.lemmas.Nat.{mod_below}
-use Rattle.journal_looks.specs.History.{moment}
-use Rattle.journal_looks.specs.Rows.{rows, row_long}
+use Rattle.shared_disk.specs.History.{moment}
+use Rattle.shared_disk.specs.Rows.{rows, row_long}
 use Rattle.shared_disk.specs.Scripted.{span, span_has}
 use Rattle.shared_disk.specs.ScriptedLaws.{first_more}
 use Rattle.shared_disk.proofs.scripted_share.ScriptedShareSharedDisk.read_between.Goals as goal

@@ -1,5 +1,5 @@
 use Rattle.std.proofs.Common.{◌≡◌, ◌-◌, length}
-use Rattle.journal_looks.specs.Rows.{rows}
+use Rattle.shared_disk.specs.Rows.{rows}
 use Rattle.shared_disk.specs.Scripted.{span}
 use Rattle.shared_disk.specs.ScriptedLaws.{AreFirst}
 use Rattle.shared_disk.proofs.scripted_share.ScriptedShareSharedDisk.read_between.Given as goal

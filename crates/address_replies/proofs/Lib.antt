@@ -1,4 +1,0 @@
-pub mod PrintLemmas
-pub mod CountLemmas
-pub mod FrontLemmas
-pub mod AtLemmas

@@ -1,7 +1,0 @@
-use Rattle.script_streams.specs.PrintLaws.{prints_then}
-use Rattle.address_replies.specs.At.{function_line}
-use Rattle.address_replies.proofs.at.print_function.Goals as goal
-
-pub returns : goal.returns
-unfolding function_line
-returns g c = prints_then c.print.ensures (prints_then c.print_place.ensures c.print-2.ensures)

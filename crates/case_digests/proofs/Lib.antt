@@ -1,2 +1,0 @@
-pub mod HashLemmas
-pub mod DigestLemmas

@@ -1,4 +1,0 @@
-use Rattle.case_digests.proofs.command.digest_case.Goals as goal
-
-pub returns : goal.returns
-returns g c = (c.take_look.result, c.digest_looked.ensures)

@@ -1,2 +1,0 @@
-pub mod Hashing
-pub mod Digests

@@ -1,7 +1,0 @@
-use Rattle.std.proofs.Common.{take}
-use Rattle.case_search.specs.Having.{FindsAmong}
-use Rattle.case_search.proofs.having.among.Given as goal
-
--- of those that went by
-abbrev pub invariant-loop-seq : goal.invariant-loop-seq
-invariant-loop-seq g l = FindsAmong g.D.Disk l.initial.archive l.sought (take l.seq-index l.numbers) l.found.items l.archive

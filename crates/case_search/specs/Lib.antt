@@ -1,2 +1,0 @@
-pub mod Containing
-pub mod Having

@@ -1,6 +1,0 @@
--- The meaning of the code's sections.
-use Rattle.compilations.specs.Finding.{CompilationsView}
-use Rattle.compilations.specs.declared.compilations.Compilations.{Compilations}
-
-abbrev pub compilations_view : Compilations → CompilationsView
-compilations_view c = record { debug_info = c.debug_info.now; debug_abbrev = c.debug_abbrev.now; debug_str = c.debug_str.now }

@@ -1,6 +1,0 @@
-//! How many bytes a core file wants by its program headers.
-#![tactic(auto)]
-
-mod whole;
-
-pub use whole::whole_length;

@@ -1,5 +1,0 @@
-use Rattle.frame_rows.proofs.Lasting.{row_lasts}
-use Rattle.frame_rows.proofs.laws.a_row_lasts_to_the_next_location.Goals as goal
-
-pub returns : goal.returns
-returns c = row_lasts

@@ -1,4 +1,0 @@
-pub mod ReadingLemmas
-pub mod EscapeLemmas
-pub mod PieceLemmas
-pub mod PageLemmas

@@ -1,6 +1,0 @@
-pub mod Names
-pub mod Escaping
-pub mod Html
-pub mod Pieces
-pub mod Pages
-pub mod PageWords

@@ -1,3 +1,0 @@
-mod ReadLemmas
-mod SeenLemmas
-mod ScriptLemmas

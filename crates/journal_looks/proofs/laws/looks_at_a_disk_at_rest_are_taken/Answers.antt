@@ -1,8 +1,0 @@
-use Rattle.journal_looks.specs.StillLaws.{a_disk_at_rest_is_honest, a_still_look_is_taken}
-use Rattle.journal_looks.proofs.laws.looks_at_a_disk_at_rest_are_taken.Goals as goal
-
-pub returns-clause-honest : goal.returns-clause-honest
-returns-clause-honest c = a_disk_at_rest_is_honest
-
-pub returns-clause-taken : goal.returns-clause-taken
-returns-clause-taken c = a_still_look_is_taken

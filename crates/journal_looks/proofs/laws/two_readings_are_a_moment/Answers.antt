@@ -1,5 +1,0 @@
-use Rattle.journal_looks.specs.LookLaws.{is_a_moment}
-use Rattle.journal_looks.proofs.laws.two_readings_are_a_moment.Goals as goal
-
-pub returns : goal.returns
-returns c = is_a_moment

@@ -1,5 +1,0 @@
-use Rattle.journal_looks.proofs.SeenLemmas.{what_is_seen_is_a_moment}
-use Rattle.journal_looks.proofs.laws.what_is_seen_is_a_moment.Goals as goal
-
-pub returns : goal.returns
-returns c = what_is_seen_is_a_moment

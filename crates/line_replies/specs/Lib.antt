@@ -1,4 +1,0 @@
-pub mod Source
-pub mod SourceWords
-pub mod Line
-pub mod LineWords

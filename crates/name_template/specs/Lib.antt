@@ -1,3 +1,0 @@
-pub mod Template
-pub mod Expansion
-pub mod Naming

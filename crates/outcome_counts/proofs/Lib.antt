@@ -1,3 +1,0 @@
-pub mod PlaceLemmas
-pub mod ReadingLemmas
-pub mod LoopLemmas

@@ -1,6 +1,0 @@
-use Rattle.std.proofs.Common.{◌≡◌, min, ◌^◌, ◌-◌, take}
-use Rattle.spool.specs.Entries.{bytes_sum}
-use Rattle.spool.proofs.entries.taken_bytes.Given as goal
-
-abbrev pub invariant-loop-entry : goal.invariant-loop-entry
-invariant-loop-entry l = l.sum ≡ min (bytes_sum (take l.entry-index l.entries)) (2 ^ 64 - 1)

@@ -1,8 +1,0 @@
-pub mod Outcomes
-pub mod Spools
-pub mod Stream
-pub mod Reception
-pub mod Settlement
-pub mod WordsText
-pub mod Names
-pub mod Entries

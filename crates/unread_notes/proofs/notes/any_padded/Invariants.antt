@@ -1,6 +1,0 @@
-use Rattle.std.proofs.Common.{◌≡◌, ◌≤◌}
-use Rattle.unread_notes.specs.Unread as spec
-use Rattle.unread_notes.proofs.notes.any_padded.Given as goal
-
-abbrev pub invariant-loop-i : goal.invariant-loop-i
-invariant-loop-i l = (l.found ≡ spec.any_padded l.image l.table l.i) × (l.i ≤ l.count)
